@@ -1,0 +1,202 @@
+-- A format that is put together from exact ones is exact.
+use Rattle.std.proofs.Common.{◌≡◌, ℕ, zero, suc, ◌+◌, ◌-◌, ◌%◌, ◌^◌, ◌<◌, ◌≤◌, Bool, true, false, cond, ltb, List, [], ◌∷◌, ◌++◌, length, get_or, take, drop, ℤ, pos, negsuc, Result, Ok, Err, refl, sym, ap, subst, ◌∙◌, append_assoc, arith, inl, inr}
+use Rattle.std.specs.Prelude.{FitsSigned}
+use mir.Val.{bits}
+use Rattle.std.specs.Int.{Width, w8, w16, w32, w64, byte_len, from_be_bytes, to_be_bytes, cast_signed, cast_unsigned}
+use Rattle.std.specs.List.{flat_map, AllByRecursion}
+use Rattle.std.proofs.Math.Facts.{sfits_to_z}
+use Rattle.std.proofs.lemmas.Bool.{cases_lt, ltb-false, le-ltb}
+use Rattle.std.proofs.lemmas.Int.{to_z-of_z, of_z-to_z}
+use Rattle.std.proofs.lemmas.List.{take_at, drop_at, take-append-drop, length-append, length-take, get_or-drop, get_or-take, get_or_past}
+use Rattle.std.proofs.lemmas.List.Concat.{flat_map-cons}
+use Rattle.std.proofs.lemmas.Nat.{be_bytes_2, be_bytes_4, be_bytes_8, from_be_bytes-to_be_bytes_2, from_be_bytes-to_be_bytes_4, from_be_bytes-to_be_bytes_8}
+use Rattle.kp_wire.specs.declared.fault.WireFault.{WireFault}
+use Rattle.kp_wire.specs.declared.fault.WireFault.TheVariants.{Short, BadLength}
+use Rattle.kp_wire.specs.Reading.{Read, ◌>>=◌}
+use Rattle.kp_wire.specs.Codec.{Codec, read_bytes, int, number, pair, made, within, ends_before, read_many}
+use Rattle.kp_wire.proofs.ReadLemmas.{IsBytes, Takes, Takes-then, bind_ok, chosen, done, ok_is, failed}
+
+-- What is read is spelled so, and what is spelled so is read, whatever follows of `after` bytes or more.
+pub record IsExact {A : Type 0} (after : ℕ) (c : Codec A) : Type 0 where
+  pub takes : (bytes : List ℕ) (x : A × List ℕ) → IsBytes bytes → c.read bytes ≡ Ok x → Takes bytes (c.spell x.0) x.1 × c.Fits x.0
+  pub again : (a : A) (rest : List ℕ) → c.Fits a → after ≤ length rest → c.read (c.spell a ++ rest) ≡ Ok (a, rest)
+
+-- no spelling begins another, and each is that of one value
+pub one_spelling : {A : Type 0} (c : Codec A) → IsExact 0 c → (a b : A) (x y : List ℕ) → c.Fits a → c.Fits b → c.spell a ++ x ≡ c.spell b ++ y → (a ≡ b) × (x ≡ y)
+one_spelling {A = A} c p a b x y f g e =
+    let same = ok_is (a, x) (b, y) (sym (p.again a x f (omega arith)) ∙ ap c.read e ∙ p.again b y g (omega arith)) in
+    (ap (λ (z : A × List ℕ). z.0) same, ap (λ (z : A × List ℕ). z.1) same)
+
+-- ---- formats from formats
+
+pub anywhere_exact : {A : Type 0} (after : ℕ) (c : Codec A) → IsExact 0 c → IsExact after c
+anywhere_exact after c p = record { takes = p.takes; again = λ a rest fits behind. p.again a rest fits (omega arith) }
+
+pub pair_exact : {A B : Type 0} (after : ℕ) (c : Codec A) (d : Codec B) → IsExact after c → IsExact after d → IsExact after (pair c d)
+pair_exact {A = A} {B = B} after c d p q = record {
+  takes = λ bytes z fits e.
+      let a = bind_ok (c.read bytes) (λ x. d.read x.1 >>= λ y. Ok ((x.0, y.0), y.1)) z e in
+      let b = bind_ok (d.read a.0.1) (λ y. Ok ((a.0.0, y.0), y.1)) z a.2 in
+      let t = p.takes bytes a.0 fits a.1 in
+      let u = q.takes a.0.1 b.0 t.0.rest_fits b.1 in
+      let got : (A × B) × List ℕ = ((a.0.0, b.0.0), b.0.1) in
+      subst (λ (y : (A × B) × List ℕ). Takes bytes (c.spell y.0.0 ++ d.spell y.0.1) y.1 × (c.Fits y.0.0 × d.Fits y.0.1)) (ok_is got z b.2)
+      (Takes-then bytes (c.spell a.0.0) a.0.1 (d.spell b.0.0) b.0.1 t.0 u.0, (t.1, u.1));
+  again = λ x rest fits behind.
+      let longer : after ≤ length (d.spell x.1 ++ rest) = omega (arith, length-append (d.spell x.1) rest) in
+      ap (pair c d).read (append_assoc (c.spell x.0) (d.spell x.1) rest) ∙ rw (p.again x.0 (d.spell x.1 ++ rest) fits.0 longer, q.again x.1 rest fits.1 behind) refl;
+}
+
+pub made_exact : {A B : Type 0} (after : ℕ) (make : A → B) (parts : B → A) (c : Codec A) → ((a : A) → parts (make a) ≡ a) → ((b : B) → make (parts b) ≡ b) → IsExact after c → IsExact after (made make parts c)
+made_exact {A = A} {B = B} after make parts c there back p = record {
+  takes = λ bytes z fits e.
+      let a = bind_ok (c.read bytes) (λ x. Ok (make x.0, x.1)) z e in
+      let t = p.takes bytes a.0 fits a.1 in
+      let got : B × List ℕ = (make a.0.0, a.0.1) in
+      subst (λ (y : B × List ℕ). Takes bytes (c.spell (parts y.0)) y.1 × c.Fits (parts y.0)) (ok_is got z a.2)
+      (subst (λ (v : A). Takes bytes (c.spell v) a.0.1 × c.Fits v) (sym (there a.0.0)) t);
+  again = λ b rest fits behind. rw (p.again (parts b) rest fits behind) (ap (λ (x : B). Ok (x, rest)) (back b));
+}
+
+ended : {A : Type 0} (after : ℕ) (read : Read A) (x : A × List ℕ) → ends_before after read ≡ Ok x → read ≡ Ok x
+ended after (Ok y) x e = elim (chosen (ltb (length y.1) after) _ _ _ e) [ inl past ↦ absurd cc | inr ok ↦ ok.1 ]
+ended after (Err fault) x e = absurd cc
+
+pub ends_again : {A : Type 0} (after : ℕ) (read : Read A) (a : A) (rest : List ℕ) → read ≡ Ok (a, rest) → after ≤ length rest → ends_before after read ≡ Ok (a, rest)
+ends_again after read a rest e behind = rw (e, le-ltb (length rest) after behind) refl
+
+pub within_exact : {A : Type 0} (after : ℕ) (c : Codec A) → IsExact 0 c → IsExact after (within after c)
+within_exact after c p = record {
+  takes = λ bytes x fits e. p.takes bytes x fits (ended after (c.read bytes) x e);
+  again = λ a rest fits behind. ends_again after (c.read (c.spell a ++ rest)) a rest (p.again a rest fits (omega arith)) behind;
+}
+
+-- ---- so many values
+
+pub many_takes : {A : Type 0} (after : ℕ) (c : Codec A) (n : ℕ) (bytes : List ℕ) (x : List A × List ℕ) → IsExact after c → IsBytes bytes → read_many c.read n bytes ≡ Ok x
+    → (length x.0 ≡ n) × Takes bytes (flat_map c.spell x.0) x.1 × AllByRecursion c.Fits x.0
+unfolding read_many
+many_takes {A = A} after c zero bytes x p fits e =
+    let got : List A × List ℕ = ([], bytes) in
+    subst (λ (y : List A × List ℕ). (length y.0 ≡ 0) × Takes bytes (flat_map c.spell y.0) y.1 × AllByRecursion c.Fits y.0) (ok_is got x e) (refl, record { parts = refl; rest_fits = fits }, tt)
+many_takes {A = A} after c (suc n) bytes x p fits e =
+    let a = bind_ok (c.read bytes) (λ y. read_many c.read n y.1 >>= λ ys. Ok (y.0 ∷ ys.0, ys.1)) x e in
+    let b = bind_ok (read_many c.read n a.0.1) (λ ys. Ok (a.0.0 ∷ ys.0, ys.1)) x a.2 in
+    let t = p.takes bytes a.0 fits a.1 in
+    let u = many_takes after c n a.0.1 b.0 p t.0.rest_fits b.1 in
+    let got : List A × List ℕ = (a.0.0 ∷ b.0.0, b.0.1) in
+    subst (λ (y : List A × List ℕ). (length y.0 ≡ suc n) × Takes bytes (flat_map c.spell y.0) y.1 × AllByRecursion c.Fits y.0) (ok_is got x b.2)
+    (ap suc u.0, rw flat_map-cons (Takes-then bytes (c.spell a.0.0) a.0.1 (flat_map c.spell b.0.0) b.0.1 t.0 u.1), (t.1, u.2))
+
+pub many_again : {A : Type 0} (after : ℕ) (c : Codec A) (xs : List A) (rest : List ℕ) → IsExact after c → AllByRecursion c.Fits xs → after ≤ length rest → read_many c.read (length xs) (flat_map c.spell xs ++ rest) ≡ Ok (xs, rest)
+unfolding read_many
+many_again after c [] rest p fits behind = refl
+many_again after c (x ∷ xs) rest p fits behind =
+    let e : flat_map c.spell (x ∷ xs) ++ rest ≡ c.spell x ++ (flat_map c.spell xs ++ rest) = ap (λ (t : List ℕ). t ++ rest) (flat_map-cons c.spell x xs) ∙ append_assoc (c.spell x) (flat_map c.spell xs) rest in
+    let longer : after ≤ length (flat_map c.spell xs ++ rest) = omega (arith, length-append (flat_map c.spell xs) rest) in
+    ap (read_many c.read (suc (length xs))) e ∙ rw (p.again x (flat_map c.spell xs ++ rest) fits.0 longer, many_again after c xs rest p fits.1 behind) refl
+
+-- ---- fields of a fixed number of bytes
+
+pub IsBytes-drop : (n : ℕ) (bytes : List ℕ) → IsBytes bytes → IsBytes (drop n bytes)
+IsBytes-drop n bytes h i = rw get_or-drop (h (n + i))
+
+pub IsBytes-take : (n : ℕ) (bytes : List ℕ) → IsBytes bytes → IsBytes (take n bytes)
+IsBytes-take n bytes h i =
+    elim (cases_lt i n) [
+      | inl lt ↦ rw (get_or-take n bytes i 0 lt) (h i)
+      | inr le ↦ rw (get_or_past (take n bytes) i 0 (omega (arith, length-take n bytes))) (omega arith)
+    ]
+
+pub bytes_takes : (n : ℕ) (bytes : List ℕ) (x : List ℕ × List ℕ) → IsBytes bytes → read_bytes n bytes ≡ Ok x → (length x.0 ≡ n) × IsBytes x.0 × Takes bytes x.0 x.1
+bytes_takes n bytes x fits e =
+    elim (chosen (ltb (length bytes) n) _ _ _ e) [
+      | inl short ↦ absurd (no_bytes Short x short.1)
+      | inr ok ↦
+          let long : n ≤ length bytes = ltb-false _ _ ok.0 in
+          subst (λ (p : List ℕ × List ℕ). (length p.0 ≡ n) × IsBytes p.0 × Takes bytes p.0 p.1) (ok_is (take n bytes, drop n bytes) x ok.1)
+          (omega (arith, length-take n bytes), IsBytes-take n bytes fits, record { parts = sym (take-append-drop n bytes); rest_fits = IsBytes-drop n bytes fits })
+    ]
+  where
+    no_bytes : (f : WireFault) (x : List ℕ × List ℕ) → failed f ≡ done x → ⊥
+    no_bytes f x e = cc
+
+pub bytes_again : (n : ℕ) (text rest : List ℕ) → length text ≡ n → read_bytes n (text ++ rest) ≡ Ok (text, rest)
+bytes_again n text rest len =
+    let long : ltb (length (text ++ rest)) n ≡ false = le-ltb _ _ (omega (arith, length-append text rest)) in
+    rw (long, take_at text rest n len, drop_at text rest n len) refl
+
+-- the bytes of a number of this width are that number
+pub record IsWide (w : Width) : Type 0 where
+  pub len : (n : ℕ) → length (to_be_bytes w n) ≡ byte_len w
+  pub back : (bytes : List ℕ) → length bytes ≡ byte_len w → IsBytes bytes → to_be_bytes w (from_be_bytes w bytes) ≡ bytes
+  pub again : (n : ℕ) → n < 2 ^ bits w → from_be_bytes w (to_be_bytes w n) ≡ n
+  pub below : (bytes : List ℕ) → IsBytes bytes → from_be_bytes w bytes < 2 ^ bits w
+  pub unsigned : (z : ℤ) → FitsSigned w z → cast_unsigned w z < 2 ^ bits w
+
+pub number_exact : (w : Width) → IsWide w → IsExact 0 (number w)
+number_exact w wide = record {
+  takes = λ bytes x fits e.
+      let a = bind_ok (read_bytes (byte_len w) bytes) (λ y. Ok (from_be_bytes w y.0, y.1)) x e in
+      let t = bytes_takes (byte_len w) bytes a.0 fits a.1 in
+      let got : ℕ × List ℕ = (from_be_bytes w a.0.0, a.0.1) in
+      subst (λ (p : ℕ × List ℕ). Takes bytes (to_be_bytes w p.0) p.1 × (p.0 < 2 ^ bits w)) (ok_is got x a.2)
+      (subst (λ (s : List ℕ). Takes bytes s a.0.1) (sym (wide.back a.0.0 t.0 t.1)) t.2, wide.below a.0.0 t.1);
+  again = λ n rest lt behind.
+      rw (bytes_again (byte_len w) (to_be_bytes w n) rest (wide.len n), wide.again n lt) refl;
+}
+
+pub int_exact : (w : Width) → IsWide w → IsExact 0 (int w)
+int_exact w wide = record {
+  takes = λ bytes x fits e.
+      let a = bind_ok ((number w).read bytes) (λ n. Ok (cast_signed w n.0, n.1)) x e in
+      let t = (number_exact w wide).takes bytes a.0 fits a.1 in
+      let got : ℤ × List ℕ = (cast_signed w a.0.0, a.0.1) in
+      subst (λ (p : ℤ × List ℕ). Takes bytes (to_be_bytes w (cast_unsigned w p.0)) p.1 × FitsSigned w p.0) (ok_is got x a.2)
+      (subst (λ (n : ℕ). Takes bytes (to_be_bytes w n) a.0.1) (sym (of_z-to_z w a.0.0 t.1)) t.0, sfits_to_z (record { fits = t.1 }));
+  again = λ z rest fits behind.
+      rw ((number_exact w wide).again (cast_unsigned w z) rest (wide.unsigned z fits) behind) (ap (λ (y : ℤ). Ok (y, rest)) (to_z-of_z w z fits));
+}
+
+-- the widths
+
+one_byte : (bytes : List ℕ) → length bytes ≡ 1 → IsBytes bytes → to_be_bytes w8 (from_be_bytes w8 bytes) ≡ bytes
+one_byte [] len fits = absurd (omega arith)
+one_byte (b ∷ []) len fits = let small : b < 256 = fits 0 in let e : b % 256 ≡ b = omega arith in ap (λ (x : ℕ). x ∷ []) e
+one_byte (b ∷ c ∷ bytes) len fits = absurd (omega arith)
+
+pub wide8 : IsWide w8
+wide8 = record {
+  len = λ n. refl;
+  back = one_byte;
+  again = λ n lt. let e : n % 256 ≡ n = omega arith in e;
+  below = λ bytes fits. omega (arith, fits 0);
+  unsigned = elim [ pos n ↦ λ h. omega arith | negsuc n ↦ λ h. omega arith ];
+}
+
+pub wide16 : IsWide w16
+wide16 = record {
+  len = λ n. refl;
+  back = λ bytes len fits. be_bytes_2 bytes _ len fits refl;
+  again = λ n lt. from_be_bytes-to_be_bytes_2 n lt;
+  below = λ bytes fits. omega (arith, fits 0, fits 1);
+  unsigned = elim [ pos n ↦ λ h. omega arith | negsuc n ↦ λ h. omega arith ];
+}
+
+pub wide32 : IsWide w32
+wide32 = record {
+  len = λ n. refl;
+  back = λ bytes len fits. be_bytes_4 bytes _ len fits refl;
+  again = λ n lt. from_be_bytes-to_be_bytes_4 n lt;
+  below = λ bytes fits. omega (arith, fits 0, fits 1, fits 2, fits 3);
+  unsigned = elim [ pos n ↦ λ h. omega arith | negsuc n ↦ λ h. omega arith ];
+}
+
+pub wide64 : IsWide w64
+wide64 = record {
+  len = λ n. refl;
+  back = λ bytes len fits. be_bytes_8 bytes _ len fits refl;
+  again = λ n lt. from_be_bytes-to_be_bytes_8 n lt;
+  below = λ bytes fits. omega (arith, fits 0, fits 1, fits 2, fits 3, fits 4, fits 5, fits 6, fits 7);
+  unsigned = elim [ pos n ↦ λ h. omega arith | negsuc n ↦ λ h. omega arith ];
+}

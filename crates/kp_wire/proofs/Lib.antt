@@ -1,0 +1,5 @@
+pub mod ReadLemmas
+pub mod VarintLemmas
+pub mod ChecksumLemmas
+pub mod CodecLemmas
+pub mod ManyLemmas

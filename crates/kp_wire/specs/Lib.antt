@@ -1,0 +1,5 @@
+pub mod Reading
+pub mod Codec
+pub mod Varint
+pub mod Checksum
+pub mod Register

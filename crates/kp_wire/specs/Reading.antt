@@ -1,0 +1,35 @@
+-- Reading from left to right, with the first fault that is met.
+use Rattle.std.specs.Prelude.{◌≡◌, ℕ, ◌≤◌, List, length, drop, Result, Ok, Err}
+use Rattle.kp_wire.specs.declared.fault.WireFault.{WireFault}
+use Rattle.kp_wire.specs.declared.fault.ReadError.{ReadError}
+use Rattle.kp_wire.specs.declared.fault.ReadError.TheVariants.{Memory, Fault}
+
+-- what reading from the front gives: a value and the bytes behind it, or the first fault
+abbrev pub Read : Type 0 → Type 0
+Read A = Result (A × List ℕ) WireFault
+
+-- The second reads where the first left off, and is not reached where the first finds a fault.
+infixl 10 ◌>>=◌
+abbrev pub ◌>>=◌ : {A B E : Type 0} → Result A E → (A → Result B E) → Result B E
+(Ok x) >>= f = f x
+(Err e) >>= f = Err e
+
+-- What a function gave, seen by view, is what reading gives.
+abbrev pub IsRead : {X Y E : Type 0} → (X → Y) → Result X E → Result Y E → Type 0
+IsRead view (Ok x) read = read ≡ Ok (view x)
+IsRead view (Err e) read = read ≡ Err e
+
+-- A value and the number of its bytes, where reading gives that value and the bytes behind it; else the same fault.
+abbrev pub Took : {A : Type 0} → List ℕ → Result (A × ℕ) WireFault → Read A → Type 0
+Took bytes (Ok x) read = (x.1 ≤ length bytes) × (read ≡ Ok (x.0, drop x.1 bytes))
+Took bytes (Err e) read = read ≡ Err e
+
+-- The error is that of reading, or memory was refused.
+abbrev pub Fails : {Y : Type 0} → ReadError → Result Y WireFault → Type 0
+Fails Memory read = Unit {0}
+Fails (Fault fault) read = read ≡ Err fault
+
+-- What a function gave, seen by view, is what reading gives, unless memory was refused.
+abbrev pub Gives : {X Y : Type 0} → (X → Y) → Result X ReadError → Result Y WireFault → Type 0
+Gives view (Ok x) read = read ≡ Ok (view x)
+Gives view (Err e) read = Fails e read

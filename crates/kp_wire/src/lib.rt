@@ -1,0 +1,26 @@
+//! The meaning of a byte: numbers of one to ten bytes, lists of fields, and the checksum of Kafka's wire formats.
+#![tactic(auto)]
+
+mod blob;
+mod checksum;
+mod codec;
+mod fault;
+pub mod laws;
+mod number;
+mod seq;
+mod text;
+mod varint;
+
+pub use blob::Blob;
+pub use checksum::crc32c;
+pub use codec::{ReadField, WriteField, put_all, read_many};
+pub use fault::{ReadError, WireFault};
+pub use number::{read_i8, read_i16, read_i32, read_i64, read_u32};
+pub use seq::Seq;
+pub use text::Text;
+pub use varint::{
+    put_varint, put_varlong, read_varint, read_varlong, take_varint, take_varlong,
+};
+
+#[cfg(test)]
+mod tests;
