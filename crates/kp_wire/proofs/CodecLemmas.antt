@@ -1,5 +1,5 @@
 -- A format that is put together from exact ones is exact.
-use Rattle.std.proofs.Common.{◌≡◌, ℕ, zero, suc, ◌+◌, ◌-◌, ◌%◌, ◌^◌, ◌<◌, ◌≤◌, Bool, true, false, cond, ltb, List, [], ◌∷◌, ◌++◌, length, get_or, take, drop, ℤ, pos, negsuc, Result, Ok, Err, refl, sym, ap, subst, ◌∙◌, append_assoc, arith, inl, inr}
+use Rattle.std.proofs.Common.{◌≡◌, ℕ, zero, suc, ◌+◌, ◌-◌, ◌%◌, ◌^◌, ◌<◌, ◌≤◌, Bool, true, false, cond, ltb, List, [], ◌∷◌, ◌++◌, length, get_or, take, drop, ℤ, pos, negsuc, Option, Some, None, Result, Ok, Err, refl, sym, ap, subst, ◌∙◌, append_assoc, arith, inl, inr}
 use Rattle.std.specs.Prelude.{FitsSigned}
 use mir.Val.{bits}
 use Rattle.std.specs.Int.{Width, w8, w16, w32, w64, byte_len, from_be_bytes, to_be_bytes, cast_signed, cast_unsigned}
@@ -11,9 +11,11 @@ use Rattle.std.proofs.lemmas.List.{take_at, drop_at, take-append-drop, length-ap
 use Rattle.std.proofs.lemmas.List.Concat.{flat_map-cons}
 use Rattle.std.proofs.lemmas.Nat.{be_bytes_2, be_bytes_4, be_bytes_8, from_be_bytes-to_be_bytes_2, from_be_bytes-to_be_bytes_4, from_be_bytes-to_be_bytes_8}
 use Rattle.kp_wire.specs.declared.fault.WireFault.{WireFault}
-use Rattle.kp_wire.specs.declared.fault.WireFault.TheVariants.{Short, BadLength}
+use Rattle.kp_wire.specs.declared.fault.WireFault.TheVariants.{Short, NotUtf8, BadLength}
 use Rattle.kp_wire.specs.Reading.{Read, ◌>>=◌}
-use Rattle.kp_wire.specs.Codec.{Codec, read_bytes, int, number, pair, made, within, ends_before, read_many}
+use Rattle.std.specs.Str.{IsUtf8, is_utf8}
+use Rattle.std.proofs.lemmas.Str.{IsUtf8-from_is_utf8, is_utf8-from_IsUtf8}
+use Rattle.kp_wire.specs.Codec.{Codec, read_bytes, int, number, pair, made, within, ends_before, read_many, many, plain, utf8, by_length, by_nullable_length, sized, nullable_sized, spell_nullable, FitsIfSome, text, nullable_bytes, array}
 use Rattle.kp_wire.proofs.ReadLemmas.{IsBytes, Takes, Takes-then, bind_ok, chosen, done, ok_is, failed}
 
 -- What is read is spelled so, and what is spelled so is read, whatever follows of `after` bytes or more.
@@ -200,3 +202,106 @@ wide64 = record {
   below = λ bytes fits. omega (arith, fits 0, fits 1, fits 2, fits 3, fits 4, fits 5, fits 6, fits 7);
   unsigned = elim [ pos n ↦ λ h. omega arith | negsuc n ↦ λ h. omega arith ];
 }
+
+-- ---- lengths and counts
+
+pub plain_exact : (n : ℕ) → IsExact 0 (plain n)
+plain_exact n = record {
+  takes = λ bytes x fits e. let t = bytes_takes n bytes x fits e in (t.2, t.0);
+  again = λ s rest len behind. bytes_again n s rest len;
+}
+
+is_text : (b : Bool) (x y : List ℕ × List ℕ) → cond b (Ok x) (Err NotUtf8) ≡ Ok y → (b ≡ true) × (x ≡ y)
+is_text true x y e = (refl, ok_is x y e)
+is_text false x y e = absurd cc
+
+pub utf8_exact : (n : ℕ) → IsExact 0 (utf8 n)
+utf8_exact n = record {
+  takes = λ bytes x fits e.
+      let a = bind_ok (read_bytes n bytes) (λ y. cond (is_utf8 y.0) (Ok y) (Err NotUtf8)) x e in
+      let t = bytes_takes n bytes a.0 fits a.1 in
+      let u = is_text (is_utf8 a.0.0) a.0 x a.2 in
+      subst (λ (y : List ℕ × List ℕ). Takes bytes y.0 y.1 × ((length y.0 ≡ n) × IsUtf8 y.0)) u.1 (t.2, (t.0, IsUtf8-from_is_utf8 a.0.0 u.0));
+  again = λ s rest fits behind.
+      rw (bytes_again n s rest fits.0, is_utf8-from_IsUtf8 s fits.1) refl;
+}
+
+pub many_exact : {A : Type 0} (after : ℕ) (c : Codec A) (n : ℕ) → IsExact after c → IsExact after (many c n)
+many_exact {A = A} after c n p = record {
+  takes = λ bytes x fits e. let t = many_takes after c n bytes x p fits e in (t.1, (t.0, t.2));
+  again = λ xs rest fits behind.
+      let P : ℕ → Type 0 = λ k. read_many c.read k (flat_map c.spell xs ++ rest) ≡ Ok (xs, rest) in
+      subst P fits.0 (many_again after c xs rest p fits.1 behind);
+}
+
+-- the size of what is read is that which it is read by
+pub record IsSizedBy {A : Type 0} (size : A → ℕ) (part : ℕ → Codec A) : Type 0 where
+  pub is_size : (n : ℕ) (a : A) → (part n).Fits a → size a ≡ n
+
+by_length_ok : {A : Type 0} (read : ℕ → List ℕ → Read A) (z : ℤ) (bytes : List ℕ) (x : A × List ℕ) → by_length read z bytes ≡ Ok x → (k : ℕ) × (z ≡ pos k) × (read k bytes ≡ Ok x)
+unfolding by_length
+by_length_ok read (pos k) bytes x e = (k, refl, e)
+by_length_ok read (negsuc k) bytes x e = absurd cc
+
+pub sized_exact : {A : Type 0} (after : ℕ) (len : Codec ℤ) (size : A → ℕ) (part : ℕ → Codec A) → IsExact after len → ((n : ℕ) → IsExact after (part n)) → IsSizedBy size part → IsExact after (sized len size part)
+unfolding by_length
+sized_exact {A = A} after len size part p q by_size = record {
+  takes = λ bytes x fits e.
+      let a = bind_ok (len.read bytes) (λ n. by_length (λ k. (part k).read) n.0 n.1) x e in
+      let t = p.takes bytes a.0 fits a.1 in
+      let b = by_length_ok (λ k. (part k).read) a.0.0 a.0.1 x a.2 in
+      let u = (q b.0).takes a.0.1 x t.0.rest_fits b.2 in
+      let P : ℕ → Type 0 = λ k. Takes bytes (len.spell (pos k) ++ (part k).spell x.0) x.1 × (len.Fits (pos k) × (part k).Fits x.0) in
+      let L : ℤ → Type 0 = λ z. Takes bytes (len.spell z) a.0.1 × len.Fits z in
+      let front = subst L b.1 t in
+      subst P (sym (by_size.is_size b.0 x.0 u.1)) (Takes-then bytes (len.spell (pos b.0)) a.0.1 ((part b.0).spell x.0) x.1 front.0 u.0, (front.1, u.1));
+  again = λ a rest fits behind.
+      let longer : after ≤ length ((part (size a)).spell a ++ rest) = omega (arith, length-append ((part (size a)).spell a) rest) in
+      ap (sized len size part).read (append_assoc (len.spell (pos (size a))) ((part (size a)).spell a) rest)
+      ∙ rw (p.again (pos (size a)) ((part (size a)).spell a ++ rest) fits.0 longer) ((q (size a)).again a rest fits.1 behind);
+}
+
+by_nullable_takes : {A : Type 0} (after : ℕ) (len : Codec ℤ) (size : A → ℕ) (part : ℕ → Codec A) → ((n : ℕ) → IsExact after (part n)) → IsSizedBy size part
+    → (z : ℤ) (bytes rest : List ℕ) (x : Option A × List ℕ) → IsBytes rest → Takes bytes (len.spell z) rest → len.Fits z → by_nullable_length (λ k. (part k).read) z rest ≡ Ok x
+    → Takes bytes (spell_nullable len size part x.0) x.1 × FitsIfSome len size part x.0
+unfolding by_nullable_length
+by_nullable_takes {A = A} after len size part q by_size (pos k) bytes rest x small t fits e =
+    let a = bind_ok ((part k).read rest) (λ y. Ok (Some y.0, y.1)) x e in
+    let u = (q k).takes rest a.0 small a.1 in
+    let got : Option A × List ℕ = (Some a.0.0, a.0.1) in
+    let P : ℕ → Type 0 = λ n. Takes bytes (len.spell (pos n) ++ (part n).spell a.0.0) a.0.1 × (len.Fits (pos n) × (part n).Fits a.0.0) in
+    let R : Option A × List ℕ → Type 0 = λ y. Takes bytes (spell_nullable len size part y.0) y.1 × FitsIfSome len size part y.0 in
+    subst R (ok_is got x a.2)
+    (subst P (sym (by_size.is_size k a.0.0 u.1)) (Takes-then bytes (len.spell (pos k)) rest ((part k).spell a.0.0) a.0.1 t u.0, (fits, u.1)))
+by_nullable_takes {A = A} after len size part q by_size (negsuc zero) bytes rest x small t fits e =
+    let got : Option A × List ℕ = (None, rest) in
+    let R : Option A × List ℕ → Type 0 = λ y. Takes bytes (spell_nullable len size part y.0) y.1 × FitsIfSome len size part y.0 in
+    subst R (ok_is got x e) (t, fits)
+by_nullable_takes after len size part q by_size (negsuc (suc k)) bytes rest x small t fits e = absurd cc
+
+nullable_again : {A : Type 0} (after : ℕ) (len : Codec ℤ) (size : A → ℕ) (part : ℕ → Codec A) → IsExact after len → ((n : ℕ) → IsExact after (part n))
+    → (o : Option A) (rest : List ℕ) → FitsIfSome len size part o → after ≤ length rest → (nullable_sized len size part).read (spell_nullable len size part o ++ rest) ≡ Ok (o, rest)
+unfolding by_nullable_length
+nullable_again after len size part p q None rest fits behind = rw (p.again (negsuc 0) rest fits behind) refl
+nullable_again after len size part p q (Some a) rest fits behind =
+    let longer : after ≤ length ((part (size a)).spell a ++ rest) = omega (arith, length-append ((part (size a)).spell a) rest) in
+    ap (nullable_sized len size part).read (append_assoc (len.spell (pos (size a))) ((part (size a)).spell a) rest)
+    ∙ rw (p.again (pos (size a)) ((part (size a)).spell a ++ rest) fits.0 longer, (q (size a)).again a rest fits.1 behind) refl
+
+pub nullable_sized_exact : {A : Type 0} (after : ℕ) (len : Codec ℤ) (size : A → ℕ) (part : ℕ → Codec A) → IsExact after len → ((n : ℕ) → IsExact after (part n)) → IsSizedBy size part → IsExact after (nullable_sized len size part)
+nullable_sized_exact after len size part p q by_size = record {
+  takes = λ bytes x fits e.
+      let a = bind_ok (len.read bytes) (λ n. by_nullable_length (λ k. (part k).read) n.0 n.1) x e in
+      let t = p.takes bytes a.0 fits a.1 in
+      by_nullable_takes after len size part q by_size a.0.0 bytes a.0.1 x t.0.rest_fits t.0 t.1 a.2;
+  again = λ o rest fits behind. nullable_again after len size part p q o rest fits behind;
+}
+
+pub text_exact : (after : ℕ) (len : Codec ℤ) → IsExact after len → IsExact after (text len)
+text_exact after len p = sized_exact after len length utf8 p (λ n. anywhere_exact after (utf8 n) (utf8_exact n)) (record { is_size = λ n s fits. fits.0 })
+
+pub nullable_bytes_exact : (after : ℕ) (len : Codec ℤ) → IsExact after len → IsExact after (nullable_bytes len)
+nullable_bytes_exact after len p = nullable_sized_exact after len length plain p (λ n. anywhere_exact after (plain n) (plain_exact n)) (record { is_size = λ n s fits. fits })
+
+pub array_exact : {A : Type 0} (after : ℕ) (len : Codec ℤ) (c : Codec A) → IsExact after len → IsExact after c → IsExact after (array len c)
+array_exact after len c p q = sized_exact after len length (many c) p (λ n. many_exact after c n q) (record { is_size = λ n xs fits. fits.0 })

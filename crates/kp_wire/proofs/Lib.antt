@@ -2,4 +2,5 @@ pub mod ReadLemmas
 pub mod VarintLemmas
 pub mod ChecksumLemmas
 pub mod CodecLemmas
+pub mod TextLemmas
 pub mod ManyLemmas

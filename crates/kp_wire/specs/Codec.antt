@@ -1,8 +1,10 @@
 -- Formats, and how they are put together from formats.
-use Rattle.std.specs.Prelude.{◌≡◌, ℕ, zero, suc, ◌<◌, ◌^◌, List, [], ◌∷◌, ◌++◌, length, take, drop, ℤ, Result, Ok, Err, nat_lt, if◌then◌else◌, FitsSigned}
+use Rattle.std.specs.Prelude.{◌≡◌, ℕ, zero, suc, ◌<◌, ◌^◌, List, [], ◌∷◌, ◌++◌, length, take, drop, ℤ, pos, negsuc, Option, Some, None, Result, Ok, Err, nat_lt, if◌then◌else◌, FitsSigned}
 use mir.Val.{bits}
 use Rattle.std.specs.Int.{Width, to_be_bytes, from_be_bytes, cast_unsigned, cast_signed, byte_len}
-use Rattle.kp_wire.specs.declared.fault.WireFault.TheVariants.{Short, BadLength}
+use Rattle.std.specs.List.{flat_map, AllByRecursion}
+use Rattle.std.specs.Str.{IsUtf8, is_utf8}
+use Rattle.kp_wire.specs.declared.fault.WireFault.TheVariants.{Short, NotUtf8, BadLength}
 use Rattle.kp_wire.specs.Reading.{Read, ◌>>=◌}
 
 -- Which values have a spelling, the spelling, and how a value is read from the front of bytes, with the first fault.
@@ -68,3 +70,71 @@ within after c = record {
 unfoldable pub read_many : {A : Type 0} → (List ℕ → Read A) → ℕ → List ℕ → Read (List A)
 read_many read zero bytes = Ok ([], bytes)
 read_many read (suc n) bytes = read bytes >>= λ x. read_many read n x.1 >>= λ xs. Ok (x.0 ∷ xs.0, xs.1)
+
+abbrev pub many : {A : Type 0} → Codec A → ℕ → Codec (List A)
+many c n = record {
+  Fits = λ xs. (length xs ≡ n) × AllByRecursion c.Fits xs;
+  spell = flat_map c.spell;
+  read = read_many c.read n;
+}
+
+-- so many bytes
+abbrev pub plain : ℕ → Codec (List ℕ)
+plain n = record { Fits = λ s. length s ≡ n; spell = λ s. s; read = read_bytes n }
+
+-- so many bytes of UTF-8
+abbrev pub utf8 : ℕ → Codec (List ℕ)
+utf8 n = record {
+  Fits = λ s. (length s ≡ n) × IsUtf8 s;
+  spell = λ s. s;
+  read = λ bytes. read_bytes n bytes >>= λ x. if is_utf8 x.0 then Ok x else Err NotUtf8;
+}
+
+-- ---- lengths and counts
+
+-- what stands behind a length
+unfoldable pub by_length : {A : Type 0} → (ℕ → List ℕ → Read A) → ℤ → List ℕ → Read A
+by_length read (pos n) bytes = read n bytes
+by_length read (negsuc n) bytes = Err BadLength
+
+-- what stands behind a length that is -1 for null
+unfoldable pub by_nullable_length : {A : Type 0} → (ℕ → List ℕ → Read A) → ℤ → List ℕ → Read (Option A)
+by_nullable_length read (pos n) bytes = read n bytes >>= λ x. Ok (Some x.0, x.1)
+by_nullable_length read (negsuc zero) bytes = Ok (None, bytes)
+by_nullable_length read (negsuc (suc n)) bytes = Err BadLength
+
+-- a value behind its length
+abbrev pub sized : {A : Type 0} → Codec ℤ → (A → ℕ) → (ℕ → Codec A) → Codec A
+sized len size part = record {
+  Fits = λ a. len.Fits (pos (size a)) × (part (size a)).Fits a;
+  spell = λ a. len.spell (pos (size a)) ++ (part (size a)).spell a;
+  read = λ bytes. len.read bytes >>= λ n. by_length (λ k. (part k).read) n.0 n.1;
+}
+
+abbrev pub FitsIfSome : {A : Type 0} → Codec ℤ → (A → ℕ) → (ℕ → Codec A) → Option A → Type 0
+FitsIfSome len size part None = len.Fits (negsuc 0)
+FitsIfSome len size part (Some a) = (sized len size part).Fits a
+
+abbrev pub spell_nullable : {A : Type 0} → Codec ℤ → (A → ℕ) → (ℕ → Codec A) → Option A → List ℕ
+spell_nullable len size part None = len.spell (negsuc 0)
+spell_nullable len size part (Some a) = (sized len size part).spell a
+
+-- the same, or null
+abbrev pub nullable_sized : {A : Type 0} → Codec ℤ → (A → ℕ) → (ℕ → Codec A) → Codec (Option A)
+nullable_sized len size part = record {
+  Fits = FitsIfSome len size part;
+  spell = spell_nullable len size part;
+  read = λ bytes. len.read bytes >>= λ n. by_nullable_length (λ k. (part k).read) n.0 n.1;
+}
+
+-- text behind its length
+abbrev pub text : Codec ℤ → Codec (List ℕ)
+text len = sized len length utf8
+
+-- bytes behind their length, or null
+abbrev pub nullable_bytes : Codec ℤ → Codec (Option (List ℕ))
+nullable_bytes len = nullable_sized len length plain
+
+-- values behind their count
+abbrev pub array : {A : Type 0} → Codec ℤ → Codec A → Codec (List A)
+array len c = sized len length (many c)
