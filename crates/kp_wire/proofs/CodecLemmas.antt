@@ -15,7 +15,7 @@ use Rattle.kp_wire.specs.declared.fault.WireFault.TheVariants.{Short, NotUtf8, B
 use Rattle.kp_wire.specs.Reading.{Read, ◌>>=◌}
 use Rattle.std.specs.Str.{IsUtf8, is_utf8}
 use Rattle.std.proofs.lemmas.Str.{IsUtf8-from_is_utf8, is_utf8-from_IsUtf8}
-use Rattle.kp_wire.specs.Codec.{Codec, read_bytes, int, number, pair, made, within, ends_before, read_many, many, plain, utf8, by_length, by_nullable_length, sized, nullable_sized, spell_nullable, FitsIfSome, text, nullable_bytes, array}
+use Rattle.kp_wire.specs.Codec.{Codec, read_bytes, int, number, pair, made, within, ends_before, read_many, many, plain, utf8, by_length, by_nullable_length, sized, nullable_sized, spell_nullable, FitsIfSome, array}
 use Rattle.kp_wire.proofs.ReadLemmas.{IsBytes, Takes, Takes-then, bind_ok, chosen, done, ok_is, failed}
 
 -- What is read is spelled so, and what is spelled so is read, whatever follows of `after` bytes or more.
@@ -296,12 +296,6 @@ nullable_sized_exact after len size part p q by_size = record {
       by_nullable_takes after len size part q by_size a.0.0 bytes a.0.1 x t.0.rest_fits t.0 t.1 a.2;
   again = λ o rest fits behind. nullable_again after len size part p q o rest fits behind;
 }
-
-pub text_exact : (after : ℕ) (len : Codec ℤ) → IsExact after len → IsExact after (text len)
-text_exact after len p = sized_exact after len length utf8 p (λ n. anywhere_exact after (utf8 n) (utf8_exact n)) (record { is_size = λ n s fits. fits.0 })
-
-pub nullable_bytes_exact : (after : ℕ) (len : Codec ℤ) → IsExact after len → IsExact after (nullable_bytes len)
-nullable_bytes_exact after len p = nullable_sized_exact after len length plain p (λ n. anywhere_exact after (plain n) (plain_exact n)) (record { is_size = λ n s fits. fits })
 
 pub array_exact : {A : Type 0} (after : ℕ) (len : Codec ℤ) (c : Codec A) → IsExact after len → IsExact after c → IsExact after (array len c)
 array_exact after len c p q = sized_exact after len length (many c) p (λ n. many_exact after c n q) (record { is_size = λ n xs fits. fits.0 })

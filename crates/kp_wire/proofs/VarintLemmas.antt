@@ -57,6 +57,17 @@ unfolding groups
 groups_more zero n g h = absurd (omega arith)
 groups_more (suc more) n g h = let e : suc more - 1 ≡ more = omega arith in rw (le-ltb n 128 h, e) refl
 
+pub length-groups_more : (more n : ℕ) → 0 < more → 128 ≤ n → length (groups more n) ≡ length (groups (more - 1) (n / 128)) + 1
+length-groups_more more n g h = rw (groups_more more n g h) (omega arith)
+
+pub length-groups_last : (more n : ℕ) → n < 128 → length (groups more n) ≡ 1
+length-groups_last more n h = rw (groups_last more n h) refl
+
+pub length-groups_none : (more n : ℕ) → more ≡ 0 → length (groups more n) ≡ 1
+unfolding groups
+length-groups_none zero n h = refl
+length-groups_none (suc more) n h = absurd (omega arith)
+
 -- what the loop has written, one group more
 pub groups_step : (buffer : List ℕ) (len left high more n : ℕ) → len < length buffer → 0 < left → 128 ≤ high → take len buffer ++ groups left high ≡ groups more n
     → take (len + 1) (set buffer len (high % 128 + 128)) ++ groups (left - 1) (high / 128) ≡ groups more n

@@ -127,14 +127,6 @@ nullable_sized len size part = record {
   read = λ bytes. len.read bytes >>= λ n. by_nullable_length (λ k. (part k).read) n.0 n.1;
 }
 
--- text behind its length
-abbrev pub text : Codec ℤ → Codec (List ℕ)
-text len = sized len length utf8
-
--- bytes behind their length, or null
-abbrev pub nullable_bytes : Codec ℤ → Codec (Option (List ℕ))
-nullable_bytes len = nullable_sized len length plain
-
 -- values behind their count
 abbrev pub array : {A : Type 0} → Codec ℤ → Codec A → Codec (List A)
 array len c = sized len length (many c)

@@ -1,13 +1,13 @@
 //! Types with a format, and lists of them: each loop over a list of fields is written and proved once, here.
 
-ghost use Rattle.std.specs.Prelude.{◌≡◌, ◌++◌, List, ℕ, OnOk};
-ghost use Rattle.std.specs.List.{flat_map};
+ghost use Rattle.std.specs.Prelude.{◌≡◌, ◌++◌, List, ℕ, OnOk, IsErrOf, Any};
+ghost use Rattle.std.specs.List.{flat_map, AllByRecursion};
 ghost use Rattle.kp_wire.specs.Reading.{Read, Gives};
 ghost use Rattle.kp_wire.specs.Codec.{read_many};
 
-use crate::fault::ReadError;
+use crate::fault::{ReadError, WriteError};
 use crate::seq::Seq;
-use std::alloc::{AllocError, Global};
+use std::alloc::Global;
 
 /// A type that is read from the front of bytes.
 pub trait ReadField: Drop + Sized {
@@ -25,9 +25,17 @@ pub trait WriteField {
     /// The value's one spelling.
     ghost spells: { Self → List ℕ };
 
+    /// The value has a spelling that is read as that value.
+    ghost fits: { Self → Type 0 };
+
+    /// The value is longer than its format can say.
+    ghost is_long: { Self → Type 0 };
+
     /// Appends the value's spelling. An `Err` may leave a part of it.
-    fn put(&self, out: &mut Vec<u8>) -> Result<(), AllocError>
-        ensures { OnOk result (out.new.items ≡ out.old.items ++ spells self.now) };
+    fn put(&self, out: &mut Vec<u8>) -> Result<(), WriteError>
+        ensures spelled { OnOk result (out.new.items ≡ out.old.items ++ spells self.now) }
+        ensures fits { OnOk result (fits self.now) }
+        ensures long_only { IsErrOf result WriteError.BadLength → is_long self.now };
 }
 
 /// So many values, one after the other, and the bytes behind them.
@@ -50,8 +58,10 @@ pub fn read_many<T: ReadField>(
 }
 
 /// Appends the values' spellings, one after the other. An `Err` may leave a part of them.
-pub fn put_all<T: WriteField>(out: &mut Vec<u8>, items: &[T]) -> Result<(), AllocError>
-    ensures { OnOk result (out.new.items ≡ out.old.items ++ flat_map T.spells items.now) }
+pub fn put_all<T: WriteField>(out: &mut Vec<u8>, items: &[T]) -> Result<(), WriteError>
+    ensures spelled { OnOk result (out.new.items ≡ out.old.items ++ flat_map T.spells items.now) }
+    ensures fits { OnOk result (AllByRecursion T.fits items.now) }
+    ensures long_only { IsErrOf result WriteError.BadLength → Any T.is_long items.now }
 {
     for item in items {
         item.put(out)?;

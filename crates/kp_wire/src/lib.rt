@@ -15,13 +15,14 @@ mod varint;
 pub use blob::Blob;
 pub use checksum::crc32c;
 pub use codec::{ReadField, WriteField, put_all, read_many};
-pub use fault::{ReadError, WireFault};
+pub use fault::{ReadError, WireFault, WriteError};
 pub use field::{end_before, read_bytes, read_utf8};
 pub use number::{read_i8, read_i16, read_i32, read_i64, read_u32};
 pub use seq::Seq;
 pub use text::Text;
 pub use varint::{
-    put_varint, put_varlong, read_varint, read_varlong, take_varint, take_varlong,
+    put_varint, put_varlong, read_varint, read_varlong, take_varint, take_varlong, varint_len,
+    varlong_len,
 };
 
 #[cfg(test)]

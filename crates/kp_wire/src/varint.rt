@@ -127,6 +127,39 @@ pub fn put_varlong(out: &mut Vec<u8>, n: i64) -> Result<(), AllocError>
     put_groups(out, MORE_IN_VARLONG, folded(n))
 }
 
+/// How many bytes a number in at most `more + 1` groups takes.
+fn groups_len(n: u64, more: u8) -> u64
+    requires { more < 10 }
+    ensures value { result ≡ length (groups more n) }
+    ensures few { result ≤ more + 1 }
+{
+    let mut len = 1;
+    let mut left = more;
+    let mut high = n;
+    while left > 0 && high >= 128 {
+        high /= 128;
+        left -= 1;
+        len += 1;
+    }
+    len
+}
+
+/// How many bytes the VARINT of `n` takes: 1 to 5.
+pub fn varint_len(n: i32) -> u64
+    ensures value { result ≡ length (varint.spell n) }
+    ensures few { result ≤ 5 }
+{
+    groups_len(folded(i64::from(n)), MORE_IN_VARINT)
+}
+
+/// How many bytes the VARLONG of `n` takes: 1 to 10.
+pub fn varlong_len(n: i64) -> u64
+    ensures value { result ≡ length (varlong.spell n) }
+    ensures few { result ≤ 10 }
+{
+    groups_len(folded(n), MORE_IN_VARLONG)
+}
+
 fn counted_varint(bytes: &[u8]) -> Result<(i32, usize), WireFault>
     ensures { Took bytes.now result (varint.read bytes.now) }
 {

@@ -1,0 +1,22 @@
+//! Record batches of magic 2 (Kafka's documentation, "Message Format": "Record Batch").
+#![tactic(auto)]
+
+mod batch;
+mod fault;
+pub mod laws;
+mod reading;
+mod record;
+mod relative;
+mod size;
+mod summary;
+mod writing;
+
+pub use batch::{Batch, BatchHead};
+pub use fault::BatchFault;
+pub use reading::read_batch;
+pub use record::{Header, Record, Timestamp};
+pub use size::{batch_size, record_size};
+pub use writing::write_batch;
+
+#[cfg(test)]
+mod tests;
