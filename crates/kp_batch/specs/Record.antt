@@ -2,7 +2,7 @@
 use Rattle.std.specs.Prelude.{◌≡◌, ℕ, zero, suc, ◌+◌, ◌-◌, ◌<◌, ◌^◌, List, [], ◌∷◌, ◌++◌, length, ℤ, pos, negsuc, Option, Some, None, Result, Ok, Err, ◌==◌, if◌then◌else◌, FitsSigned}
 use Rattle.kp_wire.specs.declared.fault.WireFault.TheVariants.{Short, BadLength, BadByte}
 use Rattle.kp_wire.specs.Reading.{Read, ◌>>=◌}
-use Rattle.kp_wire.specs.Codec.{Codec, pair, made, within, sized, text, nullable_bytes, array}
+use Rattle.kp_wire.specs.Codec.{Codec, pair, made, within, sized, nullable_sized, plain, utf8, array}
 use Rattle.kp_wire.specs.Varint.{varint, varlong}
 use Rattle.kp_batch.specs.declared.record.Header.{Header}
 use Rattle.kp_batch.specs.declared.relative.RelativeRecord.{RelativeRecord}
@@ -13,28 +13,31 @@ read_zero (zero ∷ rest) = Ok (tt, rest)
 read_zero (suc b ∷ rest) = Err BadByte
 
 -- a record's attributes: one byte, of which no bit is used
-abbrev pub attributes : Codec (Unit {0})
+unfoldable pub attributes : Codec (Unit {0})
 attributes = record { Fits = λ _. Unit {0}; spell = λ _. 0 ∷ []; read = read_zero }
 
 -- ---- fields of a record behind which `after` bytes stand
 
-abbrev pub length_field : ℕ → Codec ℤ
+unfoldable pub length_field : ℕ → Codec ℤ
 length_field after = within after varint
 
-abbrev pub bytes_or_null : ℕ → Codec (Option (List ℕ))
-bytes_or_null after = within after (nullable_bytes (length_field after))
+unfoldable pub bytes_or_null : ℕ → Codec (Option (List ℕ))
+bytes_or_null after = nullable_sized (length_field after) length (λ n. within after (plain n))
 
-abbrev pub header : ℕ → Codec Header
+unfoldable pub text : ℕ → Codec (List ℕ)
+text after = sized (length_field after) length (λ n. within after (utf8 n))
+
+unfoldable pub header : ℕ → Codec Header
 header after = made
     (λ p. record { key = p.0; value = p.1 })
     (λ h. (h.key, h.value))
-    (pair (within after (text (length_field after))) (bytes_or_null after))
+    (pair (text after) (bytes_or_null after))
 
-abbrev pub headers : ℕ → Codec (List Header)
+unfoldable pub headers : ℕ → Codec (List Header)
 headers after = array (length_field after) (header after)
 
 -- what stands behind a record's length
-abbrev pub fields : ℕ → Codec RelativeRecord
+unfoldable pub fields : ℕ → Codec RelativeRecord
 fields after = made
     (λ p. record { timestamp_delta = p.1.0; offset_delta = p.1.1.0; key = p.1.1.1.0; value = p.1.1.1.1.0; headers = p.1.1.1.1.1 })
     (λ r. (tt, (r.timestamp_delta, (r.offset_delta, (r.key, (r.value, r.headers))))))
@@ -58,5 +61,5 @@ sized_fields n = record {
   read = read_fields n;
 }
 
-abbrev pub relative_record : Codec RelativeRecord
+unfoldable pub relative_record : Codec RelativeRecord
 relative_record = sized varint fields_size sized_fields

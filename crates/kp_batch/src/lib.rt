@@ -3,20 +3,16 @@
 
 mod batch;
 mod fault;
-pub mod laws;
+
 mod reading;
 mod record;
 mod relative;
-mod size;
+
 mod summary;
-mod writing;
+
 
 pub use batch::{Batch, BatchHead};
 pub use fault::BatchFault;
-pub use reading::read_batch;
-pub use record::{Header, Record, Timestamp};
-pub use size::{batch_size, record_size};
-pub use writing::write_batch;
 
-#[cfg(test)]
-mod tests;
+pub use record::{Header, Record, Timestamp};
+
