@@ -40,12 +40,15 @@ unfoldable pub is_counted : Summary → Bool
 is_counted s = int_le (pos 1) s.count && int_eq s.last_offset_delta (s.count -ℤ pos 1)
 
 -- what these rows let through
-pub record Opened (bytes : Type 0) : Type 0 where
+pub record Opened : Type 0 where
   pub front : Front
   pub summary : Summary
-  pub records : bytes
+  pub records : List ℕ
 
-unfoldable pub opened : List ℕ → Result (Opened (List ℕ)) BatchFault
+abbrev pub opened_of : Front → Summary → List ℕ → Opened
+opened_of f s records = record { front = f; summary = s; records = records }
+
+unfoldable pub opened : List ℕ → Result Opened BatchFault
 opened bytes = do
   f ← or_else (λ _. Short) (front.read bytes)
   s ← or_else (λ _. Short) (summary.read f.1)
@@ -55,7 +58,7 @@ opened bytes = do
   _ ← refuse (not (crc f.1 == f.0.checksum)) Checksum
   _ ← refuse (not (int_eq s.0.attributes (pos 0))) Attributes
   _ ← refuse (not (is_counted s.0)) Count
-  Ok (record { front = f.0; summary = s.0; records = s.1 })
+  Ok (opened_of f.0 s.0 s.1)
 
 -- ---- the rows of the records
 

@@ -14,19 +14,19 @@ use Rattle.kp_batch.specs.Record.{relative_record}
 
 -- ---- the fields before the records
 
-abbrev pub front : Codec Front
+unfoldable pub front : Codec Front
 front = made
     (λ p. record { base_offset = p.0; batch_length = p.1.0; leader_epoch = p.1.1.0; magic = p.1.1.1.0; checksum = p.1.1.1.1 })
     (λ f. (f.base_offset, (f.batch_length, (f.leader_epoch, (f.magic, f.checksum)))))
     (pair (int w64) (pair (int w32) (pair (int w32) (pair (int w8) (number w32)))))
 
-abbrev pub head : Codec BatchHead
+unfoldable pub head : Codec BatchHead
 head = made
     (λ p. record { producer_id = p.0; epoch = p.1.0; base_sequence = p.1.1 })
     (λ h. (h.producer_id, (h.epoch, h.base_sequence)))
     (pair (int w64) (pair (int w16) (int w32)))
 
-abbrev pub summary : Codec Summary
+unfoldable pub summary : Codec Summary
 summary = made
     (λ p. record { attributes = p.0; last_offset_delta = p.1.0; base_timestamp = p.1.1.0; max_timestamp = p.1.1.1.0; head = p.1.1.1.1.0; count = p.1.1.1.1.1 })
     (λ s. (s.attributes, (s.last_offset_delta, (s.base_timestamp, (s.max_timestamp, (s.head, s.count))))))

@@ -4,7 +4,7 @@ use Rattle.std.specs.Int.{w32}
 use Rattle.std.proofs.lemmas.Int.{to_z-of_z}
 use Rattle.kp_batch.specs.Record.{headers}
 use Rattle.kp_batch.proofs.RecordLemmas.{length_fits}
-use Rattle.kp_batch.proofs.reading.read_headers.Goals as goal
+use Rattle.kp_batch.proofs.reading.fields.read_headers.Goals as goal
 
 pub returns : goal.returns
 unfolding headers

@@ -1,0 +1,159 @@
+//! The fields of a record.
+
+ghost use Rattle.std.specs.Prelude.{◌≡◌, length};
+ghost use Rattle.kp_wire.specs.Reading.{Gives, IsRead};
+ghost use Rattle.kp_wire.specs.Codec.{by_length, by_nullable_length, within, plain, utf8, many};
+ghost use Rattle.kp_batch.specs.Record.{attributes, length_field, bytes_or_null, text, header, headers};
+
+use crate::record::Header;
+use kp_wire::{
+    Blob, ReadError, ReadField, Seq, Text, WireFault, end_before, read_bytes, read_many, read_utf8,
+    read_varint,
+};
+use std::alloc::Global;
+
+/// A record's attributes, one byte 0, behind which `after` bytes stand or more.
+#[tactic(auto, unfolding(crate::specs::Record::read_zero, crate::specs::Record::attributes))]
+pub(super) fn read_attributes(bytes: &[u8], after: usize) -> Result<&[u8], WireFault>
+    ensures { IsRead (λ x. (tt, x.now)) result ((within after attributes).read bytes.now) }
+{
+    match bytes {
+        [] => Err(WireFault::Short),
+        [0, rest @ ..] => {
+            if rest.len() < after {
+                return Err(WireFault::BadLength);
+            }
+            Ok(rest)
+        }
+        [_, ..] => Err(WireFault::BadByte),
+    }
+}
+
+#[tactic(auto, unfolding(crate::specs::Record::length_field))]
+fn read_length(bytes: &[u8], after: usize) -> Result<(i32, &[u8]), WireFault>
+    ensures { IsRead (λ x. (x.0, x.1.now)) result ((length_field after).read bytes.now) }
+{
+    end_before(read_varint(bytes)?, after)
+}
+
+fn read_bytes_within(bytes: &[u8], len: usize, after: usize) -> Result<(&[u8], &[u8]), WireFault>
+    ensures { IsRead (λ x. (x.0.now, x.1.now)) result ((within after (plain len)).read bytes.now) }
+{
+    let (front, rest) = read_bytes(bytes, len)?;
+    if rest.len() < after {
+        return Err(WireFault::BadLength);
+    }
+    Ok((front, rest))
+}
+
+fn read_utf8_within(bytes: &[u8], len: usize, after: usize) -> Result<(&str, &[u8]), WireFault>
+    ensures { IsRead (λ x. (x.0.now, x.1.now)) result ((within after (utf8 len)).read bytes.now) }
+{
+    let (front, rest) = read_utf8(bytes, len)?;
+    if rest.len() < after {
+        return Err(WireFault::BadLength);
+    }
+    Ok((front, rest))
+}
+
+/// The bytes that stand behind their length, or None behind a length of -1.
+#[tactic(auto, unfolding(kp_wire::specs::Codec::by_nullable_length))]
+fn read_bytes_by(
+    alloc: Global,
+    bytes: &[u8],
+    len: i32,
+    after: usize,
+) -> Result<(Option<Blob>, &[u8]), ReadError>
+    ensures {
+        Gives (λ x. (x.0, x.1.now)) result (by_nullable_length (λ n. (within after (plain n)).read) len bytes.now)
+    }
+{
+    if len < -1 {
+        return Err(ReadError::Fault(WireFault::BadLength));
+    }
+    if len == -1 {
+        return Ok((None, bytes));
+    }
+    let (front, rest) = read_bytes_within(bytes, len as usize, after)?;
+    Ok((Some(Blob::from_slice(alloc, front)?), rest))
+}
+
+#[tactic(auto, unfolding(crate::specs::Record::bytes_or_null))]
+pub(super) fn read_bytes_or_null(
+    alloc: Global,
+    bytes: &[u8],
+    after: usize,
+) -> Result<(Option<Blob>, &[u8]), ReadError>
+    ensures { Gives (λ x. (x.0, x.1.now)) result ((bytes_or_null after).read bytes.now) }
+{
+    let (len, rest) = read_length(bytes, after)?;
+    read_bytes_by(alloc, rest, len, after)
+}
+
+/// The text that stands behind its length.
+#[tactic(auto, unfolding(kp_wire::specs::Codec::by_length))]
+fn read_text_by(
+    alloc: Global,
+    bytes: &[u8],
+    len: i32,
+    after: usize,
+) -> Result<(Text, &[u8]), ReadError>
+    ensures {
+        Gives (λ x. (x.0, x.1.now)) result (by_length (λ n. (within after (utf8 n)).read) len bytes.now)
+    }
+{
+    if len < 0 {
+        return Err(ReadError::Fault(WireFault::BadLength));
+    }
+    let (front, rest) = read_utf8_within(bytes, len as usize, after)?;
+    Ok((Text::from_str(alloc, front)?, rest))
+}
+
+#[tactic(auto, unfolding(crate::specs::Record::text))]
+fn read_text(alloc: Global, bytes: &[u8], after: usize) -> Result<(Text, &[u8]), ReadError>
+    ensures { Gives (λ x. (x.0, x.1.now)) result ((text after).read bytes.now) }
+{
+    let (len, rest) = read_length(bytes, after)?;
+    read_text_by(alloc, rest, len, after)
+}
+
+impl ReadField for Header {
+    ghost reads = { λ after. (header after).read };
+
+    #[tactic(auto, unfolding(crate::specs::Record::header))]
+    fn read(alloc: Global, bytes: &[u8], after: usize) -> Result<(Self, &[u8]), ReadError> {
+        let (key, rest) = read_text(alloc, bytes, after)?;
+        let (value, rest) = read_bytes_or_null(alloc, rest, after)?;
+        Ok((Header { key, value }, rest))
+    }
+}
+
+/// The headers that stand behind their count.
+#[tactic(auto, unfolding(kp_wire::specs::Codec::by_length))]
+fn read_headers_by(
+    alloc: Global,
+    bytes: &[u8],
+    count: i32,
+    after: usize,
+) -> Result<(Seq<Header>, &[u8]), ReadError>
+    ensures {
+        Gives (λ x. (x.0, x.1.now)) result (by_length (λ n. (many (header after) n).read) count bytes.now)
+    }
+{
+    if count < 0 {
+        return Err(ReadError::Fault(WireFault::BadLength));
+    }
+    read_many::<Header>(alloc, count as u32, bytes, after)
+}
+
+#[tactic(auto, unfolding(crate::specs::Record::headers))]
+pub(super) fn read_headers(
+    alloc: Global,
+    bytes: &[u8],
+    after: usize,
+) -> Result<(Seq<Header>, &[u8]), ReadError>
+    ensures { Gives (λ x. (x.0, x.1.now)) result ((headers after).read bytes.now) }
+{
+    let (count, rest) = read_length(bytes, after)?;
+    read_headers_by(alloc, rest, count, after)
+}

@@ -1,0 +1,85 @@
+//! Records as they stand in a batch.
+
+ghost use Rattle.std.specs.Prelude.{◌≡◌, ◌-◌, length};
+ghost use Rattle.kp_wire.specs.Reading.{Gives};
+ghost use Rattle.kp_batch.specs.Record.{fields, read_fields, relative_record};
+ghost use Rattle.kp_batch.specs.Reading.{all_records};
+
+use super::fields::{read_attributes, read_bytes_or_null, read_headers};
+use crate::relative::RelativeRecord;
+use kp_wire::{
+    ReadError, ReadField, Seq, WireFault, end_before, read_many, read_varint, read_varlong,
+};
+use std::alloc::Global;
+
+/// What stands behind a record's length, and behind it `after` bytes or more.
+#[tactic(auto, unfolding(crate::specs::Record::fields))]
+fn read_fields(
+    alloc: Global,
+    bytes: &[u8],
+    after: usize,
+) -> Result<(RelativeRecord, &[u8]), ReadError>
+    ensures { Gives (λ x. (x.0, x.1.now)) result ((fields after).read bytes.now) }
+{
+    let rest = read_attributes(bytes, after)?;
+    let (timestamp_delta, rest) = end_before(read_varlong(rest)?, after)?;
+    let (offset_delta, rest) = end_before(read_varint(rest)?, after)?;
+    let (key, rest) = read_bytes_or_null(alloc, rest, after)?;
+    let (value, rest) = read_bytes_or_null(alloc, rest, after)?;
+    let (headers, rest) = read_headers(alloc, rest, after)?;
+    Ok((
+        RelativeRecord {
+            timestamp_delta,
+            offset_delta,
+            key,
+            value,
+            headers,
+        },
+        rest,
+    ))
+}
+
+/// The record whose length is `len`: its fields end where it ends.
+#[tactic(auto, unfolding(crate::specs::Record::read_fields))]
+fn read_sized(
+    alloc: Global,
+    bytes: &[u8],
+    len: usize,
+) -> Result<(RelativeRecord, &[u8]), ReadError>
+    ensures { Gives (λ x. (x.0, x.1.now)) result (read_fields len bytes.now) }
+{
+    let after = bytes.len().saturating_sub(len);
+    let (record, rest) = read_fields(alloc, bytes, after)?;
+    if len > bytes.len() {
+        return Err(ReadError::Fault(WireFault::BadLength));
+    }
+    if rest.len() != after {
+        return Err(ReadError::Fault(WireFault::BadLength));
+    }
+    Ok((record, rest))
+}
+
+impl ReadField for RelativeRecord {
+    ghost reads = { λ _. relative_record.read };
+
+    #[tactic(auto, unfolding(kp_wire::specs::Codec::by_length, crate::specs::Record::relative_record))]
+    fn read(alloc: Global, bytes: &[u8], _after: usize) -> Result<(Self, &[u8]), ReadError> {
+        let (len, rest) = read_varint(bytes)?;
+        if len < 0 {
+            return Err(ReadError::Fault(WireFault::BadLength));
+        }
+        read_sized(alloc, rest, len as usize)
+    }
+}
+
+/// So many records, all of the bytes.
+#[tactic(auto, unfolding(crate::specs::Reading::all_records))]
+pub(super) fn read_records(alloc: Global, count: u32, bytes: &[u8]) -> Result<Seq<RelativeRecord>, ReadError>
+    ensures { Gives (λ x. x) result (all_records count bytes.now) }
+{
+    let (records, rest) = read_many::<RelativeRecord>(alloc, count, bytes, 0)?;
+    if !rest.is_empty() {
+        return Err(ReadError::Fault(WireFault::BadLength));
+    }
+    Ok(records)
+}
