@@ -1,2 +1,4 @@
 pub mod RecordLemmas
 pub mod RowLemmas
+pub mod RelativeLemmas
+pub mod BatchLemmas

@@ -3,6 +3,7 @@
 
 mod batch;
 mod fault;
+pub mod laws;
 
 mod reading;
 mod record;
@@ -10,9 +11,9 @@ mod relative;
 
 mod summary;
 
-
 pub use batch::{Batch, BatchHead};
 pub use fault::BatchFault;
 
+pub use reading::read_batch;
 pub use record::{Header, Record, Timestamp};
 

@@ -1,6 +1,7 @@
 //! A batch out of bytes.
 
 ghost use Rattle.std.specs.Prelude.{◌≡◌, List, ℕ, length, true, false, pos, ◌+ℤ◌, nat_abs, Some, None, IfOk, IfErr, ◌⊎◌, MatchOption, MatchResult, if◌then◌else◌};
+ghost use Rattle.kp_batch.specs.declared.batch.Batch.{Batch as BatchValue};
 ghost use Rattle.kp_batch.specs.Spelling.{Spells, max_timestamp};
 ghost use Rattle.kp_batch.specs.Reading.{Answers, in_places, is_moment, are_moments, begins_at_base, is_timed, records_of, batch_at};
 
@@ -133,4 +134,22 @@ fn read_whole(alloc: Global, bytes: &[u8]) -> Result<Batch, BatchFault>
         head: summary.head,
         records,
     })
+}
+
+/// The batch that the bytes spell, all of the bytes; else the first fault. Where a growth was refused, it is
+/// `OutOfMemory`, which comes only behind the faults up to `Count`.
+pub fn read_batch(alloc: Global, bytes: &[u8]) -> Result<Batch, BatchFault>
+    // What is read is spelled so.
+    ensures found { IfOk result (Spells bytes.now) }
+
+    // What is spelled so is read, unless memory is refused.
+    ensures only {
+        (b : BatchValue) → Spells bytes.now b
+        → MatchResult result (λ x. x ≡ b) (λ fault. fault ≡ BatchFault.OutOfMemory)
+    }
+
+    // Which fault it is.
+    ensures exact { Answers bytes.now (λ b. b) result (batch_at bytes.now) }
+{
+    read_whole(alloc, bytes)
 }
