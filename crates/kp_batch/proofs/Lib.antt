@@ -2,3 +2,4 @@ pub mod RecordLemmas
 pub mod RowLemmas
 pub mod RelativeLemmas
 pub mod BatchLemmas
+pub mod SizeLemmas

@@ -4,6 +4,7 @@ use Rattle.std.specs.List.{flat_map, AllByRecursion}
 use Rattle.std.specs.Int.{w8, w16, w32, w64}
 use Rattle.kp_wire.specs.Codec.{Codec, int, number, pair, made}
 use Rattle.kp_wire.specs.Checksum.{crc}
+use Rattle.kp_batch.specs.declared.size.TheConstants.{SIZE_LIMIT}
 use Rattle.kp_batch.specs.declared.batch.Batch.{Batch}
 use Rattle.kp_batch.specs.declared.batch.BatchHead.{BatchHead}
 use Rattle.kp_batch.specs.declared.record.Record.{Record}
@@ -43,9 +44,13 @@ abbrev pub max_timestamp : List Record → ℕ
 max_timestamp [] = 0
 max_timestamp (r ∷ rs) = max r.timestamp (max_timestamp rs)
 
+-- the record as it stands where its timestamp and its offset are so much above those of the batch
+abbrev pub relative_by : ℤ → ℤ → Record → RelativeRecord
+relative_by timestamp_delta offset_delta r = record { timestamp_delta = timestamp_delta; offset_delta = offset_delta; key = r.key; value = r.value; headers = r.headers }
+
 -- the record at place k of a batch with this base timestamp
 abbrev pub relative : ℕ → ℕ → Record → RelativeRecord
-relative base k r = record { timestamp_delta = pos r.timestamp -ℤ pos base; offset_delta = pos k; key = r.key; value = r.value; headers = r.headers }
+relative base k r = relative_by (pos r.timestamp -ℤ pos base) (pos k) r
 
 abbrev pub relatives_from : ℕ → ℕ → List Record → List RelativeRecord
 relatives_from base k [] = []
@@ -102,12 +107,8 @@ written h rs = record { base_offset = pos 0; leader_epoch = negsuc 0; head = h; 
 
 -- ---- sizes
 
--- the greatest size of a batch and of a record in it
-abbrev pub SIZE_LIMIT : ℕ
-SIZE_LIMIT = 2147483647
-
 -- the size, or the greatest number of 64 bits once it is above the limit
-abbrev pub measured : ℕ → ℕ
+unfoldable pub measured : ℕ → ℕ
 measured n = if nat_le n SIZE_LIMIT then n else 2 ^ 64 - 1
 
 -- the fields before the records have 61 bytes

@@ -8,12 +8,16 @@ pub mod laws;
 mod reading;
 mod record;
 mod relative;
+mod size;
 
 mod summary;
+mod writing;
 
 pub use batch::{Batch, BatchHead};
 pub use fault::BatchFault;
 
 pub use reading::read_batch;
 pub use record::{Header, Record, Timestamp};
+pub use size::{SIZE_LIMIT, batch_size, record_size};
+
 

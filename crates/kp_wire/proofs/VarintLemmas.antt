@@ -68,6 +68,15 @@ unfolding groups
 length-groups_none zero n h = refl
 length-groups_none (suc more) n h = absurd (omega arith)
 
+pub groups_some : (more n : ℕ) → 0 < length (groups more n)
+unfolding groups
+groups_some zero n = omega arith
+groups_some (suc more) n = some (ltb n 128) (groups more (n / 128))
+  where
+    some : (b : Bool) (gs : List ℕ) → 0 < length (cond b (n ∷ []) ((n % 128 + 128) ∷ gs))
+    some true gs = omega arith
+    some false gs = omega arith
+
 -- what the loop has written, one group more
 pub groups_step : (buffer : List ℕ) (len left high more n : ℕ) → len < length buffer → 0 < left → 128 ≤ high → take len buffer ++ groups left high ≡ groups more n
     → take (len + 1) (set buffer len (high % 128 + 128)) ++ groups (left - 1) (high / 128) ≡ groups more n

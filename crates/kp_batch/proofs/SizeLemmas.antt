@@ -1,0 +1,105 @@
+-- Sizes of fields, of records and of batches.
+use Rattle.std.proofs.Common.{◌≡◌, ℕ, zero, suc, ◌+◌, ◌-◌, ◌<◌, ◌≤◌, ◌^◌, Bool, true, false, cond, ltb, List, [], ◌∷◌, ◌++◌, length, get_or, drop, drop-cons, ℤ, pos, negsuc, Option, Some, None, refl, sym, ap, subst, ◌∙◌, add-one, arith}
+use Rattle.std.specs.List.{flat_map}
+use Rattle.std.specs.Prelude.{nat_le}
+use Rattle.std.proofs.lemmas.Bool.{ltb-false, ltb-true, lt-ltb, le-ltb}
+use Rattle.std.proofs.lemmas.Bool.Decides.{nat_tests}
+use Rattle.std.proofs.lemmas.List.{length-append, drop_all}
+use Rattle.std.proofs.lemmas.List.Concat.{flat_map-cons}
+use Rattle.kp_wire.specs.Varint.{varint, varlong, groups, zigzag}
+use Rattle.kp_wire.proofs.VarintLemmas.{groups_some}
+use Rattle.kp_batch.specs.declared.record.Header.{Header}
+use Rattle.kp_batch.specs.declared.record.Record.{Record}
+use Rattle.kp_batch.specs.declared.relative.RelativeRecord.{RelativeRecord}
+use Rattle.kp_batch.specs.Record.{attributes, length_field, bytes_or_null, text, header, headers, fields, fields_size, relative_record}
+use Rattle.kp_batch.specs.Spelling.{relative_by, relative, relatives_from, relatives, base_timestamp, measured, size_of_batch}
+
+-- the bytes of the records from place k on
+abbrev pub bytes_from : ℕ → ℕ → List Record → ℕ
+bytes_from base k rs = length (flat_map relative_record.spell (relatives_from base k rs))
+
+-- ---- measured sizes
+
+pub measured_small : (n : ℕ) → n ≤ 2147483647 → measured n ≡ n
+unfolding measured
+measured_small n h = grind (arith, nat_tests)
+
+pub measured_large : (n : ℕ) → 2147483647 < n → measured n ≡ 18446744073709551615
+unfolding measured
+measured_large n h = grind (arith, nat_tests)
+
+pub small_measured : (n m : ℕ) → n ≡ measured m → n ≤ 2147483647 → n ≡ m
+unfolding measured
+small_measured n m e h = grind (arith, nat_tests)
+
+pub large_measured : (n m : ℕ) → n ≡ measured m → 2147483647 < n → (n ≡ 18446744073709551615) × (2147483647 < m)
+unfolding measured
+large_measured n m e h = (grind (arith, nat_tests), grind (arith, nat_tests))
+
+pub size_of_batch-is : (rs : List Record) → size_of_batch rs ≡ 61 + bytes_from (base_timestamp rs) 0 rs
+unfolding size_of_batch
+size_of_batch-is rs = refl
+
+-- ---- fields
+
+pub length-some : (s : List ℕ) → length ((bytes_or_null 0).spell (Some s)) ≡ length (varint.spell (pos (length s))) + length s
+unfolding bytes_or_null length_field
+length-some s = length-append (varint.spell (pos (length s))) s
+
+pub length-header : (h : Header) → length ((header 0).spell h) ≡ (length (varint.spell (pos (length h.key))) + length h.key) + length ((bytes_or_null 0).spell h.value)
+unfolding header text length_field
+length-header h =
+    length-append (varint.spell (pos (length h.key)) ++ h.key) ((bytes_or_null 0).spell h.value)
+    ∙ ap (λ (n : ℕ). n + length ((bytes_or_null 0).spell h.value)) (length-append (varint.spell (pos (length h.key))) h.key)
+
+pub length-headers : (hs : List Header) → length ((headers 0).spell hs) ≡ length (varint.spell (pos (length hs))) + length (flat_map (header 0).spell hs)
+unfolding headers length_field
+length-headers hs = length-append (varint.spell (pos (length hs))) (flat_map (header 0).spell hs)
+
+pub fields_size-parts : (r : RelativeRecord) → fields_size r ≡ 1 + length (varlong.spell r.timestamp_delta) + length (varint.spell r.offset_delta) + ((length ((bytes_or_null 0).spell r.key) + length ((bytes_or_null 0).spell r.value)) + length ((headers 0).spell r.headers))
+unfolding fields attributes
+fields_size-parts r =
+    let k = (bytes_or_null 0).spell r.key in
+    let v = (bytes_or_null 0).spell r.value in
+    let h = (headers 0).spell r.headers in
+    let i = varint.spell r.offset_delta in
+    let t = varlong.spell r.timestamp_delta in
+    omega (arith, length-append (0 ∷ []) (t ++ (i ++ (k ++ (v ++ h)))), length-append t (i ++ (k ++ (v ++ h))), length-append i (k ++ (v ++ h)), length-append k (v ++ h), length-append v h)
+
+-- ---- records
+
+pub length-relative_record : (r : RelativeRecord) → length (relative_record.spell r) ≡ length (varint.spell (pos (fields_size r))) + fields_size r
+unfolding relative_record
+length-relative_record r = length-append (varint.spell (pos (fields_size r))) ((fields 0).spell r)
+
+pub some_bytes : (r : RelativeRecord) → 0 < length (relative_record.spell r)
+some_bytes r = omega (arith, length-relative_record r, fields_size-parts r)
+
+pub bytes_from-cons : (base k : ℕ) (r : Record) (rs : List Record) → bytes_from base k (r ∷ rs) ≡ length (relative_record.spell (relative base k r)) + bytes_from base (suc k) rs
+bytes_from-cons base k r rs =
+    ap length (flat_map-cons relative_record.spell (relative base k r) (relatives_from base (suc k) rs))
+    ∙ length-append (relative_record.spell (relative base k r)) (flat_map relative_record.spell (relatives_from base (suc k) rs))
+
+pub bytes_from-here : (base k : ℕ) (rs : List Record) (r : Record) → k < length rs → r ≡ get_or rs k r → bytes_from base k (drop k rs) ≡ length (relative_record.spell (relative base k r)) + bytes_from base (k + 1) (drop (k + 1) rs)
+bytes_from-here base k rs r lt e = rw (drop-cons rs k r, ← e, add-one) (bytes_from-cons base k r (drop (suc k) rs))
+
+pub length-headers_step : (hs : List Header) (k : ℕ) (h : Header) → k < length hs → h ≡ get_or hs k h → length (flat_map (header 0).spell (drop k hs)) ≡ length ((header 0).spell h) + length (flat_map (header 0).spell (drop (k + 1) hs))
+length-headers_step hs k h lt e =
+    rw (drop-cons hs k h, ← e, add-one)
+    (ap length (flat_map-cons (header 0).spell h (drop (suc k) hs)) ∙ length-append ((header 0).spell h) (flat_map (header 0).spell (drop (suc k) hs)))
+
+-- each header has a byte at least
+pub some_header : (h : Header) → 0 < length ((header 0).spell h)
+some_header h = omega (arith, length-header h, groups_some 4 (zigzag (pos (length h.key))))
+
+pub many_headers : (hs : List Header) → length hs ≤ length (flat_map (header 0).spell hs)
+many_headers [] = omega arith
+many_headers (h ∷ hs) = rw flat_map-cons (omega (arith, some_header h, many_headers hs, length-append ((header 0).spell h) (flat_map (header 0).spell hs)))
+
+-- the records behind the last have no bytes
+pub bytes_from-none : (base k : ℕ) (rs : List Record) → length rs ≤ k → bytes_from base k (drop k rs) ≡ 0
+bytes_from-none base k rs le = ap (bytes_from base k) (drop_all k rs le)
+
+pub first_has_base : (rs : List Record) (r : Record) → 0 < length rs → r ≡ get_or rs 0 r → base_timestamp rs ≡ r.timestamp
+first_has_base [] r some e = absurd (omega arith)
+first_has_base (x ∷ rs) r some e = ap (λ (y : Record). y.timestamp) (sym e)

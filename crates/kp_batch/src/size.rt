@@ -1,0 +1,108 @@
+//! The sizes of records and of batches, in bytes.
+
+ghost use Rattle.std.specs.Prelude.{◌≡◌, ℕ, ◌+◌, ◌≤◌, length, pos};
+ghost use Rattle.std.specs.List.{flat_map};
+ghost use Rattle.kp_wire.specs.Varint.{varint};
+ghost use Rattle.kp_batch.specs.Record.{bytes_or_null, header, headers, fields_size, relative_record};
+ghost use Rattle.kp_batch.specs.Spelling.{relative_by, measured, size_of_batch};
+
+use crate::record::{Header, Record};
+use kp_wire::{Blob, varint_len, varlong_len};
+
+/// The greatest size of a batch, and so of a record: the greatest int32.
+pub const SIZE_LIMIT: u64 = 2147483647;
+
+/// The size of what stands before a batch's records.
+pub(crate) const HEAD_SIZE: u64 = 61;
+
+/// The sum of two sizes, each as it is or, once it is above the limit, the greatest number.
+#[tactic(auto, unfolding(crate::specs::Spelling::measured))]
+pub(crate) fn add_sizes(a: u64, b: u64) -> u64
+    ensures { (m n : ℕ) → a ≡ measured m → b ≡ measured n → result ≡ measured (m + n) }
+{
+    if a > SIZE_LIMIT || b > SIZE_LIMIT || a + b > SIZE_LIMIT {
+        u64::MAX
+    } else {
+        a + b
+    }
+}
+
+/// The size of so many bytes with their length before them.
+#[tactic(auto, unfolding(crate::specs::Spelling::measured))]
+fn sized_len(len: usize) -> u64
+    ensures { result ≡ measured (length (varint.spell (pos len)) + len) }
+{
+    if len as u64 > SIZE_LIMIT {
+        return u64::MAX;
+    }
+    add_sizes(varint_len(len as i32), len as u64)
+}
+
+#[tactic(auto, unfolding(crate::specs::Record::bytes_or_null, crate::specs::Record::length_field, crate::specs::Spelling::measured))]
+fn nullable_size(bytes: &Option<Blob>) -> u64
+    ensures { result ≡ measured (length ((bytes_or_null 0).spell bytes.now)) }
+{
+    match bytes {
+        None => varint_len(-1),
+        Some(bytes) => sized_len(bytes.len()),
+    }
+}
+
+fn header_size(h: &Header) -> u64
+    ensures { result ≡ measured (length ((header 0).spell h.now)) }
+{
+    add_sizes(sized_len(h.key.len()), nullable_size(&h.value))
+}
+
+fn headers_size(hs: &[Header]) -> u64
+    ensures { result ≡ measured (length ((headers 0).spell hs.now)) }
+{
+    if hs.len() as u64 > SIZE_LIMIT {
+        return u64::MAX;
+    }
+    let mut size = varint_len(hs.len() as i32);
+    for h in hs {
+        size = add_sizes(size, header_size(h));
+    }
+    size
+}
+
+/// The size of what stands behind a record's length.
+pub(crate) fn record_fields_size(body: &Record, timestamp_delta: i64, offset_delta: i32) -> u64
+    ensures { result ≡ measured (fields_size (relative_by timestamp_delta offset_delta body.now)) }
+{
+    let before = 1 + varlong_len(timestamp_delta) + varint_len(offset_delta);
+    let key_and_value = add_sizes(nullable_size(&body.key), nullable_size(&body.value));
+    add_sizes(before, add_sizes(key_and_value, headers_size(body.headers.as_slice())))
+}
+
+/// The size of a record in a batch, where its timestamp and its offset are so much above those of the batch;
+/// u64::MAX where it is above the limit of a batch.
+pub fn record_size(body: &Record, timestamp_delta: i64, offset_delta: i32) -> u64
+    ensures { result ≡ measured (length (relative_record.spell (relative_by timestamp_delta offset_delta body.now))) }
+{
+    let fields = record_fields_size(body, timestamp_delta, offset_delta);
+    if fields > SIZE_LIMIT {
+        return u64::MAX;
+    }
+    add_sizes(varint_len(fields as i32), fields)
+}
+
+/// The size of the batch of these records; u64::MAX where it is above the limit.
+pub fn batch_size(records: &[Record]) -> u64
+    ensures { result ≡ measured (size_of_batch records.now) }
+{
+    let base = match records {
+        [] => return HEAD_SIZE,
+        [first, ..] => first.timestamp.millis(),
+    };
+    let mut size = HEAD_SIZE;
+    for (k, body) in records.iter().enumerate() {
+        if size > SIZE_LIMIT {
+            return u64::MAX;
+        }
+        let timestamp_delta = body.timestamp.millis() - base;
+        size = add_sizes(size, record_size(body, timestamp_delta, k as i32));
+    }
+    size
+}
