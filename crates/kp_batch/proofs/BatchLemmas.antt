@@ -257,11 +257,13 @@ spells_it : (bytes : List ℕ) (o : Opened) (rs : List RelativeRecord) → IsSpe
 unfolding front_of spelling
 spells_it bytes o rs p = record {
   is_batch = record {
-    some = p.some;
-    moments = p.moments;
     front = subst front.Fits p.fronts p.front_fits;
-    summary = subst summary.Fits p.summarized p.summary_fits;
-    records = subst (AllByRecursion relative_record.Fits) (sym p.relative) p.records_fit;
+    fields = record {
+      some = p.some;
+      moments = p.moments;
+      summary = subst summary.Fits p.summarized p.summary_fits;
+      records = subst (AllByRecursion relative_record.Fits) (sym p.relative) p.records_fit;
+    };
   };
   is_spelling = p.whole ∙ ap (λ (f : Front). front.spell f ++ covered o.summary.head (records_of o.summary.base_timestamp rs)) p.fronts;
 }
@@ -302,13 +304,13 @@ opens_again b p =
     record {
       rest = cov;
       front_read = front_exact.again (front_of b) cov p.front (omega arith);
-      summary_read = summary_exact.again (summary_of b.head b.records) records p.summary (omega arith);
+      summary_read = summary_exact.again (summary_of b.head b.records) records p.fields.summary (omega arith);
       short = rw (length-spelling b) sized.0;
       misfit = rw (length-spelling b) sized.1;
       magic = refl;
       checksum = ap not ((Decides-eqb (crc cov) (crc cov)).1 refl);
       attributes = refl;
-      counted = ap not (is_counted_of b.head b.records p.some);
+      counted = ap not (is_counted_of b.head b.records p.fields.some);
     }
 
 front_offset : (b : Batch) → (front_of b).base_offset ≡ b.base_offset
@@ -326,8 +328,8 @@ batch_again bytes b p =
     let base = base_timestamp b.records in
     let opens = opened_again (spelling b) (opened_as b) (opens_again b h) in
     let records : all_records (length b.records) (flat_map relative_record.spell (relatives b.records)) ≡ Ok (relatives b.records) =
-        ap (λ (n : ℕ). all_records n (flat_map relative_record.spell (relatives b.records))) (sym (length-relatives_from base 0 b.records)) ∙ records_again (relatives b.records) h.records in
-    ap batch_at p.is_spelling ∙ rw (opens, records, in_places-relatives_from base 0 b.records, timed_again b.head b.records h.moments, records_of-relatives_from base 0 b.records, front_offset b, front_leader b) refl
+        ap (λ (n : ℕ). all_records n (flat_map relative_record.spell (relatives b.records))) (sym (length-relatives_from base 0 b.records)) ∙ records_again (relatives b.records) h.fields.records in
+    ap batch_at p.is_spelling ∙ rw (opens, records, in_places-relatives_from base 0 b.records, timed_again b.head b.records h.fields.moments, records_of-relatives_from base 0 b.records, front_offset b, front_leader b) refl
 
 -- ---- what read_batch gives
 

@@ -3,3 +3,4 @@ pub mod RowLemmas
 pub mod RelativeLemmas
 pub mod BatchLemmas
 pub mod SizeLemmas
+pub mod WritingLemmas

@@ -103,3 +103,5 @@ bytes_from-none base k rs le = ap (bytes_from base k) (drop_all k rs le)
 pub first_has_base : (rs : List Record) (r : Record) → 0 < length rs → r ≡ get_or rs 0 r → base_timestamp rs ≡ r.timestamp
 first_has_base [] r some e = absurd (omega arith)
 first_has_base (x ∷ rs) r some e = ap (λ (y : Record). y.timestamp) (sym e)
+
+pub ruleset size_laws = (length-header, length-headers, fields_size-parts, length-relative_record)

@@ -88,13 +88,17 @@ front_of b = record {
 unfoldable pub spelling : Batch → List ℕ
 spelling b = front.spell (front_of b) ++ covered b.head b.records
 
--- The batch has a record, its timestamps are those of int64s, and each field has a spelling.
+-- There is a record, the timestamps are those of int64s, and each field that the checksum covers has a spelling.
+pub record HasFields (h : BatchHead) (rs : List Record) : Type 0 where
+  pub some : 0 < length rs
+  pub moments : AllByRecursion (λ r. r.timestamp < 2 ^ 63) rs
+  pub summary : summary.Fits (summary_of h rs)
+  pub records : AllByRecursion relative_record.Fits (relatives rs)
+
+-- so has each field before the checksum
 pub record HasSpelling (b : Batch) : Type 0 where
-  pub some : 0 < length b.records
-  pub moments : AllByRecursion (λ r. r.timestamp < 2 ^ 63) b.records
   pub front : front.Fits (front_of b)
-  pub summary : summary.Fits (summary_of b.head b.records)
-  pub records : AllByRecursion relative_record.Fits (relatives b.records)
+  pub fields : HasFields b.head b.records
 
 pub record Spells (bytes : List ℕ) (b : Batch) : Type 0 where
   pub is_batch : HasSpelling b

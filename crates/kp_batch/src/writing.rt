@@ -1,1 +1,218 @@
 //! A batch into bytes.
+
+ghost use Rattle.std.specs.Prelude.{◌≡◌, ℕ, ◌+◌, ◌<◌, ◌≤◌, ◌++◌, ◌^◌, length, take, drop, max, IfOk, OnOk, IsErrOf};
+ghost use Rattle.std.specs.Int.{w32, to_be_bytes};
+ghost use Rattle.std.specs.List.{flat_map, AllByRecursion};
+ghost use Rattle.kp_batch.specs.Record.{bytes_or_null, header, headers, fields, fields_size, relative_record};
+ghost use Rattle.kp_batch.specs.Spelling.{front, head, summary, relative_by, relatives_from, max_timestamp, size_of_batch, covered, HasFields, written, Spells};
+
+use crate::batch::BatchHead;
+use crate::record::{Header, Record, Timestamp};
+use crate::size::{SIZE_LIMIT, batch_size, record_fields_size};
+use crate::summary::{Front, Summary};
+use kp_wire::{Blob, WriteError, WriteField, crc32c, put_all, put_i8, put_i16, put_i32, put_i64, put_u32, put_varint, put_varlong};
+use std::alloc::{AllocError, Global};
+
+/// Appends the bytes behind their length, or the length -1 where there are none. An `Err` may leave a part.
+#[tactic(auto, unfolding(crate::specs::Record::bytes_or_null, crate::specs::Record::length_field))]
+fn put_nullable(out: &mut Vec<u8>, bytes: &Option<Blob>) -> Result<(), WriteError>
+    ensures spelled { OnOk result (out.new.items ≡ out.old.items ++ (bytes_or_null 0).spell bytes.now) }
+    ensures fits { OnOk result ((bytes_or_null 0).Fits bytes.now) }
+    ensures long_only { IsErrOf result WriteError.BadLength → SIZE_LIMIT < length ((bytes_or_null 0).spell bytes.now) }
+{
+    match bytes {
+        None => put_varint(out, -1)?,
+        Some(bytes) => {
+            if bytes.len() as u64 > SIZE_LIMIT {
+                return Err(WriteError::BadLength);
+            }
+            put_varint(out, bytes.len() as i32)?;
+            out.extend_from_slice(bytes.as_slice())?;
+        }
+    }
+    Ok(())
+}
+
+impl WriteField for Header {
+    ghost use Rattle.std.specs.Prelude.{length, ◌<◌};
+    ghost use Rattle.kp_batch.specs.declared.size.TheConstants.{SIZE_LIMIT};
+    ghost use Rattle.kp_batch.specs.Record.{header};
+
+    ghost spells = { (header 0).spell };
+
+    ghost fits = { (header 0).Fits };
+
+    ghost is_long = { λ h. SIZE_LIMIT < length ((header 0).spell h) };
+
+    #[tactic(auto, using(crate::proofs::SizeLemmas::size_laws), unfolding(crate::specs::Record::header, crate::specs::Record::text, crate::specs::Record::length_field))]
+    fn put(&self, out: &mut Vec<u8>) -> Result<(), WriteError> {
+        let key = self.key.as_str();
+        if key.len() as u64 > SIZE_LIMIT {
+            return Err(WriteError::BadLength);
+        }
+        put_varint(out, key.len() as i32)?;
+        out.extend_from_slice(key.as_bytes())?;
+        put_nullable(out, &self.value)?;
+        Ok(())
+    }
+}
+
+/// Appends the headers behind their count. An `Err` may leave a part.
+#[tactic(auto, using(crate::proofs::SizeLemmas::size_laws), unfolding(crate::specs::Record::headers, crate::specs::Record::length_field))]
+fn put_headers(out: &mut Vec<u8>, hs: &[Header]) -> Result<(), WriteError>
+    ensures spelled { OnOk result (out.new.items ≡ out.old.items ++ (headers 0).spell hs.now) }
+    ensures fits { OnOk result ((headers 0).Fits hs.now) }
+    ensures long_only { IsErrOf result WriteError.BadLength → SIZE_LIMIT < length ((headers 0).spell hs.now) }
+{
+    if hs.len() as u64 > SIZE_LIMIT {
+        return Err(WriteError::BadLength);
+    }
+    put_varint(out, hs.len() as i32)?;
+    put_all(out, hs)?;
+    Ok(())
+}
+
+/// Appends what stands behind a record's length. An `Err` may leave a part.
+#[tactic(auto, using(crate::proofs::SizeLemmas::size_laws), unfolding(crate::specs::Record::fields, crate::specs::Record::attributes))]
+fn put_fields(
+    out: &mut Vec<u8>,
+    body: &Record,
+    timestamp_delta: i64,
+    offset_delta: i32,
+) -> Result<(), WriteError>
+    ensures spelled {
+        OnOk result (out.new.items ≡ out.old.items ++ (fields 0).spell (relative_by timestamp_delta offset_delta body.now))
+    }
+    ensures fits { OnOk result ((fields 0).Fits (relative_by timestamp_delta offset_delta body.now)) }
+    ensures long_only {
+        IsErrOf result WriteError.BadLength
+        → SIZE_LIMIT < fields_size (relative_by timestamp_delta offset_delta body.now)
+    }
+{
+    out.push(0)?;
+    put_varlong(out, timestamp_delta)?;
+    put_varint(out, offset_delta)?;
+    put_nullable(out, &body.key)?;
+    put_nullable(out, &body.value)?;
+    put_headers(out, body.headers.as_slice())?;
+    Ok(())
+}
+
+/// Appends a record. An `Err` may leave a part.
+#[tactic(auto, using(crate::proofs::SizeLemmas::size_laws), unfolding(crate::specs::Record::relative_record))]
+fn put_record(
+    out: &mut Vec<u8>,
+    body: &Record,
+    timestamp_delta: i64,
+    offset_delta: i32,
+) -> Result<(), WriteError>
+    ensures spelled {
+        OnOk result (out.new.items ≡ out.old.items ++ relative_record.spell (relative_by timestamp_delta offset_delta body.now))
+    }
+    ensures fits { OnOk result (relative_record.Fits (relative_by timestamp_delta offset_delta body.now)) }
+    ensures long_only {
+        IsErrOf result WriteError.BadLength
+        → SIZE_LIMIT < length (relative_record.spell (relative_by timestamp_delta offset_delta body.now))
+    }
+{
+    let size = record_fields_size(body, timestamp_delta, offset_delta);
+    if size > SIZE_LIMIT {
+        return Err(WriteError::BadLength);
+    }
+    put_varint(out, size as i32)?;
+    put_fields(out, body, timestamp_delta, offset_delta)?;
+    Ok(())
+}
+
+/// Appends the records of a batch with this base timestamp. An `Err` may leave a part.
+fn put_records(out: &mut Vec<u8>, base: Timestamp, records: &[Record]) -> Result<(), WriteError>
+    requires { length records.now ≤ SIZE_LIMIT }
+    ensures spelled { OnOk result (out.new.items ≡ out.old.items ++ flat_map relative_record.spell (relatives_from base 0 records.now)) }
+    ensures fits { OnOk result (AllByRecursion relative_record.Fits (relatives_from base 0 records.now)) }
+    ensures moments { OnOk result (AllByRecursion (λ r. r.timestamp < 2 ^ 63) records.now) }
+    ensures long_only {
+        IsErrOf result WriteError.BadLength
+        → SIZE_LIMIT < length (flat_map relative_record.spell (relatives_from base 0 records.now))
+    }
+{
+    for (k, body) in records.iter().enumerate() {
+        let timestamp_delta = body.timestamp.millis() - base.millis();
+        put_record(out, body, timestamp_delta, k as i32)?;
+    }
+    Ok(())
+}
+
+/// The latest of this moment and those of the records.
+fn latest_of(first: Timestamp, records: &[Record]) -> Timestamp
+    ensures { result ≡ max first (max_timestamp records.now) }
+{
+    let mut latest = first;
+    for body in records {
+        if latest.millis() < body.timestamp.millis() {
+            latest = body.timestamp;
+        }
+    }
+    latest
+}
+
+fn put_front(out: &mut Vec<u8>, f: &Front) -> Result<(), AllocError>
+    ensures { OnOk result (out.new.items ≡ out.old.items ++ front.spell f.now) }
+{
+    put_i64(out, f.base_offset)?;
+    put_i32(out, f.batch_length)?;
+    put_i32(out, f.leader_epoch)?;
+    put_i8(out, f.magic)?;
+    put_u32(out, f.checksum)?;
+    Ok(())
+}
+
+fn put_head(out: &mut Vec<u8>, h: &BatchHead) -> Result<(), AllocError>
+    ensures { OnOk result (out.new.items ≡ out.old.items ++ head.spell h.now) }
+{
+    put_i64(out, h.producer_id)?;
+    put_i16(out, h.epoch)?;
+    put_i32(out, h.base_sequence)?;
+    Ok(())
+}
+
+fn put_summary(out: &mut Vec<u8>, s: &Summary) -> Result<(), AllocError>
+    ensures { OnOk result (out.new.items ≡ out.old.items ++ summary.spell s.now) }
+{
+    put_i16(out, s.attributes)?;
+    put_i32(out, s.last_offset_delta)?;
+    put_i64(out, s.base_timestamp)?;
+    put_i64(out, s.max_timestamp)?;
+    put_head(out, &s.head)?;
+    put_i32(out, s.count)?;
+    Ok(())
+}
+
+/// Puts the checksum into its place.
+fn set_checksum(bytes: &mut [u8], checksum: u32)
+    requires { 21 ≤ length bytes.old }
+    ensures { bytes.new ≡ take 17 bytes.old ++ to_be_bytes w32 checksum ++ drop 21 bytes.old }
+{
+    bytes[17..21].copy_from_slice(&checksum.to_be_bytes());
+}
+
+/// Appends what the checksum covers: the fields behind it, and the records. An `Err` may leave a part.
+fn put_covered(out: &mut Vec<u8>, h: BatchHead, records: &[Record]) -> Result<(), WriteError>
+    requires some { 0 < length records.now }
+    requires few { length records.now ≤ SIZE_LIMIT }
+    ensures spelled { OnOk result (out.new.items ≡ out.old.items ++ covered h records.now) }
+    ensures fits { OnOk result (HasFields h records.now) }
+    ensures long_only { IsErrOf result WriteError.BadLength → SIZE_LIMIT < size_of_batch records.now }
+{
+    let base = records[0].timestamp;
+    let count = records.len() as i32;
+    let s = Summary {
+        attributes: 0,
+        last_offset_delta: count - 1,
+        base_timestamp: base.millis(),
+        max_timestamp: latest_of(base, records).millis(),
+        head: h,
+        count,
+    };
+    put_summary(out, &s)?;
+    put_records(out, base, records)
+}

@@ -17,7 +17,9 @@ pub use checksum::crc32c;
 pub use codec::{ReadField, WriteField, put_all, read_many};
 pub use fault::{ReadError, WireFault, WriteError};
 pub use field::{end_before, read_bytes, read_utf8};
-pub use number::{read_i8, read_i16, read_i32, read_i64, read_u32};
+pub use number::{
+    put_i8, put_i16, put_i32, put_i64, put_u32, read_i8, read_i16, read_i32, read_i64, read_u32,
+};
 pub use seq::Seq;
 pub use text::Text;
 pub use varint::{

@@ -1,11 +1,12 @@
-//! Numbers of a fixed width, high byte first: a value, and the bytes behind it.
+//! Numbers of a fixed width, high byte first: read from the front of bytes, and appended to them.
 
-ghost use Rattle.std.specs.Prelude.{◌≡◌, length};
+ghost use Rattle.std.specs.Prelude.{◌≡◌, ◌++◌, length, OnOk, OnErr};
 ghost use Rattle.std.specs.Int.{w8, w16, w32, w64};
 ghost use Rattle.kp_wire.specs.Reading.{IsRead};
 ghost use Rattle.kp_wire.specs.Codec.{number, int};
 
 use crate::fault::WireFault;
+use std::alloc::AllocError;
 
 /// The int8 at the front.
 pub fn read_i8(bytes: &[u8]) -> Result<(i8, &[u8]), WireFault>
@@ -65,4 +66,44 @@ pub fn read_u32(bytes: &[u8]) -> Result<(u32, &[u8]), WireFault>
     let (front, rest) = bytes.split_at(4);
     let value = u32::from_be_bytes([front[0], front[1], front[2], front[3]]);
     Ok((value, rest))
+}
+
+/// Appends the int8. An `Err` leaves `out` as it was.
+pub fn put_i8(out: &mut Vec<u8>, n: i8) -> Result<(), AllocError>
+    ensures ok { OnOk result (out.new.items ≡ out.old.items ++ (int w8).spell n) }
+    ensures err { OnErr result (out.new.items ≡ out.old.items) }
+{
+    out.extend_from_slice(&n.to_be_bytes())
+}
+
+/// Appends the int16. An `Err` leaves `out` as it was.
+pub fn put_i16(out: &mut Vec<u8>, n: i16) -> Result<(), AllocError>
+    ensures ok { OnOk result (out.new.items ≡ out.old.items ++ (int w16).spell n) }
+    ensures err { OnErr result (out.new.items ≡ out.old.items) }
+{
+    out.extend_from_slice(&n.to_be_bytes())
+}
+
+/// Appends the int32. An `Err` leaves `out` as it was.
+pub fn put_i32(out: &mut Vec<u8>, n: i32) -> Result<(), AllocError>
+    ensures ok { OnOk result (out.new.items ≡ out.old.items ++ (int w32).spell n) }
+    ensures err { OnErr result (out.new.items ≡ out.old.items) }
+{
+    out.extend_from_slice(&n.to_be_bytes())
+}
+
+/// Appends the int64. An `Err` leaves `out` as it was.
+pub fn put_i64(out: &mut Vec<u8>, n: i64) -> Result<(), AllocError>
+    ensures ok { OnOk result (out.new.items ≡ out.old.items ++ (int w64).spell n) }
+    ensures err { OnErr result (out.new.items ≡ out.old.items) }
+{
+    out.extend_from_slice(&n.to_be_bytes())
+}
+
+/// Appends the unsigned number of 32 bits. An `Err` leaves `out` as it was.
+pub fn put_u32(out: &mut Vec<u8>, n: u32) -> Result<(), AllocError>
+    ensures ok { OnOk result (out.new.items ≡ out.old.items ++ (number w32).spell n) }
+    ensures err { OnErr result (out.new.items ≡ out.old.items) }
+{
+    out.extend_from_slice(&n.to_be_bytes())
 }

@@ -1,0 +1,86 @@
+-- What was appended field by field.
+use Rattle.std.proofs.Common.{◌≡◌, ℕ, zero, suc, ◌+◌, ◌-◌, ◌<◌, ◌≤◌, ◌^◌, max, List, [], ◌∷◌, ◌++◌, length, get_or, take, drop, ℤ, pos, negsuc, refl, sym, ap, subst, ◌∙◌, append_assoc, add-one, drop-cons, arith}
+use Rattle.std.specs.Prelude.{FitsSigned, Any}
+use Rattle.std.specs.Int.{w8, w16, w32, w64}
+use Rattle.kp_wire.specs.Codec.{int, number}
+use Rattle.kp_batch.specs.declared.batch.BatchHead.{BatchHead}
+use Rattle.kp_batch.specs.declared.summary.Front.{Front}
+use Rattle.kp_batch.specs.declared.summary.Summary.{Summary}
+use Rattle.std.specs.List.{flat_map, AllByRecursion}
+use Rattle.std.proofs.lemmas.List.{length-append}
+use Rattle.std.proofs.lemmas.List.Concat.{flat_map-cons}
+use Rattle.kp_wire.specs.Varint.{varint, varlong}
+use Rattle.kp_batch.specs.declared.record.Header.{Header}
+use Rattle.kp_batch.specs.declared.relative.RelativeRecord.{RelativeRecord}
+use Rattle.kp_batch.specs.Record.{attributes, bytes_or_null, header, headers, fields, fields_size, sized_fields, relative_record}
+use Rattle.kp_batch.specs.declared.record.Record.{Record}
+use Rattle.kp_batch.specs.Spelling.{front, head, summary, relative, relatives_from, max_timestamp}
+use Rattle.kp_batch.proofs.RelativeLemmas.{HasMoment}
+use Rattle.kp_batch.proofs.SizeLemmas.{length-headers}
+
+one_long : (hs : List Header) (k : ℕ) (h : Header) → k < length hs → get_or hs k h ≡ h → length ((header 0).spell h) ≤ length (flat_map (header 0).spell hs)
+one_long [] k h lt e = absurd (omega arith)
+one_long (x ∷ hs) zero h lt e =
+    rw (flat_map-cons (header 0).spell x hs) (let same : length ((header 0).spell x) ≡ length ((header 0).spell h) = ap (λ (y : Header). length ((header 0).spell y)) e in omega (arith, same, length-append ((header 0).spell x) (flat_map (header 0).spell hs)))
+one_long (x ∷ hs) (suc k) h lt e =
+    rw (flat_map-cons (header 0).spell x hs) (omega (arith, one_long hs k h (omega arith) e, length-append ((header 0).spell x) (flat_map (header 0).spell hs)))
+
+pub long_headers : (hs : List Header) → Any (λ h. 2147483647 < length ((header 0).spell h)) hs → 2147483647 < length ((headers 0).spell hs)
+long_headers hs any = omega (arith, one_long hs any.0 any.1 any.2 any.3, any.4, length-headers hs)
+
+pub fields_spelled : (r : RelativeRecord) (o0 o1 o2 o3 o4 o5 o6 : List ℕ) → o1 ≡ o0 ++ 0 ∷ [] → o2 ≡ o1 ++ varlong.spell r.timestamp_delta → o3 ≡ o2 ++ varint.spell r.offset_delta
+    → o4 ≡ o3 ++ (bytes_or_null 0).spell r.key → o5 ≡ o4 ++ (bytes_or_null 0).spell r.value → o6 ≡ o5 ++ (headers 0).spell r.headers → o6 ≡ o0 ++ (fields 0).spell r
+unfolding fields attributes
+fields_spelled r o0 o1 o2 o3 o4 o5 o6 e1 e2 e3 e4 e5 e6 = rw (e6, e5, e4, e3, e2, e1) (simp append_assoc)
+
+pub record_spelled : (r : RelativeRecord) (o0 o1 o2 : List ℕ) → o1 ≡ o0 ++ varint.spell (pos (fields_size r)) → o2 ≡ o1 ++ (fields 0).spell r → o2 ≡ o0 ++ relative_record.spell r
+unfolding relative_record
+record_spelled r o0 o1 o2 e1 e2 = rw (e2, e1) (append_assoc o0 (varint.spell (pos (fields_size r))) ((fields 0).spell r))
+
+pub record_fits : (r : RelativeRecord) → fields_size r ≤ 2147483647 → (fields 0).Fits r → relative_record.Fits r
+unfolding relative_record
+record_fits r small fits = let len : FitsSigned w32 (pos (fields_size r)) = record { sfits = omega arith } in (len, (refl, fits))
+
+-- ---- the records one by one
+
+pub relatives_from-here : (base k : ℕ) (rs : List Record) (r : Record) → k < length rs → r ≡ get_or rs k r → relatives_from base k (drop k rs) ≡ relative base k r ∷ relatives_from base (k + 1) (drop (k + 1) rs)
+relatives_from-here base k rs r lt e = rw (drop-cons rs k r, ← e, add-one) refl
+
+pub record_more : (base k : ℕ) (rs : List Record) (r : Record) (out more whole : List ℕ) → k < length rs → r ≡ get_or rs k r → more ≡ out ++ relative_record.spell (relative base k r)
+    → out ++ flat_map relative_record.spell (relatives_from base k (drop k rs)) ≡ whole → more ++ flat_map relative_record.spell (relatives_from base (k + 1) (drop (k + 1) rs)) ≡ whole
+record_more base k rs r out more whole lt e here so_far =
+    let rest = relatives_from base (k + 1) (drop (k + 1) rs) in
+    let one : flat_map relative_record.spell (relatives_from base k (drop k rs)) ≡ relative_record.spell (relative base k r) ++ flat_map relative_record.spell rest =
+        ap (flat_map relative_record.spell) (relatives_from-here base k rs r lt e) ∙ flat_map-cons relative_record.spell (relative base k r) rest in
+    rw here (append_assoc out (relative_record.spell (relative base k r)) (flat_map relative_record.spell rest) ∙ sym (ap (λ (x : List ℕ). out ++ x) one) ∙ so_far)
+
+pub fits_more : (base k : ℕ) (rs : List Record) (r : Record) (P : Type 0) → k < length rs → r ≡ get_or rs k r → relative_record.Fits (relative base k r)
+    → (AllByRecursion relative_record.Fits (relatives_from base k (drop k rs)) → P) → AllByRecursion relative_record.Fits (relatives_from base (k + 1) (drop (k + 1) rs)) → P
+fits_more base k rs r P lt e here so_far rest = so_far (subst (AllByRecursion relative_record.Fits) (sym (relatives_from-here base k rs r lt e)) (here, rest))
+
+pub moments_further : (k : ℕ) (rs : List Record) (r : Record) (P : Type 0) → k < length rs → r ≡ get_or rs k r → HasMoment r
+    → (AllByRecursion HasMoment (drop k rs) → P) → AllByRecursion HasMoment (drop (k + 1) rs) → P
+moments_further k rs r P lt e here so_far rest =
+    let one : drop k rs ≡ r ∷ drop (k + 1) rs = rw (drop-cons rs k r, ← e, add-one) refl in
+    so_far (subst (AllByRecursion HasMoment) (sym one) (here, rest))
+
+pub latest_further : (rs : List Record) (k : ℕ) (r : Record) (latest next whole : ℕ) → k < length rs → r ≡ get_or rs k r → next ≡ max latest r.timestamp → max latest (max_timestamp (drop k rs)) ≡ whole → max next (max_timestamp (drop (k + 1) rs)) ≡ whole
+latest_further rs k r latest next whole lt e is so_far =
+    let one : max_timestamp (drop k rs) ≡ max r.timestamp (max_timestamp (drop (k + 1) rs)) = rw (drop-cons rs k r, ← e, add-one) refl in
+    omega (arith, one, so_far, is)
+
+-- ---- the fields before the records
+
+pub front_spelled : (f : Front) (o0 o1 o2 o3 o4 o5 : List ℕ) → o1 ≡ o0 ++ (int w64).spell f.base_offset → o2 ≡ o1 ++ (int w32).spell f.batch_length → o3 ≡ o2 ++ (int w32).spell f.leader_epoch
+    → o4 ≡ o3 ++ (int w8).spell f.magic → o5 ≡ o4 ++ (number w32).spell f.checksum → o5 ≡ o0 ++ front.spell f
+unfolding front
+front_spelled f o0 o1 o2 o3 o4 o5 e1 e2 e3 e4 e5 = rw (e5, e4, e3, e2, e1) (simp append_assoc)
+
+pub head_spelled : (h : BatchHead) (o0 o1 o2 o3 : List ℕ) → o1 ≡ o0 ++ (int w64).spell h.producer_id → o2 ≡ o1 ++ (int w16).spell h.epoch → o3 ≡ o2 ++ (int w32).spell h.base_sequence → o3 ≡ o0 ++ head.spell h
+unfolding head
+head_spelled h o0 o1 o2 o3 e1 e2 e3 = rw (e3, e2, e1) (simp append_assoc)
+
+pub summary_spelled : (s : Summary) (o0 o1 o2 o3 o4 o5 o6 : List ℕ) → o1 ≡ o0 ++ (int w16).spell s.attributes → o2 ≡ o1 ++ (int w32).spell s.last_offset_delta → o3 ≡ o2 ++ (int w64).spell s.base_timestamp
+    → o4 ≡ o3 ++ (int w64).spell s.max_timestamp → o5 ≡ o4 ++ head.spell s.head → o6 ≡ o5 ++ (int w32).spell s.count → o6 ≡ o0 ++ summary.spell s
+unfolding summary
+summary_spelled s o0 o1 o2 o3 o4 o5 o6 e1 e2 e3 e4 e5 e6 = rw (e6, e5, e4, e3, e2, e1) (simp append_assoc)
