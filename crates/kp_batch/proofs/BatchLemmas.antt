@@ -164,7 +164,7 @@ summary_is : (s : Summary) (a l b m n : ℤ) → s.attributes ≡ a → s.last_o
 summary_is s a l b m n e1 e2 e3 e4 e5 =
     let same : summary_with s.attributes s.last_offset_delta s.base_timestamp s.max_timestamp s.head s.count ≡ summary_with a l b m s.head n = rw (e1, e2, e3, e4, e5) refl in same
 
-abbrev front_with : ℤ → ℤ → ℤ → ℤ → ℕ → Front
+abbrev pub front_with : ℤ → ℤ → ℤ → ℤ → ℕ → Front
 front_with o n l m c = record { base_offset = o; batch_length = n; leader_epoch = l; magic = m; checksum = c }
 
 front_is : (f : Front) (n m : ℤ) (c : ℕ) → f.batch_length ≡ n → f.magic ≡ m → f.checksum ≡ c → f ≡ front_with f.base_offset n f.leader_epoch m c
@@ -284,7 +284,7 @@ timed_again h rs fits =
 abbrev opened_as : Batch → Opened
 opened_as b = opened_of (front_of b) (summary_of b.head b.records) (flat_map relative_record.spell (relatives b.records))
 
-length-covered : (h : BatchHead) (rs : List Record) → length (covered h rs) ≡ 40 + length (flat_map relative_record.spell (relatives rs))
+pub length-covered : (h : BatchHead) (rs : List Record) → length (covered h rs) ≡ 40 + length (flat_map relative_record.spell (relatives rs))
 unfolding covered
 length-covered h rs = length-append (summary.spell (summary_of h rs)) (flat_map relative_record.spell (relatives rs)) ∙ ap (λ (n : ℕ). n + length (flat_map relative_record.spell (relatives rs))) (length-summary (summary_of h rs))
 

@@ -105,3 +105,8 @@ first_has_base [] r some e = absurd (omega arith)
 first_has_base (x ∷ rs) r some e = ap (λ (y : Record). y.timestamp) (sym e)
 
 pub ruleset size_laws = (length-header, length-headers, fields_size-parts, length-relative_record)
+
+-- each record has a byte at least
+pub many_records : (base k : ℕ) (rs : List Record) → length rs ≤ bytes_from base k rs
+many_records base k [] = omega arith
+many_records base k (r ∷ rs) = omega (arith, bytes_from-cons base k r rs, some_bytes (relative base k r), many_records base (suc k) rs)

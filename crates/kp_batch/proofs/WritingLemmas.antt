@@ -1,20 +1,23 @@
 -- What was appended field by field.
 use Rattle.std.proofs.Common.{◌≡◌, ℕ, zero, suc, ◌+◌, ◌-◌, ◌<◌, ◌≤◌, ◌^◌, max, List, [], ◌∷◌, ◌++◌, length, get_or, take, drop, ℤ, pos, negsuc, refl, sym, ap, subst, ◌∙◌, append_assoc, add-one, drop-cons, arith}
-use Rattle.std.specs.Prelude.{FitsSigned, Any}
-use Rattle.std.specs.Int.{w8, w16, w32, w64}
+use Rattle.std.specs.Prelude.{FitsSigned, Any, ◌-ℤ◌}
+use Rattle.std.proofs.lemmas.Int.{ints}
+use Rattle.std.specs.Int.{w8, w16, w32, w64, to_be_bytes}
+use Rattle.kp_wire.specs.Checksum.{crc}
+use Rattle.kp_batch.proofs.BatchLemmas.{front_with}
 use Rattle.kp_wire.specs.Codec.{int, number}
 use Rattle.kp_batch.specs.declared.batch.BatchHead.{BatchHead}
 use Rattle.kp_batch.specs.declared.summary.Front.{Front}
 use Rattle.kp_batch.specs.declared.summary.Summary.{Summary}
 use Rattle.std.specs.List.{flat_map, AllByRecursion}
-use Rattle.std.proofs.lemmas.List.{length-append}
+use Rattle.std.proofs.lemmas.List.{length-append, length-take, length-drop, take_at}
 use Rattle.std.proofs.lemmas.List.Concat.{flat_map-cons}
 use Rattle.kp_wire.specs.Varint.{varint, varlong}
 use Rattle.kp_batch.specs.declared.record.Header.{Header}
 use Rattle.kp_batch.specs.declared.relative.RelativeRecord.{RelativeRecord}
 use Rattle.kp_batch.specs.Record.{attributes, bytes_or_null, header, headers, fields, fields_size, sized_fields, relative_record}
 use Rattle.kp_batch.specs.declared.record.Record.{Record}
-use Rattle.kp_batch.specs.Spelling.{front, head, summary, relative, relatives_from, max_timestamp}
+use Rattle.kp_batch.specs.Spelling.{front, head, summary, summary_of, covered, front_of, spelling, HasFields, Spells, written, relative, relatives_from, base_timestamp, max_timestamp}
 use Rattle.kp_batch.proofs.RelativeLemmas.{HasMoment}
 use Rattle.kp_batch.proofs.SizeLemmas.{length-headers}
 
@@ -84,3 +87,78 @@ pub summary_spelled : (s : Summary) (o0 o1 o2 o3 o4 o5 o6 : List ℕ) → o1 ≡
     → o4 ≡ o3 ++ (int w64).spell s.max_timestamp → o5 ≡ o4 ++ head.spell s.head → o6 ≡ o5 ++ (int w32).spell s.count → o6 ≡ o0 ++ summary.spell s
 unfolding summary
 summary_spelled s o0 o1 o2 o3 o4 o5 o6 e1 e2 e3 e4 e5 e6 = rw (e6, e5, e4, e3, e2, e1) (simp append_assoc)
+
+pub first_timestamp : (rs : List Record) (d : Record) → 0 < length rs → (get_or rs 0 d).timestamp ≡ base_timestamp rs
+first_timestamp [] d some = absurd (omega arith)
+first_timestamp (r ∷ rs) d some = refl
+
+pub latest_timestamp : (rs : List Record) (d : Record) → 0 < length rs → max (get_or rs 0 d).timestamp (max_timestamp rs) ≡ max_timestamp rs
+latest_timestamp [] d some = absurd (omega arith)
+latest_timestamp (r ∷ rs) d some = omega arith
+
+pub summary_fits : (h : BatchHead) (rs : List Record) → FitsSigned w64 h.producer_id → FitsSigned w16 h.epoch → FitsSigned w32 h.base_sequence → 0 < length rs → length rs ≤ 2147483647 → base_timestamp rs < 2 ^ 63 → max_timestamp rs < 2 ^ 63
+    → summary.Fits (summary_of h rs)
+unfolding summary head
+summary_fits h rs id epoch sequence some few first latest =
+    (record { sfits = omega arith }, (last, (record { sfits = first }, (record { sfits = latest }, ((id, (epoch, sequence)), record { sfits = omega arith })))))
+  where
+    last : FitsSigned w32 (pos (length rs) -ℤ pos 1)
+    last = (let e : pos (length rs) -ℤ pos 1 ≡ pos (length rs - 1) = omega (arith, ints) in rw e (record { sfits = omega arith }))
+
+pub covered_spelled : (h : BatchHead) (rs : List Record) (o0 o1 o2 : List ℕ) → o1 ≡ o0 ++ summary.spell (summary_of h rs) → o2 ≡ o1 ++ flat_map relative_record.spell (relatives_from (base_timestamp rs) 0 rs) → o2 ≡ o0 ++ covered h rs
+unfolding covered
+covered_spelled h rs o0 o1 o2 e1 e2 = rw (e2, e1) (append_assoc o0 (summary.spell (summary_of h rs)) (flat_map relative_record.spell (relatives_from (base_timestamp rs) 0 rs)))
+
+-- ---- the batch
+
+unfoldable pub unsealed : ℤ → Front
+unsealed len = record { base_offset = pos 0; batch_length = len; leader_epoch = negsuc 0; magic = pos 2; checksum = 0 }
+
+abbrev pub sealed_with : ℕ → List ℕ → List ℕ
+sealed_with c bytes = take 17 bytes ++ to_be_bytes w32 c ++ drop 21 bytes
+
+-- the checksum in its place
+sealed_front : (len : ℤ) (c : ℕ) (cov : List ℕ) → sealed_with c (front.spell (unsealed len) ++ cov) ≡ front.spell (front_with (pos 0) len (negsuc 0) (pos 2) c) ++ cov
+unfolding front unsealed
+sealed_front len c cov = refl
+
+behind_front : (len : ℤ) (cov : List ℕ) → drop 21 (front.spell (unsealed len) ++ cov) ≡ cov
+unfolding front unsealed
+behind_front len cov = refl
+
+front_fits : (h : BatchHead) (rs : List Record) → 9 + length (covered h rs) < 2 ^ 31 → crc (covered h rs) < 2 ^ 32 → front.Fits (front_of (written h rs))
+unfolding front front_of
+front_fits h rs small sum = (record { sfits = omega arith }, (record { sfits = small }, (record { sfits = omega arith }, (record { sfits = omega arith }, sum))))
+
+front_is_of : (h : BatchHead) (rs : List Record) → front_with (pos 0) (pos (9 + length (covered h rs))) (negsuc 0) (pos 2) (crc (covered h rs)) ≡ front_of (written h rs)
+unfolding front_of
+front_is_of h rs = refl
+
+pub batch_spelled : (h : BatchHead) (rs : List Record) (len : ℤ) (before after : List ℕ) → len ≡ pos (9 + length (covered h rs)) → 9 + length (covered h rs) < 2 ^ 31 → before ≡ front.spell (unsealed len) ++ covered h rs
+    → HasFields h rs → crc (drop 21 before) < 2 ^ 32 → after ≡ sealed_with (crc (drop 21 before)) before → Spells after (written h rs)
+unfolding spelling
+batch_spelled h rs len before after len-is small before-is fits sum sealed =
+    let cov = covered h rs in
+    let behind : drop 21 before ≡ cov = ap (drop 21) before-is ∙ behind_front len cov in
+    let checksum : crc (drop 21 before) ≡ crc cov = ap crc behind in
+    record {
+      is_batch = record { front = front_fits h rs small (omega (arith, checksum)); fields = fits };
+      is_spelling =
+          sealed ∙ ap (sealed_with (crc (drop 21 before))) before-is ∙ sealed_front len (crc (drop 21 before)) cov
+          ∙ ap (λ (x : ℕ). front.spell (front_with (pos 0) len (negsuc 0) (pos 2) x) ++ cov) checksum
+          ∙ ap (λ (x : ℤ). front.spell (front_with (pos 0) x (negsuc 0) (pos 2) (crc cov)) ++ cov) len-is
+          ∙ ap (λ (x : Front). front.spell x ++ cov) (front_is_of h rs);
+    }
+
+length-sealed : (c : ℕ) (bytes : List ℕ) → 21 ≤ length bytes → length (sealed_with c bytes) ≡ length bytes
+length-sealed c bytes long =
+    let four : length (to_be_bytes w32 c) ≡ 4 = refl in
+    let front-part : length (take 17 bytes ++ to_be_bytes w32 c) ≡ length (take 17 bytes) + 4 = length-append (take 17 bytes) (to_be_bytes w32 c) in
+    let total : length (take 17 bytes ++ to_be_bytes w32 c) + length (drop 21 bytes) ≡ length bytes = omega (arith, front-part, length-take 17 bytes, length-drop 21 bytes) in
+    length-append (take 17 bytes ++ to_be_bytes w32 c) (drop 21 bytes) ∙ total
+
+-- all of the bytes went through the slice that was sealed
+pub sealed_whole : (n c : ℕ) (bytes new : List ℕ) → 21 ≤ length bytes → n ≡ length bytes → new ≡ sealed_with c bytes → take n (new ++ drop (length new) bytes) ≡ sealed_with c bytes
+sealed_whole n c bytes new long len is =
+    let same : length new ≡ n = ap length is ∙ length-sealed c bytes long ∙ sym len in
+    take_at new (drop (length new) bytes) n same ∙ is

@@ -19,5 +19,6 @@ pub use fault::BatchFault;
 pub use reading::read_batch;
 pub use record::{Header, Record, Timestamp};
 pub use size::{SIZE_LIMIT, batch_size, record_size};
+pub use writing::write_batch;
 
 

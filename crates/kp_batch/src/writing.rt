@@ -3,6 +3,7 @@
 ghost use Rattle.std.specs.Prelude.{◌≡◌, ℕ, ◌+◌, ◌<◌, ◌≤◌, ◌++◌, ◌^◌, length, take, drop, max, IfOk, OnOk, IsErrOf};
 ghost use Rattle.std.specs.Int.{w32, to_be_bytes};
 ghost use Rattle.std.specs.List.{flat_map, AllByRecursion};
+ghost use Rattle.kp_wire.specs.Checksum.{crc};
 ghost use Rattle.kp_batch.specs.Record.{bytes_or_null, header, headers, fields, fields_size, relative_record};
 ghost use Rattle.kp_batch.specs.Spelling.{front, head, summary, relative_by, relatives_from, max_timestamp, size_of_batch, covered, HasFields, written, Spells};
 
@@ -12,6 +13,18 @@ use crate::size::{SIZE_LIMIT, batch_size, record_fields_size};
 use crate::summary::{Front, Summary};
 use kp_wire::{Blob, WriteError, WriteField, crc32c, put_all, put_i8, put_i16, put_i32, put_i64, put_u32, put_varint, put_varlong};
 use std::alloc::{AllocError, Global};
+
+/// The bytes of a batch up to its length, which the length doesn't count.
+const LENGTH_END: u64 = 12;
+
+/// The magic byte that is written.
+const MAGIC: i8 = 2;
+
+/// Where the checksum stands.
+const CHECKSUM_AT: usize = 17;
+
+/// Where begins what the checksum covers.
+const COVERED_AT: usize = 21;
 
 /// Appends the bytes behind their length, or the length -1 where there are none. An `Err` may leave a part.
 #[tactic(auto, unfolding(crate::specs::Record::bytes_or_null, crate::specs::Record::length_field))]
@@ -187,12 +200,14 @@ fn put_summary(out: &mut Vec<u8>, s: &Summary) -> Result<(), AllocError>
     Ok(())
 }
 
-/// Puts the checksum into its place.
-fn set_checksum(bytes: &mut [u8], checksum: u32)
+/// Puts the checksum of what it covers into its place.
+fn seal(bytes: &mut [u8])
     requires { 21 ≤ length bytes.old }
-    ensures { bytes.new ≡ take 17 bytes.old ++ to_be_bytes w32 checksum ++ drop 21 bytes.old }
+    ensures sealed { bytes.new ≡ take 17 bytes.old ++ to_be_bytes w32 (crc (drop 21 bytes.old)) ++ drop 21 bytes.old }
+    ensures fits { crc (drop 21 bytes.old) < 2 ^ 32 }
 {
-    bytes[17..21].copy_from_slice(&checksum.to_be_bytes());
+    let checksum = crc32c(&bytes[COVERED_AT..]);
+    bytes[CHECKSUM_AT..COVERED_AT].copy_from_slice(&checksum.to_be_bytes());
 }
 
 /// Appends what the checksum covers: the fields behind it, and the records. An `Err` may leave a part.
@@ -214,5 +229,37 @@ fn put_covered(out: &mut Vec<u8>, h: BatchHead, records: &[Record]) -> Result<()
         count,
     };
     put_summary(out, &s)?;
-    put_records(out, base, records)
+    put_records(out, base, records)?;
+    Ok(())
+}
+
+/// The batch of these records, as a producer writes it: base offset 0, leader epoch -1. It has a record, and
+/// its size, which `batch_size` tells, is at most `SIZE_LIMIT`.
+pub fn write_batch(
+    alloc: Global,
+    h: BatchHead,
+    records: &[Record],
+) -> Result<Vec<u8>, AllocError>
+    requires some { 0 < length records.now }
+    requires fits { size_of_batch records.now ≤ SIZE_LIMIT }
+    ensures { IfOk result (λ bytes. Spells bytes.items (written h records.now)) }
+{
+    let size = batch_size(records);
+    let mut out = Vec::with_capacity(alloc, size as usize)?;
+    let front = Front {
+        base_offset: 0,
+        batch_length: (size - LENGTH_END) as i32,
+        leader_epoch: -1,
+        magic: MAGIC,
+        checksum: 0,
+    };
+    put_front(&mut out, &front)?;
+    match put_covered(&mut out, h, records) {
+        Ok(()) => {
+            seal(&mut out);
+            Ok(out)
+        }
+        Err(WriteError::Memory) => Err(AllocError),
+        Err(WriteError::BadLength) => unreachable!(),
+    }
 }
