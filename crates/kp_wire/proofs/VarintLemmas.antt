@@ -178,6 +178,7 @@ holds32 = record {
     half : (b : Bool) (k : ℕ) → k < 2 ^ 31 → FitsSigned w32 (cond b (pos k) (negsuc k))
     half true k h = record { sfits = h }
     half false k h = record { sfits = h }
+
     below : (z : ℤ) → FitsSigned w32 z → zigzag z < 34359738368 / 8
     below (pos n) h = omega arith
     below (negsuc n) h = omega arith
@@ -193,6 +194,7 @@ holds64 = record {
     half : (b : Bool) (k : ℕ) → k < 2 ^ 63 → FitsSigned w64 (cond b (pos k) (negsuc k))
     half true k h = record { sfits = h }
     half false k h = record { sfits = h }
+
     below : (z : ℤ) → FitsSigned w64 z → zigzag z < 2 ^ 64
     below (pos n) h = omega arith
     below (negsuc n) h = omega arith

@@ -50,6 +50,7 @@ impl Blob {
     pub fn into_vec(self) -> Vec<u8>
         ensures { result.items ≡ self }
     {
-        self.bytes
+        let Blob { bytes } = self;
+        bytes
     }
 }

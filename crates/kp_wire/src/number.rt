@@ -73,7 +73,8 @@ pub fn put_i8(out: &mut Vec<u8>, n: i8) -> Result<(), AllocError>
     ensures ok { OnOk result (out.new.items ≡ out.old.items ++ (int w8).spell n) }
     ensures err { OnErr result (out.new.items ≡ out.old.items) }
 {
-    out.extend_from_slice(&n.to_be_bytes())
+    let int8 = n.to_be_bytes();
+    out.extend_from_slice(&int8)
 }
 
 /// Appends the int16. An `Err` leaves `out` as it was.
@@ -81,7 +82,8 @@ pub fn put_i16(out: &mut Vec<u8>, n: i16) -> Result<(), AllocError>
     ensures ok { OnOk result (out.new.items ≡ out.old.items ++ (int w16).spell n) }
     ensures err { OnErr result (out.new.items ≡ out.old.items) }
 {
-    out.extend_from_slice(&n.to_be_bytes())
+    let int16 = n.to_be_bytes();
+    out.extend_from_slice(&int16)
 }
 
 /// Appends the int32. An `Err` leaves `out` as it was.
@@ -89,7 +91,8 @@ pub fn put_i32(out: &mut Vec<u8>, n: i32) -> Result<(), AllocError>
     ensures ok { OnOk result (out.new.items ≡ out.old.items ++ (int w32).spell n) }
     ensures err { OnErr result (out.new.items ≡ out.old.items) }
 {
-    out.extend_from_slice(&n.to_be_bytes())
+    let int32 = n.to_be_bytes();
+    out.extend_from_slice(&int32)
 }
 
 /// Appends the int64. An `Err` leaves `out` as it was.
@@ -97,7 +100,8 @@ pub fn put_i64(out: &mut Vec<u8>, n: i64) -> Result<(), AllocError>
     ensures ok { OnOk result (out.new.items ≡ out.old.items ++ (int w64).spell n) }
     ensures err { OnErr result (out.new.items ≡ out.old.items) }
 {
-    out.extend_from_slice(&n.to_be_bytes())
+    let int64 = n.to_be_bytes();
+    out.extend_from_slice(&int64)
 }
 
 /// Appends the unsigned number of 32 bits. An `Err` leaves `out` as it was.
@@ -105,5 +109,6 @@ pub fn put_u32(out: &mut Vec<u8>, n: u32) -> Result<(), AllocError>
     ensures ok { OnOk result (out.new.items ≡ out.old.items ++ (number w32).spell n) }
     ensures err { OnErr result (out.new.items ≡ out.old.items) }
 {
-    out.extend_from_slice(&n.to_be_bytes())
+    let uint32 = n.to_be_bytes();
+    out.extend_from_slice(&uint32)
 }

@@ -53,6 +53,7 @@ impl Text {
     pub fn into_string(self) -> String
         ensures { string_bytes result ≡ self }
     {
-        self.text
+        let Text { text } = self;
+        text
     }
 }

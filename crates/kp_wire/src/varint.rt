@@ -173,10 +173,8 @@ pub fn take_varint(bytes: &[u8]) -> Result<(i32, usize), WireFault>
     ensures found { IfOk result (λ x. take x.1 bytes.now ≡ varint.spell x.0) }
 
     // What is spelled so is read.
-    ensures only {
-        (n : ℤ) (rest : List ℕ) → varint.Fits n → bytes.now ≡ varint.spell n ++ rest
-        → result ≡ Ok (n, length (varint.spell n))
-    }
+    ensures only { (n : ℤ) (rest : List ℕ) → varint.Fits n → bytes.now ≡ varint.spell n ++ rest
+        → result ≡ Ok (n, length (varint.spell n)) }
 
     // Which fault it is.
     ensures exact { Took bytes.now result (varint.read bytes.now) }
@@ -197,10 +195,8 @@ pub fn take_varlong(bytes: &[u8]) -> Result<(i64, usize), WireFault>
     ensures found { IfOk result (λ x. take x.1 bytes.now ≡ varlong.spell x.0) }
 
     // What is spelled so is read.
-    ensures only {
-        (n : ℤ) (rest : List ℕ) → varlong.Fits n → bytes.now ≡ varlong.spell n ++ rest
-        → result ≡ Ok (n, length (varlong.spell n))
-    }
+    ensures only { (n : ℤ) (rest : List ℕ) → varlong.Fits n → bytes.now ≡ varlong.spell n ++ rest
+        → result ≡ Ok (n, length (varlong.spell n)) }
 
     // Which fault it is.
     ensures exact { Took bytes.now result (varlong.read bytes.now) }
