@@ -152,7 +152,7 @@ records_again : (rs : List RelativeRecord) → AllByRecursion relative_record.Fi
 unfolding all_records
 records_again rs fits =
     let e : read_many relative_record.read (length rs) (flat_map relative_record.spell rs) ≡ Ok (rs, []) =
-        ap (read_many relative_record.read (length rs)) (sym (append-nil (flat_map relative_record.spell rs))) ∙ many_again 0 relative_record rs [] relative_record_exact fits (omega arith) in
+    ap (read_many relative_record.read (length rs)) (sym (append-nil (flat_map relative_record.spell rs))) ∙ many_again 0 relative_record rs [] relative_record_exact fits (omega arith) in
     rw e refl
 
 -- ---- values from their fields
@@ -328,7 +328,7 @@ batch_again bytes b p =
     let base = base_timestamp b.records in
     let opens = opened_again (spelling b) (opened_as b) (opens_again b h) in
     let records : all_records (length b.records) (flat_map relative_record.spell (relatives b.records)) ≡ Ok (relatives b.records) =
-        ap (λ (n : ℕ). all_records n (flat_map relative_record.spell (relatives b.records))) (sym (length-relatives_from base 0 b.records)) ∙ records_again (relatives b.records) h.fields.records in
+    ap (λ (n : ℕ). all_records n (flat_map relative_record.spell (relatives b.records))) (sym (length-relatives_from base 0 b.records)) ∙ records_again (relatives b.records) h.fields.records in
     ap batch_at p.is_spelling ∙ rw (opens, records, in_places-relatives_from base 0 b.records, timed_again b.head b.records h.fields.moments, records_of-relatives_from base 0 b.records, front_offset b, front_leader b) refl
 
 -- ---- what read_batch gives

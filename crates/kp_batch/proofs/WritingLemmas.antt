@@ -54,7 +54,7 @@ pub record_more : (base k : ℕ) (rs : List Record) (r : Record) (out more whole
 record_more base k rs r out more whole lt e here so_far =
     let rest = relatives_from base (k + 1) (drop (k + 1) rs) in
     let one : flat_map relative_record.spell (relatives_from base k (drop k rs)) ≡ relative_record.spell (relative base k r) ++ flat_map relative_record.spell rest =
-        ap (flat_map relative_record.spell) (relatives_from-here base k rs r lt e) ∙ flat_map-cons relative_record.spell (relative base k r) rest in
+    ap (flat_map relative_record.spell) (relatives_from-here base k rs r lt e) ∙ flat_map-cons relative_record.spell (relative base k r) rest in
     rw here (append_assoc out (relative_record.spell (relative base k r)) (flat_map relative_record.spell rest) ∙ sym (ap (λ (x : List ℕ). out ++ x) one) ∙ so_far)
 
 pub fits_more : (base k : ℕ) (rs : List Record) (r : Record) (P : Type 0) → k < length rs → r ≡ get_or rs k r → relative_record.Fits (relative base k r)

@@ -6,9 +6,6 @@ ghost use Rattle.kp_batch.specs.Spelling.{Spells};
 
 /// A batch has at most one spelling, a spelling is that of one batch, and none is a proper prefix of another.
 pub fn batch_has_one_spelling()
-    ensures {
-        (a b : Batch) (x y rest : List ℕ) → Spells x a → Spells y b → y ≡ x ++ rest
-        → (a ≡ b) × (rest ≡ [])
-    }
-{
-}
+    ensures { (a b : Batch) (x y rest : List ℕ) → Spells x a → Spells y b → y ≡ x ++ rest
+        → (a ≡ b) × (rest ≡ []) }
+{}

@@ -4,21 +4,19 @@
 mod batch;
 mod fault;
 pub mod laws;
-
 mod reading;
 mod record;
 mod relative;
 mod size;
-
 mod summary;
 mod writing;
 
 pub use batch::{Batch, BatchHead};
 pub use fault::BatchFault;
-
 pub use reading::read_batch;
 pub use record::{Header, Record, Timestamp};
 pub use size::{SIZE_LIMIT, batch_size, record_size};
 pub use writing::write_batch;
 
-
+#[cfg(test)]
+mod tests;

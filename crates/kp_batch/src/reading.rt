@@ -47,12 +47,14 @@ fn is_at_base(records: &[RelativeRecord]) -> bool
 
 /// The moment of a record, where there is one.
 fn moment(summary: &Summary, relative: &RelativeRecord) -> Option<Timestamp>
-    ensures {
-        let at = summary.now.base_timestamp +ℤ relative.now.timestamp_delta in
-        result ≡ (if is_moment at then Some (nat_abs at) else None)
-    }
+    ensures { let at = summary.now.base_timestamp +ℤ relative.now.timestamp_delta in
+        result ≡ (if is_moment at then Some (nat_abs at) else None) }
 {
-    Timestamp::from_millis(summary.base_timestamp.checked_add(relative.timestamp_delta)?)
+    Timestamp::from_millis(
+        summary
+            .base_timestamp
+            .checked_add(relative.timestamp_delta)?,
+    )
 }
 
 /// The records with their own timestamps, and the greatest of these; None where one has no moment.
@@ -61,12 +63,10 @@ fn absolute_records(
     summary: &Summary,
     records: Seq<RelativeRecord>,
 ) -> Result<Option<(Seq<Record>, u64)>, AllocError>
-    ensures {
-        let base = summary.now.base_timestamp in
+    ensures { let base = summary.now.base_timestamp in
         IfOk result (λ found. MatchOption found
-            (are_moments base records ≡ false)
-            (λ x. (are_moments base records ≡ true) × (x.0 ≡ records_of base records) × (x.1 ≡ max_timestamp (records_of base records))))
-    }
+        (are_moments base records ≡ false)
+        (λ x. (are_moments base records ≡ true) × (x.0 ≡ records_of base records) × (x.1 ≡ max_timestamp (records_of base records)))) }
 {
     let mut absolute = Vec::with_capacity(alloc, records.len())?;
     let mut greatest = 0u64;
@@ -143,10 +143,8 @@ pub fn read_batch(alloc: Global, bytes: &[u8]) -> Result<Batch, BatchFault>
     ensures found { IfOk result (Spells bytes.now) }
 
     // What is spelled so is read, unless memory is refused.
-    ensures only {
-        (b : BatchValue) → Spells bytes.now b
-        → MatchResult result (λ x. x ≡ b) (λ fault. fault ≡ BatchFault.OutOfMemory)
-    }
+    ensures only { (b : BatchValue) → Spells bytes.now b
+        → MatchResult result (λ x. x ≡ b) (λ fault. fault ≡ BatchFault.OutOfMemory) }
 
     // Which fault it is.
     ensures exact { Answers bytes.now (λ b. b) result (batch_at bytes.now) }

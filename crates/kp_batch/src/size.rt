@@ -73,7 +73,10 @@ pub(crate) fn record_fields_size(body: &Record, timestamp_delta: i64, offset_del
 {
     let before = 1 + varlong_len(timestamp_delta) + varint_len(offset_delta);
     let key_and_value = add_sizes(nullable_size(&body.key), nullable_size(&body.value));
-    add_sizes(before, add_sizes(key_and_value, headers_size(body.headers.as_slice())))
+    add_sizes(
+        before,
+        add_sizes(key_and_value, headers_size(body.headers.as_slice())),
+    )
 }
 
 /// The size of a record in a batch, where its timestamp and its offset are so much above those of the batch;
@@ -88,8 +91,7 @@ pub fn record_size(body: &Record, timestamp_delta: i64, offset_delta: i32) -> u6
     add_sizes(varint_len(fields as i32), fields)
 }
 
-/// The size of the batch of these records; u64::MAX where it is above the limit.
-pub fn batch_size(records: &[Record]) -> u64
+fn measure(records: &[Record]) -> u64
     ensures { result ≡ measured (size_of_batch records.now) }
 {
     let base = match records {
@@ -105,4 +107,12 @@ pub fn batch_size(records: &[Record]) -> u64
         size = add_sizes(size, record_size(body, timestamp_delta, k as i32));
     }
     size
+}
+
+/// The size of the batch of these records; u64::MAX where it is above the limit.
+pub fn batch_size(records: &[Record]) -> u64
+    ensures value { result ≡ measured (size_of_batch records.now) }
+    ensures fits { result ≤ SIZE_LIMIT → size_of_batch records.now ≤ SIZE_LIMIT }
+{
+    measure(records)
 }

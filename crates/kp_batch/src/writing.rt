@@ -11,7 +11,10 @@ use crate::batch::BatchHead;
 use crate::record::{Header, Record, Timestamp};
 use crate::size::{SIZE_LIMIT, batch_size, record_fields_size};
 use crate::summary::{Front, Summary};
-use kp_wire::{Blob, WriteError, WriteField, crc32c, put_all, put_i8, put_i16, put_i32, put_i64, put_u32, put_varint, put_varlong};
+use kp_wire::{
+    Blob, WriteError, WriteField, crc32c, put_all, put_i8, put_i16, put_i32, put_i64, put_u32,
+    put_varint, put_varlong,
+};
 use std::alloc::{AllocError, Global};
 
 /// The bytes of a batch up to its length, which the length doesn't count.
@@ -93,14 +96,10 @@ fn put_fields(
     timestamp_delta: i64,
     offset_delta: i32,
 ) -> Result<(), WriteError>
-    ensures spelled {
-        OnOk result (out.new.items ≡ out.old.items ++ (fields 0).spell (relative_by timestamp_delta offset_delta body.now))
-    }
+    ensures spelled { OnOk result (out.new.items ≡ out.old.items ++ (fields 0).spell (relative_by timestamp_delta offset_delta body.now)) }
     ensures fits { OnOk result ((fields 0).Fits (relative_by timestamp_delta offset_delta body.now)) }
-    ensures long_only {
-        IsErrOf result WriteError.BadLength
-        → SIZE_LIMIT < fields_size (relative_by timestamp_delta offset_delta body.now)
-    }
+    ensures long_only { IsErrOf result WriteError.BadLength
+        → SIZE_LIMIT < fields_size (relative_by timestamp_delta offset_delta body.now) }
 {
     out.push(0)?;
     put_varlong(out, timestamp_delta)?;
@@ -119,14 +118,10 @@ fn put_record(
     timestamp_delta: i64,
     offset_delta: i32,
 ) -> Result<(), WriteError>
-    ensures spelled {
-        OnOk result (out.new.items ≡ out.old.items ++ relative_record.spell (relative_by timestamp_delta offset_delta body.now))
-    }
+    ensures spelled { OnOk result (out.new.items ≡ out.old.items ++ relative_record.spell (relative_by timestamp_delta offset_delta body.now)) }
     ensures fits { OnOk result (relative_record.Fits (relative_by timestamp_delta offset_delta body.now)) }
-    ensures long_only {
-        IsErrOf result WriteError.BadLength
-        → SIZE_LIMIT < length (relative_record.spell (relative_by timestamp_delta offset_delta body.now))
-    }
+    ensures long_only { IsErrOf result WriteError.BadLength
+        → SIZE_LIMIT < length (relative_record.spell (relative_by timestamp_delta offset_delta body.now)) }
 {
     let size = record_fields_size(body, timestamp_delta, offset_delta);
     if size > SIZE_LIMIT {
@@ -143,10 +138,8 @@ fn put_records(out: &mut Vec<u8>, base: Timestamp, records: &[Record]) -> Result
     ensures spelled { OnOk result (out.new.items ≡ out.old.items ++ flat_map relative_record.spell (relatives_from base 0 records.now)) }
     ensures fits { OnOk result (AllByRecursion relative_record.Fits (relatives_from base 0 records.now)) }
     ensures moments { OnOk result (AllByRecursion (λ r. r.timestamp < 2 ^ 63) records.now) }
-    ensures long_only {
-        IsErrOf result WriteError.BadLength
-        → SIZE_LIMIT < length (flat_map relative_record.spell (relatives_from base 0 records.now))
-    }
+    ensures long_only { IsErrOf result WriteError.BadLength
+        → SIZE_LIMIT < length (flat_map relative_record.spell (relatives_from base 0 records.now)) }
 {
     for (k, body) in records.iter().enumerate() {
         let timestamp_delta = body.timestamp.millis() - base.millis();
@@ -235,11 +228,7 @@ fn put_covered(out: &mut Vec<u8>, h: BatchHead, records: &[Record]) -> Result<()
 
 /// The batch of these records, as a producer writes it: base offset 0, leader epoch -1. It has a record, and
 /// its size, which `batch_size` tells, is at most `SIZE_LIMIT`.
-pub fn write_batch(
-    alloc: Global,
-    h: BatchHead,
-    records: &[Record],
-) -> Result<Vec<u8>, AllocError>
+pub fn write_batch(alloc: Global, h: BatchHead, records: &[Record]) -> Result<Vec<u8>, AllocError>
     requires some { 0 < length records.now }
     requires fits { size_of_batch records.now ≤ SIZE_LIMIT }
     ensures { IfOk result (λ bytes. Spells bytes.items (written h records.now)) }

@@ -64,9 +64,7 @@ fn read_bytes_by(
     len: i32,
     after: usize,
 ) -> Result<(Option<Blob>, &[u8]), ReadError>
-    ensures {
-        Gives (λ x. (x.0, x.1.now)) result (by_nullable_length (λ n. (within after (plain n)).read) len bytes.now)
-    }
+    ensures { Gives (λ x. (x.0, x.1.now)) result (by_nullable_length (λ n. (within after (plain n)).read) len bytes.now) }
 {
     if len < -1 {
         return Err(ReadError::Fault(WireFault::BadLength));
@@ -98,9 +96,7 @@ fn read_text_by(
     len: i32,
     after: usize,
 ) -> Result<(Text, &[u8]), ReadError>
-    ensures {
-        Gives (λ x. (x.0, x.1.now)) result (by_length (λ n. (within after (utf8 n)).read) len bytes.now)
-    }
+    ensures { Gives (λ x. (x.0, x.1.now)) result (by_length (λ n. (within after (utf8 n)).read) len bytes.now) }
 {
     if len < 0 {
         return Err(ReadError::Fault(WireFault::BadLength));
@@ -136,9 +132,7 @@ fn read_headers_by(
     count: i32,
     after: usize,
 ) -> Result<(Seq<Header>, &[u8]), ReadError>
-    ensures {
-        Gives (λ x. (x.0, x.1.now)) result (by_length (λ n. (many (header after) n).read) count bytes.now)
-    }
+    ensures { Gives (λ x. (x.0, x.1.now)) result (by_length (λ n. (many (header after) n).read) count bytes.now) }
 {
     if count < 0 {
         return Err(ReadError::Fault(WireFault::BadLength));

@@ -41,11 +41,7 @@ fn read_fields(
 
 /// The record whose length is `len`: its fields end where it ends.
 #[tactic(auto, unfolding(crate::specs::Record::read_fields))]
-fn read_sized(
-    alloc: Global,
-    bytes: &[u8],
-    len: usize,
-) -> Result<(RelativeRecord, &[u8]), ReadError>
+fn read_sized(alloc: Global, bytes: &[u8], len: usize) -> Result<(RelativeRecord, &[u8]), ReadError>
     ensures { Gives (λ x. (x.0, x.1.now)) result (read_fields len bytes.now) }
 {
     let after = bytes.len().saturating_sub(len);
@@ -74,7 +70,11 @@ impl ReadField for RelativeRecord {
 
 /// So many records, all of the bytes.
 #[tactic(auto, unfolding(crate::specs::Reading::all_records))]
-pub(super) fn read_records(alloc: Global, count: u32, bytes: &[u8]) -> Result<Seq<RelativeRecord>, ReadError>
+pub(super) fn read_records(
+    alloc: Global,
+    count: u32,
+    bytes: &[u8],
+) -> Result<Seq<RelativeRecord>, ReadError>
     ensures { Gives (λ x. x) result (all_records count bytes.now) }
 {
     let (records, rest) = read_many::<RelativeRecord>(alloc, count, bytes, 0)?;

@@ -35,6 +35,6 @@ returns c =
     let base = c.args.summary.now.base_timestamp in
     let none : into_iter_items c.loop-record.record-iterator ≡ [] = nil_from_length _ (omega (arith, c.loop-record.invariant.counted, c.in-None.ensures.steps.0)) in
     let made : c.loop-record.absolute.items ≡ records_of base c.args.records =
-        sym (append-nil c.loop-record.absolute.items) ∙ rw none at c.loop-record.invariant.made in
+    sym (append-nil c.loop-record.absolute.items) ∙ rw none at c.loop-record.invariant.made in
     let greatest : c.loop-record.greatest ≡ max_timestamp (records_of base c.args.records) = omega (arith, rw none at c.loop-record.invariant.greatest) in
     (moments_done base _ _ none c.loop-record.invariant.moments, c.new.ensures ∙ made, greatest)

@@ -26,7 +26,7 @@ loop-h-preserved c =
 pub returns : goal.returns
 returns c =
     let none : length (flat_map (header 0).spell (drop c.loop-h.h-index c.args.hs.now)) ≡ 0 =
-        ap (λ (t : List Header). length (flat_map (header 0).spell t)) (drop_all c.loop-h.h-index c.args.hs.now (omega arith)) in
+    ap (λ (t : List Header). length (flat_map (header 0).spell t)) (drop_all c.loop-h.h-index c.args.hs.now (omega arith)) in
     c.loop-h.invariant.so_far ∙ ap measured (omega (arith, none, length-headers c.args.hs.now))
 
 pub loop-h-init : goal.loop-h-init

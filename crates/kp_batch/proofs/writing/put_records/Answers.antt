@@ -17,7 +17,7 @@ loop-k-preserved c =
     let k = c.loop-k.k in
     let index : to_z w32 k ≡ pos k = omega (arith, ints, c.requires) in
     let delta : to_z w64 (of_z w64 (to_z w64 (of_z w64 c.millis.result) -ℤ to_z w64 (of_z w64 c.millis-in-loop-k.result))) ≡ pos body.timestamp -ℤ pos base =
-        omega (arith, ints, c.millis.ensures.value, c.millis.ensures.fits, c.millis-in-loop-k.ensures.value, c.millis-in-loop-k.ensures.fits) in
+    omega (arith, ints, c.millis.ensures.value, c.millis.ensures.fits, c.millis-in-loop-k.ensures.value, c.millis-in-loop-k.ensures.fits) in
     let spelled : c.put_record.new.out.items ≡ c.loop-k.out.items ++ relative_record.spell (relative base k body) = rw (delta, index) at c.in_ok-put_record.ensures.spelled in
     let fits : relative_record.Fits (relative base k body) = rw (delta, index) at c.in_ok-put_record.ensures.fits in
     record {

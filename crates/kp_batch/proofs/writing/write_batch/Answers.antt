@@ -12,10 +12,10 @@ use Rattle.kp_batch.proofs.WritingLemmas.{unsealed, batch_spelled, sealed_whole}
 use Rattle.kp_batch.proofs.writing.write_batch.Goals as goal
 
 pub overflow_sub-front : goal.overflow_sub-front
-overflow_sub-front c = omega (arith, c.batch_size-size.ensures, measured_small (size_of_batch c.args.records.now) c.requires.fits, size_of_batch-is c.args.records.now)
+overflow_sub-front c = omega (arith, c.batch_size-size.ensures.value, measured_small (size_of_batch c.args.records.now) c.requires.fits, size_of_batch-is c.args.records.now)
 
 pub overflow_cast-front : goal.overflow_cast-front
-overflow_cast-front c = record { sfits = omega (arith, c.batch_size-size.ensures, measured_small (size_of_batch c.args.records.now) c.requires.fits) }
+overflow_cast-front c = record { sfits = omega (arith, c.batch_size-size.ensures.value, measured_small (size_of_batch c.args.records.now) c.requires.fits) }
 
 pub put_covered-requires-clause-few : goal.put_covered-requires-clause-few
 put_covered-requires-clause-few c = omega (arith, c.requires.fits, size_of_batch-is c.args.records.now, many_records (base_timestamp c.args.records.now) 0 c.args.records.now)
@@ -40,7 +40,7 @@ returns-in-Ok c =
     let rs = c.args.records.now in
     let cov = covered h rs in
     let f = unsealed (to_z w32 (c.batch_size-size.result - 12)) in
-    let size : c.batch_size-size.result ≡ size_of_batch rs = c.batch_size-size.ensures ∙ measured_small (size_of_batch rs) c.requires.fits in
+    let size : c.batch_size-size.result ≡ size_of_batch rs = c.batch_size-size.ensures.value ∙ measured_small (size_of_batch rs) c.requires.fits in
     let parts : size_of_batch rs ≡ 21 + length cov = omega (arith, length-covered h rs, size_of_batch-is rs) in
     let len : to_z w32 (c.batch_size-size.result - 12) ≡ pos (9 + length cov) = omega (arith, ints, size, parts, c.requires.fits) in
     let whole : c.deref_mut.result.now ≡ front.spell f ++ cov = c.deref_mut.ensures.value ∙ before _ (front.spell f) cov _ _ c.in_ok-out.ensures.items c.in_ok-put_front.ensures c.in-Ok.ensures.spelled in

@@ -1,7 +1,7 @@
 use Rattle.std.proofs.Common.{◌≡◌, ◌+◌, ◌-◌, ◌≤◌, length, drop, pos}
 use Rattle.kp_batch.specs.Spelling.{measured, base_timestamp}
 use Rattle.kp_batch.proofs.SizeLemmas.{bytes_from}
-use Rattle.kp_batch.proofs.size.batch_size.Given as goal
+use Rattle.kp_batch.proofs.size.measure.Given as goal
 
 abbrev pub invariant-loop-k : goal.invariant-loop-k
 invariant-loop-k l = record {

@@ -1,0 +1,50 @@
+use Rattle.std.proofs.Common.{◌≡◌, ◌∙◌, ◌-◌, length, drop, sym, ap, pos, ℤ, refl, [], arith}
+use Rattle.std.specs.Prelude.{FitsSigned, ◌-ℤ◌}
+use Rattle.std.specs.Int.{w32, w64}
+use mir.Val.{to_z, of_z}
+use Rattle.std.proofs.lemmas.Int.{to_z-of_z, ints}
+use Rattle.std.proofs.lemmas.List.{nil_from_length}
+use Rattle.kp_batch.specs.Spelling.{relative, relative_by, measured, size_of_batch, base_timestamp}
+use Rattle.kp_batch.specs.Record.{relative_record}
+use Rattle.kp_batch.proofs.SizeLemmas.{bytes_from, measured_small, measured_large, small_measured, large_measured, size_of_batch-is, bytes_from-here, bytes_from-none, first_has_base, some_bytes}
+use Rattle.kp_batch.proofs.size.measure.Goals as goal
+
+pub returns-in-empty : goal.returns-in-empty
+unfolding size_of_batch
+returns-in-empty c = let none : c.args.records.now ≡ [] = nil_from_length c.args.records.now (omega arith) in rw none (sym (measured_small 61 (omega arith)))
+
+pub returns-then-size-gt-SIZE_LIMIT : goal.returns-then-size-gt-SIZE_LIMIT
+returns-then-size-gt-SIZE_LIMIT c =
+    let large = large_measured _ _ c.loop-k.invariant.so_far c.if-size-gt-SIZE_LIMIT.true in
+    sym (measured_large _ (omega (arith, large.1, c.loop-k.invariant.left, size_of_batch-is c.args.records.now)))
+
+pub loop-k-init : goal.loop-k-init
+loop-k-init c = record { left = omega arith; so_far = sym (measured_small _ (omega arith)) ∙ ap measured (omega arith) }
+
+pub overflow_cast-k : goal.overflow_cast-k
+overflow_cast-k c = let small = small_measured _ _ c.loop-k.invariant.so_far c.if-size-gt-SIZE_LIMIT.false in omega (arith, small, c.loop-k.invariant.left)
+
+pub loop-k-preserved : goal.loop-k-preserved
+loop-k-preserved c =
+    let records = c.args.records.now in
+    let base = base_timestamp records in
+    let body = c.index-records-k.result in
+    let first = first_has_base records c.first-item.result (omega arith) c.first-item.is in
+    let step = bytes_from-here base c.loop-k.k records body (omega arith) c.index-records-k.is in
+    let small = small_measured _ _ c.loop-k.invariant.so_far c.if-size-gt-SIZE_LIMIT.false in
+    let index : to_z w32 c.loop-k.k ≡ pos c.loop-k.k = omega (arith, ints, small, c.loop-k.invariant.left) in
+    let delta : to_z w64 (of_z w64 (to_z w64 (of_z w64 c.millis.result) -ℤ to_z w64 (of_z w64 c.millis-base.result))) ≡ pos body.timestamp -ℤ pos base =
+    omega (arith, ints, c.millis.ensures.value, c.millis.ensures.fits, c.millis-base.ensures.value, c.millis-base.ensures.fits, first) in
+    let one : c.record_size.result ≡ measured (length (relative_record.spell (relative base c.loop-k.k body))) =
+    c.record_size.ensures
+    ∙ ap (λ (d : ℤ). measured (length (relative_record.spell (relative_by d (to_z w32 c.loop-k.k) body)))) delta
+    ∙ ap (λ (n : ℤ). measured (length (relative_record.spell (relative_by (pos body.timestamp -ℤ pos base) n body)))) index in
+    record {
+      left = omega (arith, step, some_bytes (relative base c.loop-k.k body), c.loop-k.invariant.left);
+      so_far = c.add_sizes-size.ensures _ _ c.loop-k.invariant.so_far one ∙ ap measured (omega (arith, step, c.loop-k.invariant.left));
+    }
+
+pub returns : goal.returns
+returns c =
+    let none = bytes_from-none (base_timestamp c.args.records.now) c.loop-k.k c.args.records.now (omega arith) in
+    c.loop-k.invariant.so_far ∙ ap measured (omega (arith, none, size_of_batch-is c.args.records.now))
