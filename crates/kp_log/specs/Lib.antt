@@ -1,3 +1,4 @@
 pub mod Answer
 pub mod Log
 pub mod SequenceRule
+pub mod Verdict

@@ -1,8 +1,8 @@
 -- What a partition log holds.
-use Rattle.std.specs.Prelude.{◌≡◌, ℕ, zero, suc, ◌+◌, ◌-◌, List, [], ◌∷◌, ◌++◌, length, map, ℤ, pos, negsuc, drop, unwrap_or, if◌then◌else◌}
+use Rattle.std.specs.Prelude.{◌≡◌, ℕ, suc, ◌+◌, ◌-◌, ◌^◌, ◌≤◌, List, [], ◌∷◌, ◌++◌, length, map, ℤ, pos, drop, unwrap_or, if◌then◌else◌}
 use Rattle.std.specs.Ordering.{int_eq, int_cmp}
 use Rattle.std.specs.BTreeMap.{insert_entry, is_at}
-use Rattle.std_collections.specs.Map.{lookup}
+use Rattle.std.specs.Map.{lookup}
 use Rattle.kp_batch.specs.declared.batch.Batch.{Batch}
 use Rattle.kp_batch.specs.declared.record.Record.{Record}
 use Rattle.kp_log.specs.declared.stored.Stored.{Stored}
@@ -14,8 +14,11 @@ pub record Log : Type 0 where
   pub records : List Stored
   pub kept : List (ℤ × Kept)
 
+abbrev pub log_of : List Stored → List (ℤ × Kept) → Log
+log_of records kept = record { records = records; kept = kept }
+
 abbrev pub empty : Log
-empty = record { records = []; kept = [] }
+empty = log_of [] []
 
 -- how many records of a log are this producer's
 abbrev pub count_of : ℤ → List Stored → ℕ
@@ -45,14 +48,28 @@ stored_as id rs = map (λ r. record { producer_id = id; body = r }) rs
 abbrev pub span_of : Log → Batch → Span
 span_of log b = record { base_sequence = b.head.base_sequence; count = length b.records; base_offset = pos (length log.records) }
 
-abbrev pub kept_with : Log → Batch → Kept
-kept_with log b = record {
-  count = (kept_of b.head.producer_id log).count + length b.records;
-  spans = last_kept ((kept_of b.head.producer_id log).spans ++ span_of log b ∷ []);
-}
+-- what is kept with one batch more
+abbrev pub kept_after : Kept → Span → Kept
+kept_after kept span = record { count = kept.count + span.count; spans = last_kept (kept.spans ++ span ∷ []) }
 
 abbrev pub appended : Log → Batch → Log
 appended log b = record {
   records = log.records ++ stored_as b.head.producer_id b.records;
-  kept = insert_entry int_cmp log.kept b.head.producer_id (kept_with log b);
+  kept = insert_entry int_cmp log.kept b.head.producer_id (kept_after (kept_of b.head.producer_id log) (span_of log b));
 }
+
+-- ---- what is true of each log
+
+-- the first number that no sequence number may reach: they are int32s
+abbrev pub SEQUENCE_LIMIT : ℕ
+SEQUENCE_LIMIT = 2 ^ 31
+
+-- the greatest length of a log: offsets are int64s
+abbrev pub LENGTH_LIMIT : ℕ
+LENGTH_LIMIT = 2 ^ 63 - 1
+
+-- The kept counts are those of the records, and no number leaves its type.
+pub record IsSound (log : Log) : Type 0 where
+  pub counted : (id : ℤ) → (kept_of id log).count ≡ count_of id log.records
+  pub in_sequence : (id : ℤ) → count_of id log.records ≤ SEQUENCE_LIMIT
+  pub in_length : length log.records ≤ LENGTH_LIMIT

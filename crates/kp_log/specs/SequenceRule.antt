@@ -1,21 +1,14 @@
 -- What a partition log answers to a batch, and what becomes of the log (KIP-98, "Broker logic").
-use Rattle.std.specs.Prelude.{◌≡◌, ℕ, zero, suc, ◌+◌, ◌^◌, List, [], ◌∷◌, length, ℤ, pos, negsuc, Option, Some, None, Result, Ok, Err, Bool, true, false, ◌&&◌, ◌==◌, not, nat_le, int_lt, int_le, ◌+ℤ◌, if◌then◌else◌}
+use Rattle.std.specs.Prelude.{◌≡◌, ◌+◌, ◌≤◌, ◌≤ℤ◌, List, [], ◌∷◌, length, pos, Option, Some, None, Result, Ok, Err, Bool, false, ◌&&◌, ◌==◌, not, nat_le, int_lt, int_le, ◌+ℤ◌, find, if◌then◌else◌}
 use Rattle.std.specs.Ordering.{int_eq}
 use Rattle.kp_batch.specs.declared.batch.Batch.{Batch}
 use Rattle.kp_batch.specs.declared.fault.BatchFault.{BatchFault}
 use Rattle.kp_log.specs.declared.answer.Answer.{Answer}
 use Rattle.kp_log.specs.declared.answer.Answer.TheVariants as answer
 use Rattle.kp_log.specs.declared.answer.Refusal.TheVariants.{CorruptMessage, InvalidRequest, InvalidProducerEpoch, DuplicateSequenceNumber, OutOfOrderSequenceNumber}
+use Rattle.kp_log.specs.declared.stored.Stored.{Stored}
 use Rattle.kp_log.specs.declared.kept.Span.{Span}
-use Rattle.kp_log.specs.Log.{Log, count_of, kept_of, appended}
-
--- the first number that no sequence number may reach: they are int32s
-abbrev pub SEQUENCE_LIMIT : ℕ
-SEQUENCE_LIMIT = 2 ^ 31
-
--- the greatest length of a log: offsets are int64s
-abbrev pub LENGTH_LIMIT : ℕ
-LENGTH_LIMIT = 2 ^ 63 - 1
+use Rattle.kp_log.specs.Log.{Log, count_of, kept_of, appended, SEQUENCE_LIMIT, LENGTH_LIMIT}
 
 -- an answer, and the log after it
 pub record Step : Type 0 where
@@ -29,16 +22,15 @@ is_repeat b s = int_eq b.head.base_sequence s.base_sequence && (length b.records
 
 -- the kept batch that this one repeats
 abbrev pub repeated : Batch → List Span → Option Span
-repeated b [] = None
-repeated b (s ∷ rest) = if is_repeat b s then Some s else repeated b rest
+repeated b spans = find (is_repeat b) spans
 
 -- ---- the next in sequence
 
-abbrev pub is_next : Log → Batch → Bool
-is_next log b =
-    int_eq b.head.base_sequence (pos (count_of b.head.producer_id log.records))
+abbrev pub is_next : List Stored → Batch → Bool
+is_next records b =
+    int_eq b.head.base_sequence (pos (count_of b.head.producer_id records))
     && int_le (b.head.base_sequence +ℤ pos (length b.records)) (pos SEQUENCE_LIMIT)
-    && nat_le (length log.records + length b.records) LENGTH_LIMIT
+    && nat_le (length records + length b.records) LENGTH_LIMIT
 
 -- ---- older than the kept batches
 
@@ -53,10 +45,13 @@ is_older b (oldest ∷ later) =
 abbrev pub unchanged : Log → Answer → Step
 unchanged log a = record { answer = a; log = log }
 
+abbrev pub stored : Log → Batch → Step
+stored log b = record { answer = answer.Stored (pos (length log.records)); log = appended log b }
+
 -- a batch that repeats none of those kept
 abbrev pub judged_new : Log → Batch → Step
 judged_new log b =
-    if is_next log b then record { answer = answer.Stored (pos (length log.records)); log = appended log b }
+    if is_next log.records b then stored log b
     else if is_older b (kept_of b.head.producer_id log).spans then unchanged log (answer.Refused DuplicateSequenceNumber)
     else unchanged log (answer.Refused OutOfOrderSequenceNumber)
 
@@ -74,3 +69,11 @@ judged log b =
 abbrev pub offered : Log → Result Batch BatchFault → Step
 offered log (Ok b) = judged log b
 offered log (Err fault) = unchanged log (answer.Refused CorruptMessage)
+
+-- ---- the first batch of a producer
+
+pub record IsFirst (b : Batch) : Type 0 where
+  pub known : pos 0 ≤ℤ b.head.producer_id
+  pub first_epoch : b.head.epoch ≡ pos 0
+  pub from_zero : b.head.base_sequence ≡ pos 0
+  pub in_sequence : length b.records ≤ SEQUENCE_LIMIT

@@ -1,5 +1,6 @@
 //! Why a log gave no answer.
 
+use std::alloc::AllocError;
 use thiserror::Error;
 
 /// Why a log gave no answer.
@@ -8,4 +9,10 @@ pub enum LogFault {
     /// A growth was refused; the log is as it was.
     #[error("out of memory")]
     OutOfMemory,
+}
+
+impl From<AllocError> for LogFault {
+    fn from(_: AllocError) -> Self {
+        LogFault::OutOfMemory
+    }
 }

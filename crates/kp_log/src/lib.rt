@@ -4,6 +4,7 @@
 mod answer;
 mod fault;
 mod kept;
+pub mod laws;
 mod log;
 mod offering;
 mod stored;

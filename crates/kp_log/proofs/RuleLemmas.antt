@@ -1,0 +1,191 @@
+-- The rule, case by case, and what it says of a batch that comes again.
+use Rattle.std.proofs.Common.{◌≡◌, ℕ, zero, suc, ◌+◌, ◌-◌, ◌≤◌, ◌^◌, Bool, true, false, cond, List, [], ◌∷◌, ◌++◌, length, drop, find, ℤ, pos, ◌≤ℤ◌, int_lt, int_eq, Option, Some, None, refl, sym, ap, subst, ◌∙◌, arith}
+use Rattle.std.proofs.lemmas.Bool.{and_from, eq-eqb, le-leb}
+use Rattle.std.proofs.lemmas.Int.{ints}
+use Rattle.std.proofs.lemmas.List.{length-append, drop-append-le}
+use Rattle.std.proofs.lemmas.List.Folds.{find-append}
+use Rattle.kp_batch.specs.declared.batch.Batch.{Batch}
+use Rattle.kp_log.specs.declared.answer.Answer.{Answer}
+use Rattle.kp_log.specs.declared.answer.Answer.TheVariants as answer
+use Rattle.kp_log.specs.declared.answer.Refusal.{Refusal}
+use Rattle.kp_log.specs.declared.answer.Refusal.TheVariants.{InvalidRequest, InvalidProducerEpoch, DuplicateSequenceNumber, OutOfOrderSequenceNumber}
+use Rattle.kp_log.specs.declared.kept.Span.{Span}
+use Rattle.kp_log.specs.declared.kept.Kept.{Kept}
+use Rattle.kp_log.specs.Log.{Log, kept_of, kept_after, last_kept, span_of, appended, empty}
+use Rattle.kp_log.proofs.LogLemmas.{int_eq_same, kept_of-appended}
+use Rattle.kp_log.specs.SequenceRule.{IsFirst, Step, is_repeat, repeated, is_next, is_older, judged, unchanged, stored}
+
+abbrev pub spans_of : Log → Batch → List Span
+spans_of log b = (kept_of b.head.producer_id log).spans
+
+-- ---- the rule, case by case
+
+pub judged_negative : (log : Log) (b : Batch) → int_lt b.head.producer_id (pos 0) ≡ true
+    → judged log b ≡ unchanged log (answer.Refused InvalidRequest)
+unfolding judged
+judged_negative log b negative = rw negative
+
+-- the producer id and the epoch are as they must be
+pub record IsAddressed (b : Batch) : Type 0 where
+  pub known : int_lt b.head.producer_id (pos 0) ≡ false
+  pub first_epoch : int_eq b.head.epoch (pos 0) ≡ true
+
+pub judged_epoch : (log : Log) (b : Batch) → int_lt b.head.producer_id (pos 0) ≡ false
+    → int_eq b.head.epoch (pos 0) ≡ false
+    → judged log b ≡ unchanged log (answer.Refused InvalidProducerEpoch)
+unfolding judged
+judged_epoch log b known later = rw (known, later)
+
+pub judged_repeat : (log : Log) (b : Batch) (s : Span) → IsAddressed b
+    → repeated b (spans_of log b) ≡ Some s
+    → judged log b ≡ unchanged log (answer.Stored s.base_offset)
+unfolding judged
+judged_repeat log b s to found = rw (to.known, to.first_epoch, found)
+
+pub judged_next : (log : Log) (b : Batch) → IsAddressed b → repeated b (spans_of log b) ≡ None
+    → is_next log.records b ≡ true → judged log b ≡ stored log b
+unfolding judged
+judged_next log b to fresh next = rw (to.known, to.first_epoch, fresh, next)
+
+pub judged_older : (log : Log) (b : Batch) → IsAddressed b → repeated b (spans_of log b) ≡ None
+    → is_next log.records b ≡ false → is_older b (spans_of log b) ≡ true
+    → judged log b ≡ unchanged log (answer.Refused DuplicateSequenceNumber)
+unfolding judged
+judged_older log b to fresh gap older = rw (to.known, to.first_epoch, fresh, gap, older)
+
+pub judged_gap : (log : Log) (b : Batch) → IsAddressed b → repeated b (spans_of log b) ≡ None
+    → is_next log.records b ≡ false → is_older b (spans_of log b) ≡ false
+    → judged log b ≡ unchanged log (answer.Refused OutOfOrderSequenceNumber)
+unfolding judged
+judged_gap log b to fresh gap newer = rw (to.known, to.first_epoch, fresh, gap, newer)
+
+-- ---- what can come of a batch
+
+pub record IsTaken (log : Log) (b : Batch) : Type 0 where
+  pub addressed : IsAddressed b
+  pub fresh : repeated b (spans_of log b) ≡ None
+  pub taken : judged log b ≡ stored log b
+
+-- the log stays, or the batch is appended
+pub data Outcome (log : Log) (b : Batch) : Type 0 where
+  Stays : (a : Answer) → judged log b ≡ unchanged log a → Outcome log b
+  Grows : IsTaken log b → Outcome log b
+
+outcome_new : (log : Log) (b : Batch) (next older : Bool) → IsAddressed b
+    → repeated b (spans_of log b) ≡ None → is_next log.records b ≡ next
+    → is_older b (spans_of log b) ≡ older → Outcome log b
+outcome_new log b true older to fresh next is_old = Grows (record { addressed = to; fresh = fresh; taken = judged_next log b to fresh next })
+outcome_new log b false true to fresh gap old = Stays _ (judged_older log b to fresh gap old)
+outcome_new log b false false to fresh gap newer = Stays _ (judged_gap log b to fresh gap newer)
+
+outcome_against : (log : Log) (b : Batch) (found : Option Span) → IsAddressed b
+    → repeated b (spans_of log b) ≡ found → Outcome log b
+outcome_against log b (Some s) to found = Stays _ (judged_repeat log b s to found)
+outcome_against log b None to fresh = outcome_new log b (is_next log.records b) (is_older b (spans_of log b)) to fresh refl refl
+
+outcome_at : (log : Log) (b : Batch) (negative first : Bool)
+    → int_lt b.head.producer_id (pos 0) ≡ negative → int_eq b.head.epoch (pos 0) ≡ first
+    → Outcome log b
+outcome_at log b true first negative epoch = Stays _ (judged_negative log b negative)
+outcome_at log b false false known later = Stays _ (judged_epoch log b known later)
+outcome_at log b false true known first = outcome_against log b (repeated b (spans_of log b)) (record { known = known; first_epoch = first }) refl
+
+pub outcome : (log : Log) (b : Batch) → Outcome log b
+outcome log b = outcome_at log b _ _ refl refl
+
+-- ---- a batch that comes again
+
+-- the last of some batches end with the one that was put behind them
+last_kept_push : (spans : List Span) (s : Span)
+    → last_kept (spans ++ s ∷ []) ≡ drop (length spans + 1 - 5) spans ++ s ∷ []
+last_kept_push spans s =
+    let within : length spans + 1 - 5 ≤ length spans = omega arith in
+    rw length-append (drop-append-le (length spans + 1 - 5) spans (s ∷ []) within)
+
+none_dropped : {X : Type 0} (p : X → Bool) (n : ℕ) (xs : List X) → find p xs ≡ None → find p (drop n xs) ≡ None
+none_dropped p zero xs none = none
+none_dropped p (suc n) [] none = none
+none_dropped p (suc n) (x ∷ xs) none = none_dropped p n xs (none_behind (p x) x (find p xs) none)
+  where
+    none_behind : {X : Type 0} (t : Bool) (x : X) (o : Option X) → cond t (Some x) o ≡ None → o ≡ None
+    none_behind true x o h = absurd cc
+    none_behind false x o h = h
+
+found_last : {X : Type 0} (p : X → Bool) (xs : List X) (x : X) → find p xs ≡ None → p x ≡ true
+    → find p (xs ++ x ∷ []) ≡ Some x
+found_last p xs x none passes = rw (find-append, none, passes) refl
+
+repeats_its_span : (log : Log) (b : Batch) → is_repeat b (span_of log b) ≡ true
+repeats_its_span log b = and_from _ _ (int_eq_same b.head.base_sequence) (eq-eqb _ _ refl)
+
+kept_of_appended : (log : Log) (b : Batch)
+    → kept_of b.head.producer_id (appended log b) ≡ kept_after (kept_of b.head.producer_id log) (span_of log b)
+kept_of_appended log b = kept_of-appended b.head.producer_id log b ∙ rw int_eq_same refl
+
+found_appended : (log : Log) (b : Batch) → repeated b (spans_of log b) ≡ None
+    → repeated b (spans_of (appended log b) b) ≡ Some (span_of log b)
+found_appended log b fresh =
+    let spans : List Span = spans_of log b in
+    ap (λ (k : Kept). repeated b k.spans) (kept_of_appended log b)
+    ∙ (ap (repeated b) (last_kept_push spans (span_of log b))
+    ∙ found_last (is_repeat b) (drop (length spans + 1 - 5) spans) (span_of log b) (none_dropped (is_repeat b) _ spans fresh) (repeats_its_span log b))
+
+pub judged-appended : (log : Log) (b : Batch) → IsAddressed b → repeated b (spans_of log b) ≡ None
+    → judged (appended log b) b ≡ unchanged (appended log b) (answer.Stored (pos (length log.records)))
+judged-appended log b to fresh = judged_repeat (appended log b) b (span_of log b) to (found_appended log b fresh)
+
+-- Whatever the answer was, it is given again, and the log stays.
+abbrev pub IsAnsweredAlike : Log → Batch → Type 0
+IsAnsweredAlike log b = judged (judged log b).log b ≡ unchanged (judged log b).log (judged log b).answer
+
+alike_at : (log : Log) (b : Batch) (s : Step) → judged log b ≡ s
+    → judged s.log b ≡ unchanged s.log s.answer → IsAnsweredAlike log b
+alike_at log b s is again = let P : Step → Type 0 = λ t. judged t.log b ≡ unchanged t.log t.answer in subst P (sym is) again
+
+alike_by : (log : Log) (b : Batch) → Outcome log b → IsAnsweredAlike log b
+alike_by log b (Stays a is) = alike_at log b (unchanged log a) is is
+alike_by log b (Grows t) = alike_at log b (stored log b) t.taken (judged-appended log b t.addressed t.fresh)
+
+pub answered_alike : (log : Log) (b : Batch) → IsAnsweredAlike log b
+answered_alike log b = alike_by log b (outcome log b)
+
+pub answered_with_offset : (log : Log) (b : Batch) (offset : ℤ)
+    → judged log b ≡ record { answer = answer.Stored offset; log = appended log b }
+    → judged (appended log b) b ≡ unchanged (appended log b) (answer.Stored offset)
+answered_with_offset log b offset is =
+    let P : Step → Type 0 = λ t. judged t.log b ≡ unchanged t.log t.answer in
+    subst P is (answered_alike log b)
+
+-- ---- a refusal
+
+refusal_at : (log : Log) (b : Batch) (refusal : Refusal) → Outcome log b
+    → (judged log b).answer ≡ answer.Refused refusal → (judged log b).log ≡ log
+refusal_at log b refusal (Stays a is) refused = ap (λ (s : Step). s.log) is
+refusal_at log b refusal (Grows t) refused = absurd (let stands : (judged log b).answer ≡ answer.Stored (pos (length log.records)) = ap (λ (s : Step). s.answer) t.taken in cc)
+
+pub refusal_keeps : (log : Log) (b : Batch) (refusal : Refusal)
+    → (judged log b).answer ≡ answer.Refused refusal → (judged log b).log ≡ log
+refusal_keeps log b refusal refused = refusal_at log b refusal (outcome log b) refused
+
+-- ---- a first batch
+
+not_negative : (n : ℤ) → pos 0 ≤ℤ n → int_lt n (pos 0) ≡ false
+not_negative n h = grind (arith, ints)
+
+first_is_addressed : (b : Batch) → IsFirst b → IsAddressed b
+first_is_addressed b first = record { known = not_negative _ first.known; first_epoch = rw first.first_epoch refl }
+
+first_is_next : (b : Batch) → IsFirst b → is_next [] b ≡ true
+first_is_next b first =
+    rw first.from_zero
+    (and_from _ _ (le-leb (0 + length b.records) (2 ^ 31) (omega (arith, first.in_sequence))) (le-leb (0 + length b.records) (2 ^ 63 - 1) (omega (arith, first.in_sequence))))
+
+-- on an empty log it is appended
+pub first_is_stored : (b : Batch) → IsFirst b
+    → judged empty b ≡ record { answer = answer.Stored (pos 0); log = appended empty b }
+first_is_stored b first = judged_next empty b (first_is_addressed b first) refl (first_is_next b first)
+
+-- and answered alike when it comes again
+pub first_is_answered_alike : (b : Batch) → IsFirst b
+    → judged (appended empty b) b ≡ unchanged (appended empty b) (answer.Stored (pos 0))
+first_is_answered_alike b first = answered_with_offset empty b (pos 0) (first_is_stored b first)
