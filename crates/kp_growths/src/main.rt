@@ -1,0 +1,221 @@
+//! Calls that take memory, each once, for runs in which one growth is refused: each answer is the right one,
+//! or out of memory and then, asked again, the right one. Standard input may hold a number: so many growths
+//! are made first, so that a run which always refuses the same growth refuses each of the calls' own in turn.
+#![tactic(auto)]
+
+use kp_batch::{
+    Batch, BatchFault, BatchHead, Header, Record, SIZE_LIMIT, Timestamp, batch_size, read_batch,
+    write_batch,
+};
+use kp_log::{Answer, LogFault, PartitionLog};
+use kp_wire::{Blob, Seq, Text, put_varint, put_varlong};
+use std::alloc::{AllocError, Global};
+use std::io::{self, Read};
+use std::process::ExitCode;
+
+/// What a call came to.
+#[derive(Clone, Copy, PartialEq, Eq)]
+enum Outcome {
+    Right,
+    /// Memory was refused, and nothing else went wrong.
+    Refused,
+    Wrong,
+}
+
+impl Outcome {
+    fn of(right: bool) -> Outcome {
+        if right {
+            Outcome::Right
+        } else {
+            Outcome::Wrong
+        }
+    }
+
+    /// The call's outcome, where this is the outcome of the same call, made again.
+    fn after_refusal(self) -> Outcome {
+        match self {
+            Outcome::Right => Outcome::Refused,
+            other => other,
+        }
+    }
+}
+
+const HEAD: BatchHead = BatchHead {
+    producer_id: 1000,
+    epoch: 0,
+    base_sequence: 0,
+};
+
+fn record_of(alloc: Global) -> Result<Record, AllocError> {
+    let mut headers = Vec::new(alloc);
+    headers.push(Header {
+        key: Text::from_str(alloc, "h")?,
+        value: Some(Blob::from_slice(alloc, b"v")?),
+    })?;
+    Ok(Record {
+        timestamp: Timestamp::from_millis(0).ok_or(AllocError)?,
+        key: Some(Blob::from_slice(alloc, b"k")?),
+        value: Some(Blob::from_slice(alloc, b"a")?),
+        headers: Seq::new(headers),
+    })
+}
+
+fn records_of(alloc: Global) -> Result<Vec<Record>, AllocError> {
+    let mut records = Vec::new(alloc);
+    records.push(record_of(alloc)?)?;
+    records.push(record_of(alloc)?)?;
+    Ok(records)
+}
+
+/// The varints of 300 and of -1; what stood before them stays where memory is refused.
+fn varints(alloc: Global) -> Outcome {
+    let mut out = Vec::new(alloc);
+    let mut outcome = Outcome::Right;
+    if put_varint(&mut out, 300).is_err() {
+        if !out.is_empty() || put_varint(&mut out, 300).is_err() {
+            return Outcome::Wrong;
+        }
+        outcome = Outcome::Refused;
+    }
+    if put_varlong(&mut out, -1).is_err() {
+        if out.as_slice() != [0xd8, 0x04].as_slice() || put_varlong(&mut out, -1).is_err() {
+            return Outcome::Wrong;
+        }
+        outcome = Outcome::Refused;
+    }
+    if out.as_slice() == [0xd8, 0x04, 0x01].as_slice() {
+        outcome
+    } else {
+        Outcome::Wrong
+    }
+}
+
+fn is_right(batch: &Batch) -> bool {
+    batch.head == HEAD
+        && batch.records.len() == 2
+        && batch.records.as_slice().iter().all(|record| {
+            record.key.as_ref().map_or(0, |key| key.len()) == 1
+                && record.value.as_ref().map_or(0, |value| value.len()) == 1
+                && record.headers.len() == 1
+        })
+}
+
+fn read(alloc: Global, bytes: &[u8]) -> Outcome {
+    match read_batch(alloc, bytes) {
+        Ok(batch) => Outcome::of(is_right(&batch)),
+        Err(BatchFault::OutOfMemory) => match read_batch(alloc, bytes) {
+            Ok(batch) => Outcome::of(is_right(&batch)).after_refusal(),
+            Err(_) => Outcome::Wrong,
+        },
+        Err(_) => Outcome::Wrong,
+    }
+}
+
+/// Offers the batch twice, each time again where memory was refused: both are answered offset 0.
+fn offer(alloc: Global, bytes: &[u8]) -> Outcome {
+    let mut log = PartitionLog::new(alloc);
+    let mut outcome = Outcome::Right;
+    for _ in 0..2u32 {
+        let before = log.len();
+        let answer = match log.offer(bytes) {
+            Ok(answer) => answer,
+            Err(LogFault::OutOfMemory) => {
+                outcome = Outcome::Refused;
+                if log.len() != before {
+                    return Outcome::Wrong;
+                }
+                match log.offer(bytes) {
+                    Ok(answer) => answer,
+                    Err(LogFault::OutOfMemory) => return Outcome::Wrong,
+                }
+            }
+        };
+        if answer != Answer::Stored(0) || log.len() != 2 {
+            return Outcome::Wrong;
+        }
+    }
+    if log.get(1).is_some() && log.get(2).is_none() {
+        outcome
+    } else {
+        Outcome::Wrong
+    }
+}
+
+/// The batch's bytes, and whether memory was refused on the way.
+fn written(alloc: Global, records: &[Record]) -> Option<(Vec<u8>, Outcome)> {
+    let size = batch_size(records);
+    if size > SIZE_LIMIT || records.is_empty() {
+        return None;
+    }
+    match write_batch(alloc, HEAD, records) {
+        Ok(bytes) => Some((bytes, Outcome::Right)),
+        Err(AllocError) => match write_batch(alloc, HEAD, records) {
+            Ok(bytes) => Some((bytes, Outcome::Refused)),
+            Err(AllocError) => None,
+        },
+    }
+}
+
+/// All calls in turn, up to the first whose outcome isn't right.
+fn outcome_of(alloc: Global) -> Outcome {
+    let first = varints(alloc);
+    if first != Outcome::Right {
+        return first;
+    }
+    let Ok(records) = records_of(alloc) else {
+        return Outcome::Refused;
+    };
+    let Some((bytes, wrote)) = written(alloc, &records) else {
+        return Outcome::Wrong;
+    };
+    if bytes.len() as u64 != batch_size(&records) {
+        return Outcome::Wrong;
+    }
+    let outcomes = [wrote, read(alloc, &bytes), offer(alloc, &bytes)];
+    if outcomes.contains(&Outcome::Wrong) {
+        return Outcome::Wrong;
+    }
+    if outcomes.contains(&Outcome::Refused) {
+        return Outcome::Refused;
+    }
+    Outcome::Right
+}
+
+/// The number that the text spells, as far as it has digits.
+fn number_of(text: &[u8]) -> u16 {
+    text.iter()
+        .take_while(|byte| byte.is_ascii_digit())
+        .fold(0u16, |n, digit| {
+            n.wrapping_mul(10).wrapping_add(u16::from(*digit & 0x0f))
+        })
+}
+
+/// Makes so many growths.
+fn grow_first(alloc: Global, count: u16) -> Result<(), AllocError> {
+    for _ in 0..count {
+        let _ = Vec::<u8>::with_capacity(alloc, 1)?;
+    }
+    Ok(())
+}
+
+fn main(rt: HostRuntime) -> io::Result<ExitCode> {
+    let mut text = [0u8; 4];
+    let len = rt.reader().read(&mut text)?;
+    if grow_first(rt.alloc(), number_of(&text[..len])).is_err() {
+        return Ok(ExitCode::from(4));
+    }
+    match outcome_of(rt.alloc()) {
+        Outcome::Right => {
+            println!(rt; "right")?;
+            Ok(ExitCode::SUCCESS)
+        }
+        Outcome::Refused => {
+            println!(rt; "out of memory")?;
+            Ok(ExitCode::from(3))
+        }
+        Outcome::Wrong => {
+            println!(rt; "wrong")?;
+            Ok(ExitCode::from(5))
+        }
+    }
+}
