@@ -1,0 +1,5 @@
+pub mod CommandLine
+pub mod Faults
+pub mod Lines
+pub mod Packed
+pub mod Printed
