@@ -1,1 +1,3 @@
+mod CommandLineLemmas
+mod KnownBytesLemmas
 mod LineLemmas

@@ -1,5 +1,9 @@
 //! The words of a call, by clap.
 
+ghost use Rattle.std.specs.Prelude.{◌≡◌, Some, List, IfOk, MatchResult, codes, map, option_map};
+ghost use Rattle.clap.specs.Words.{Row, app_of, first_of, kind_of, subcommand_rows_of};
+ghost use Rattle.kp_cli.specs.CommandLine.{AskToPackInput, Packs, kprod_app};
+
 use clap::error::ErrorKind;
 use clap::{Arg, ArgMatches, Error};
 use std::alloc::{AllocError, Global};
@@ -12,12 +16,8 @@ pub enum Command<'a> {
     Pack(&'a str),
 }
 
-ghost use Rattle.std.specs.Prelude.{◌≡◌, Some, List, IfOk, MatchResult, codes, map, option_map};
-ghost use Rattle.clap.specs.Words.{Row, app_of, first_of, kind_of, subcommand_rows_of};
-ghost use Rattle.kp_cli.specs.CommandLine.{AskToPackInput, Packs, kprod_app};
-
 /// The program's commands and what they take.
-fn kprod(alloc: Global) -> Result<clap::Command<'static>, AllocError>
+fn kprod<'a>(alloc: Global) -> Result<clap::Command<'a>, AllocError>
     ensures { IfOk result (λ command. app_of command ≡ kprod_app) }
 {
     let file = Arg::new(alloc, "file")
@@ -27,11 +27,11 @@ fn kprod(alloc: Global) -> Result<clap::Command<'static>, AllocError>
     let pack = clap::Command::new(alloc, "pack")
         .about("Packs lines into one record batch and offers it twice to a partition log")
         .arg(file)?;
-    clap::Command::new(alloc, "kprod")
+    let program = clap::Command::new(alloc, "kprod")
         .about("Kafka record batches, at a partition log in memory")
         .subcommand_required(true)
-        .disable_help_subcommand(true)
-        .subcommand(pack)
+        .disable_help_subcommand(true);
+    program.subcommand(pack)
 }
 
 /// The file of `pack`, where the matches have one.
@@ -47,7 +47,8 @@ pub fn command_of<'a, S: AsStr>(alloc: Global, words: &'a [S]) -> Result<Command
     ensures input { AskToPackInput (map S.text words.entry.now)
         → MatchResult result (Packs (codes "-")) (λ e. kind_of e ≡ ErrorKind.OutOfMemory) }
 {
-    let matches = kprod(alloc)?.try_get_matches_from(words)?;
+    let program = kprod(alloc)?;
+    let matches = program.try_get_matches_from(words)?;
     match file_of(&matches) {
         Some(file) => Ok(Command::Pack(file)),
         None => Err(kprod(alloc)?.error(ErrorKind::MissingSubcommand, "pack takes a FILE")?),

@@ -1,5 +1,10 @@
 //! Why a call ended without its output.
 
+ghost use Rattle.std.specs.Prelude.{◌≡◌, OnOk};
+ghost use Rattle.std.specs.Io.KnownBytes.{Appends};
+ghost use Rattle.kp_cli.specs.Faults.{fault_line};
+ghost use Rattle.kp_cli.specs.declared.fault.PackFault.TheVariants as pack_fault;
+
 use std::alloc::AllocError;
 use std::io::{self, ErrorKind, Write};
 
@@ -24,11 +29,6 @@ pub enum Fault<'a> {
     /// The output took no more. Nobody is told.
     CannotWrite,
 }
-
-ghost use Rattle.std.specs.Prelude.{◌≡◌, OnOk};
-ghost use Rattle.std.specs.Io.KnownBytes.{Appends};
-ghost use Rattle.kp_cli.specs.Faults.{fault_line, fault_text};
-ghost use Rattle.kp_cli.specs.declared.fault.PackFault.TheVariants as pack_fault;
 
 impl From<AllocError> for PackFault {
     ghost from_gives = { λ _ e. e ≡ pack_fault.OutOfMemory };
@@ -55,26 +55,19 @@ pub fn memory_or<'a>(error: &io::Error, fault: Fault<'a>) -> Fault<'a> {
     }
 }
 
-fn put_text<W: Write>(err: &mut W, fault: Fault<'_>) -> io::Result<()>
-    ensures { OnOk result (Appends (W.contents err.old) (W.contents err.new) (fault_text fault.entry)) }
-{
-    match fault {
-        Fault::CannotRead(file) => {
-            err.write_all(b"cannot read ")?;
-            err.write_all(file.as_bytes())
-        }
-        Fault::OutOfMemory => err.write_all(b"out of memory"),
-        Fault::TooLarge => err.write_all(b"input too large"),
-        Fault::NotText => err.write_all(b"a word is not UTF-8"),
-        Fault::CannotWrite => err.write_all(b"cannot write"),
-    }
-}
-
-/// The fault's line. Nothing is allocated.
+/// The fault's line, if it is told at all. Nothing is allocated.
 pub fn put_fault<W: Write>(err: &mut W, fault: Fault<'_>) -> io::Result<()>
     ensures { OnOk result (Appends (W.contents err.old) (W.contents err.new) (fault_line fault.entry)) }
 {
-    err.write_all(b"kprod: ")?;
-    put_text(err, fault)?;
-    err.write_all(b"\n")
+    match fault {
+        Fault::CannotRead(file) => {
+            err.write_all(b"kprod: cannot read ")?;
+            err.write_all(file.as_bytes())?;
+            err.write_all(b"\n")
+        }
+        Fault::OutOfMemory => err.write_all(b"kprod: out of memory\n"),
+        Fault::TooLarge => err.write_all(b"kprod: input too large\n"),
+        Fault::NotText => err.write_all(b"kprod: a word is not UTF-8\n"),
+        Fault::CannotWrite => Ok(()),
+    }
 }

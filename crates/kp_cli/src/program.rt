@@ -31,16 +31,10 @@ pub const USAGE: u8 = 2;
 pub fn fail<E: Write>(fault: Fault<'_>, err: &mut E) -> u8
     ensures { result ≢ DONE }
 {
+    let _ = put_fault(err, fault);
     match fault {
-        Fault::CannotWrite => FAULT,
-        Fault::NotText => {
-            let _ = put_fault(err, fault);
-            USAGE
-        }
-        _ => {
-            let _ = put_fault(err, fault);
-            FAULT
-        }
+        Fault::NotText => USAGE,
+        _ => FAULT,
     }
 }
 
