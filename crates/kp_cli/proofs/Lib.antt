@@ -1,3 +1,4 @@
 mod CommandLineLemmas
 mod KnownBytesLemmas
 mod LineLemmas
+mod PackedLemmas

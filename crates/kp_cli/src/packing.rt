@@ -1,20 +1,89 @@
 //! Lines packed into one batch, and what a log makes of it.
 
-ghost use Rattle.std.specs.Prelude.{◌≡◌, ◌<◌, ◌≤◌, IfOk, OnOk, Err};
-ghost use Rattle.kp_batch.specs.Spelling.{SIZE_LIMIT, size_of_batch};
+ghost use Rattle.std.specs.Prelude.{◌≡◌, ◌<◌, ◌≤◌, ◌++◌, IfOk, OnOk, MatchResult, Err, []};
+ghost use Rattle.kp_batch.specs.Spelling.{size_of_batch};
 ghost use Rattle.kp_cli.specs.Lines.{lines};
-ghost use Rattle.kp_cli.specs.Packed.{packed_text, records_of};
+ghost use Rattle.kp_cli.specs.Packed.{log_lines, packed_text, records_of, report_text, value_of, values_of};
 
 use crate::fault::PackFault;
-use std::alloc::Global;
+use crate::lines::lines_of;
+use crate::printing::{put_answer_line, put_batch_line, put_log_line};
+use kp_batch::{Record, SIZE_LIMIT, batch_size};
+use std::alloc::{AllocError, Global};
+
+/// A size that a batch may have.
+fn within_limit(size: u64) -> Result<u64, PackFault>
+    ensures { MatchResult result (λ same. (same ≡ size) × (size ≤ SIZE_LIMIT))
+        (λ fault. (fault ≡ PackFault.TooLarge) × (SIZE_LIMIT < size)) }
+{
+    if size > SIZE_LIMIT {
+        return Err(PackFault::TooLarge);
+    }
+    Ok(size)
+}
+
+/// The size of the records' batch.
+fn size_of(records: &[Record]) -> Result<u64, PackFault>
+    ensures { MatchResult result (λ size. (size ≡ size_of_batch records.now) × (size ≤ SIZE_LIMIT))
+        (λ fault. (fault ≡ PackFault.TooLarge) × (SIZE_LIMIT < size_of_batch records.now)) }
+{
+    within_limit(batch_size(records))
+}
+
+/// A record's value; Kafka's null has no byte.
+fn value_in(record: &Record) -> &[u8]
+    ensures { result.now ≡ value_of record.now }
+{
+    match &record.value {
+        Some(value) => value.as_slice(),
+        None => &[],
+    }
+}
+
+/// The lines of a log that holds these records.
+fn put_log(out: &mut Vec<u8>, records: &[Record]) -> Result<(), AllocError>
+    ensures { OnOk result (out.new.items ≡ out.old.items ++ log_lines 0 (values_of records.now)) }
+{
+    for (offset, record) in records.iter().enumerate() {
+        put_log_line(out, offset as u64, value_in(record))?;
+    }
+    Ok(())
+}
+
+/// The text where no line is there to be packed.
+fn nothing_packed(alloc: Global) -> Result<Vec<u8>, AllocError>
+    ensures { IfOk result (λ text. text.items ≡ packed_text []) }
+{
+    let mut text = Vec::new(alloc);
+    put_batch_line(&mut text, 0, 0)?;
+    Ok(text)
+}
+
+/// The text of records that were packed.
+fn report(alloc: Global, size: u64, records: &[Record]) -> Result<Vec<u8>, AllocError>
+    ensures { IfOk result (λ text. text.items ≡ report_text size (values_of records.now)) }
+{
+    let mut text = Vec::new(alloc);
+    put_batch_line(&mut text, size, records.len() as u64)?;
+    put_answer_line(&mut text, 0, 0)?;
+    put_answer_line(&mut text, 0, 0)?;
+    put_log(&mut text, records)?;
+    Ok(text)
+}
 
 /// The text of the bytes' lines, packed.
-pub fn pack(_alloc: Global, bytes: &[u8]) -> Result<Vec<u8>, PackFault>
+pub fn pack(alloc: Global, bytes: &[u8]) -> Result<Vec<u8>, PackFault>
     ensures text { IfOk result (λ text. text.items ≡ packed_text (lines bytes.now)) }
 
     // A batch larger than a batch may be is refused as such, unless memory is refused first.
-    ensures too_large { result ≡ Err PackFault.TooLarge → SIZE_LIMIT < size_of_batch (records_of (lines bytes.now)) }
+    ensures too_large { result ≡ Err PackFault.TooLarge
+        → SIZE_LIMIT < size_of_batch (records_of (lines bytes.now)) }
     ensures fits { OnOk result (size_of_batch (records_of (lines bytes.now)) ≤ SIZE_LIMIT) }
 {
-    Err(PackFault::OutOfMemory)
+    let records = lines_of(alloc, bytes)?;
+    if records.is_empty() {
+        return Ok(nothing_packed(alloc)?);
+    }
+    let size = size_of(records.as_slice())?;
+    Ok(report(alloc, size, records.as_slice())?)
 }
