@@ -8,6 +8,8 @@ mod packing;
 mod printing;
 mod program;
 mod streams;
+#[cfg(test)]
+mod tests;
 
 use program::kprod;
 use std::process::ExitCode;

@@ -12,7 +12,7 @@ use kp_batch::{Record, SIZE_LIMIT, batch_size};
 use std::alloc::{AllocError, Global};
 
 /// A size that a batch may have.
-fn within_limit(size: u64) -> Result<u64, PackFault>
+pub fn within_limit(size: u64) -> Result<u64, PackFault>
     ensures { MatchResult result (λ same. (same ≡ size) × (size ≤ SIZE_LIMIT))
         (λ fault. (fault ≡ PackFault.TooLarge) × (SIZE_LIMIT < size)) }
 {

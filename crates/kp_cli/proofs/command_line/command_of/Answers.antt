@@ -12,7 +12,7 @@ returns-in_err-matches g c = record {
       let known = words_asked words asked in
       let taken = ap₂ takes c.in_ok-program.ensures known.1 ∙ is_taken known.0 in
       let left = err_from_is_err_and c.from_residual-in_err-matches.result c.from_residual-in_err-matches.ensures.1 in
-      rw (left.1, left.2) (c.in_err-matches.ensures.passes taken)
+      rw (left.1, left.2) (c.in_err-matches.ensures.passes taken);
 }
 
 pub returns-in-Some : goal.returns-in-Some
@@ -23,7 +23,7 @@ returns-in-Some g c = record {
       let matched = (c.in_ok-matches.ensures.matches (ap is_simple c.in_ok-program.ensures ∙ is_simple_app)).1
       ∙ ap₂ subcommand_of c.in_ok-program.ensures known.1 ∙ is_found known.0 in
       let file : Some c.in-Some.file.now ≡ Some (codes "-") = c.in-Some.ensures (rows_found known.0) matched ∙ is_file known.0 in
-      same_texts _ _ file
+      same_texts _ _ file;
 }
   where
     same_texts : (a b : Text) → Some a ≡ Some b → a ≡ b
@@ -37,7 +37,7 @@ returns g c = record {
       let matched = (c.in_ok-matches.ensures.matches (ap is_simple c.in_ok-program.ensures ∙ is_simple_app)).1
       ∙ ap₂ subcommand_of c.in_ok-program.ensures known.1 ∙ is_found known.0 in
       let file = c.in-None.ensures (rows_found known.0) matched ∙ is_file known.0 in
-      absurd (no_text _ file)
+      absurd (no_text _ file);
 }
   where
     no_text : (a : Text) → None ≡ Some a → ⊥
