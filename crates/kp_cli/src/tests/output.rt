@@ -2,8 +2,11 @@
 //! a record of n + 7.
 
 use super::{Ended, kprod_at};
+use std::fs;
 use std::test::Fail;
-use std::{env, fs};
+
+/// A file that a test makes and takes away.
+const FILE: &str = "kprod-reads-a-file.txt";
 
 const PACK: [&str; 3] = ["kprod", "pack", "-"];
 
@@ -46,16 +49,10 @@ fn no_line_is_no_batch(rt: HostRuntime) {
 
 #[test]
 fn reads_a_file(rt: HostRuntime) -> Result<(), Fail> {
-    let mut path = env::temp_dir(&rt)?;
-    path.push("kprod-reads-a-file")?;
-    fs::write(&rt, path.as_path(), "from a file\n")?;
-    let name = path.as_path().to_str().ok_or("a name that is text")?;
-    let Ended { status, out, .. } = kprod_at(
-        &rt,
-        ["kprod", "pack", name].as_slice(),
-        b"other\n".as_slice(),
-    );
-    fs::remove_file(&rt, path.as_path())?;
+    fs::write(&rt, FILE, "from a file\n")?;
+    let words = ["kprod", "pack", FILE];
+    let Ended { status, out, .. } = kprod_at(&rt, words.as_slice(), b"other\n".as_slice());
+    fs::remove_file(&rt, FILE)?;
     let text = b"batch 79 records 1\nanswer 0 0\nanswer 0 0\nlog 0 0 from a file\n";
     assert_eq!(rt; status, 0);
     assert_eq!(rt; out.as_slice(), text.as_slice());

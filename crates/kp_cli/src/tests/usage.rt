@@ -6,7 +6,6 @@ use super::{Ended, kprod_at};
 fn words_that_are_no_command_are_told_on_err(rt: HostRuntime) {
     for words in [
         ["kprod"].as_slice(),
-        [].as_slice(),
         ["kprod", "unpack"].as_slice(),
         ["kprod", "help"].as_slice(),
         ["kprod", "pack"].as_slice(),
