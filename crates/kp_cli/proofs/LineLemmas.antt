@@ -1,5 +1,5 @@
 -- Where a byte 10 cuts an input.
-use Rattle.std.proofs.Common.{◌≡◌, ℕ, zero, suc, ◌+◌, ◌<◌, List, [], ◌∷◌, length, get_or, take, drop, nat_eq, true, false, refl, ap, arith}
+use Rattle.std.proofs.Common.{◌≡◌, ℕ, zero, suc, ◌<◌, List, [], ◌∷◌, length, get_or, take, drop, nat_eq, true, false, refl, ap, arith}
 use Rattle.kp_cli.specs.Lines.{lines, begun_with}
 
 -- the first byte 10 stands at place k

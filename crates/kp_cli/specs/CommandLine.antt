@@ -1,5 +1,5 @@
 -- The command line, as clap sees it.
-use Rattle.std.specs.Prelude.{◌≡◌, ℕ, List, [], ◌∷◌, Bool, true, drop, codes}
+use Rattle.std.specs.Prelude.{◌≡◌, List, [], ◌∷◌, true, drop, codes}
 use Rattle.clap.specs.Words.{App, Rule, Text, new_app, new_rule, with_rule, with_subcommand}
 use Rattle.kp_cli.specs.declared.command_line.Command.{Command}
 use Rattle.kp_cli.specs.declared.command_line.Command.TheVariants.{Pack}

@@ -1,5 +1,5 @@
 -- What is printed of values that were packed into one batch.
-use Rattle.std.specs.Prelude.{ℕ, suc, ◌+◌, List, [], ◌∷◌, ◌++◌, length, map, ℤ, pos, Some, None, codes, decimal, unwrap_or}
+use Rattle.std.specs.Prelude.{ℕ, suc, List, [], ◌∷◌, ◌++◌, length, map, ℤ, pos, Some, None, codes, decimal}
 use Rattle.std.specs.Fmt.{signed_decimal}
 use Rattle.kp_batch.specs.declared.record.Record.{Record}
 use Rattle.kp_batch.specs.Spelling.{size_of_batch}
@@ -11,13 +11,6 @@ record_of value = record { timestamp = 0; key = None; value = Some value; header
 
 abbrev pub records_of : List (List ℕ) → List Record
 records_of values = map record_of values
-
--- a record's value; Kafka's null has no byte
-abbrev pub value_of : Record → List ℕ
-value_of r = unwrap_or r.value []
-
-abbrev pub values_of : List Record → List (List ℕ)
-values_of records = map value_of records
 
 -- ---- lines of text
 
@@ -40,14 +33,12 @@ log_lines offset (value ∷ values) = log_line offset value ++ log_lines (suc of
 
 -- ---- the whole text
 
--- A batch of this size with these values was stored at offset 0, and its repeat was answered alike.
-abbrev pub report_text : ℕ → List (List ℕ) → List ℕ
-report_text size values =
-    batch_line size (length values)
-    ++ answer_line (pos 0) (pos 0)
-    ++ answer_line (pos 0) (pos 0)
-    ++ log_lines 0 values
-
+-- The batch was stored at offset 0, and its repeat was answered alike.
 abbrev pub packed_text : List (List ℕ) → List ℕ
 packed_text [] = batch_line 0 0
-packed_text (value ∷ values) = report_text (size_of_batch (records_of (value ∷ values))) (value ∷ values)
+packed_text (value ∷ values) =
+    let all = value ∷ values in
+    batch_line (size_of_batch (records_of all)) (length all)
+    ++ answer_line (pos 0) (pos 0)
+    ++ answer_line (pos 0) (pos 0)
+    ++ log_lines 0 all

@@ -5,6 +5,7 @@ ghost use Rattle.std.specs.Io.KnownBytes.{Appends};
 ghost use Rattle.kp_cli.specs.Faults.{fault_line};
 ghost use Rattle.kp_cli.specs.declared.fault.PackFault.TheVariants as pack_fault;
 
+use kp_log::LogFault;
 use std::alloc::AllocError;
 use std::io::{self, ErrorKind, Write};
 
@@ -34,6 +35,14 @@ impl From<AllocError> for PackFault {
     ghost from_gives = { λ _ e. e ≡ pack_fault.OutOfMemory };
 
     fn from(_refused: AllocError) -> PackFault {
+        PackFault::OutOfMemory
+    }
+}
+
+impl From<LogFault> for PackFault {
+    ghost from_gives = { λ _ e. e ≡ pack_fault.OutOfMemory };
+
+    fn from(_refused: LogFault) -> PackFault {
         PackFault::OutOfMemory
     }
 }

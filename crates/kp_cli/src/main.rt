@@ -4,9 +4,11 @@
 mod command_line;
 mod fault;
 mod lines;
+mod offering;
 mod packing;
 mod printing;
 mod program;
+mod reporting;
 mod streams;
 #[cfg(test)]
 mod tests;

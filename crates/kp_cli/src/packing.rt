@@ -1,13 +1,15 @@
 //! Lines packed into one batch, and what a log makes of it.
 
-ghost use Rattle.std.specs.Prelude.{◌≡◌, ◌<◌, ◌≤◌, ◌++◌, IfOk, OnOk, MatchResult, Err, []};
+ghost use Rattle.std.specs.Prelude.{◌≡◌, ◌<◌, ◌≤◌, IfOk, OnOk, MatchResult, Err, []};
 ghost use Rattle.kp_batch.specs.Spelling.{size_of_batch};
 ghost use Rattle.kp_cli.specs.Lines.{lines};
-ghost use Rattle.kp_cli.specs.Packed.{log_lines, packed_text, records_of, report_text, value_of, values_of};
+ghost use Rattle.kp_cli.specs.Packed.{packed_text, records_of};
 
 use crate::fault::PackFault;
 use crate::lines::lines_of;
-use crate::printing::{put_answer_line, put_batch_line, put_log_line};
+use crate::offering::Offered;
+use crate::printing::put_batch_line;
+use crate::reporting::report;
 use kp_batch::{Record, SIZE_LIMIT, batch_size};
 use std::alloc::{AllocError, Global};
 
@@ -30,44 +32,12 @@ fn size_of(records: &[Record]) -> Result<u64, PackFault>
     within_limit(batch_size(records))
 }
 
-/// A record's value; Kafka's null has no byte.
-fn value_in(record: &Record) -> &[u8]
-    ensures { result.now ≡ value_of record.now }
-{
-    match &record.value {
-        Some(value) => value.as_slice(),
-        None => &[],
-    }
-}
-
-/// The lines of a log that holds these records.
-fn put_log(out: &mut Vec<u8>, records: &[Record]) -> Result<(), AllocError>
-    ensures { OnOk result (out.new.items ≡ out.old.items ++ log_lines 0 (values_of records.now)) }
-{
-    for (offset, record) in records.iter().enumerate() {
-        put_log_line(out, offset as u64, value_in(record))?;
-    }
-    Ok(())
-}
-
 /// The text where no line is there to be packed.
 fn nothing_packed(alloc: Global) -> Result<Vec<u8>, AllocError>
     ensures { IfOk result (λ text. text.items ≡ packed_text []) }
 {
     let mut text = Vec::new(alloc);
     put_batch_line(&mut text, 0, 0)?;
-    Ok(text)
-}
-
-/// The text of records that were packed.
-fn report(alloc: Global, size: u64, records: &[Record]) -> Result<Vec<u8>, AllocError>
-    ensures { IfOk result (λ text. text.items ≡ report_text size (values_of records.now)) }
-{
-    let mut text = Vec::new(alloc);
-    put_batch_line(&mut text, size, records.len() as u64)?;
-    put_answer_line(&mut text, 0, 0)?;
-    put_answer_line(&mut text, 0, 0)?;
-    put_log(&mut text, records)?;
     Ok(text)
 }
 
@@ -85,5 +55,6 @@ pub fn pack(alloc: Global, bytes: &[u8]) -> Result<Vec<u8>, PackFault>
         return Ok(nothing_packed(alloc)?);
     }
     let size = size_of(records.as_slice())?;
-    Ok(report(alloc, size, records.as_slice())?)
+    let offered = Offered::new(alloc, records.as_slice())?;
+    Ok(report(alloc, size, records.len() as u64, &offered)?)
 }

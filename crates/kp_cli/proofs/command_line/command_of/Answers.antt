@@ -1,6 +1,5 @@
-use Rattle.std.proofs.Common.{◌≡◌, ◌∙◌, ap, ap₂, codes, map, sym, None, Some, List, true, ◌∷◌, []}
+use Rattle.std.proofs.Common.{◌≡◌, ◌∙◌, ap, ap₂, codes, map, None, Some}
 use Rattle.std.proofs.lemmas.Result.{err_from_is_err_and}
-use Rattle.std.specs.Option.{option_map}
 use Rattle.clap.specs.Words.{Text, is_simple, subcommand_of, takes}
 use Rattle.kp_cli.proofs.CommandLineLemmas.{words_asked, is_found, is_file, is_simple_app, is_taken, rows_found}
 use Rattle.kp_cli.proofs.command_line.command_of.Goals as goal

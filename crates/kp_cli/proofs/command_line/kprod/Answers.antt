@@ -1,10 +1,10 @@
-use Rattle.std.proofs.Common.{rules, ap, ap₂, ◌∙◌, ◌≡◌, codes, true, Some}
+use Rattle.std.proofs.Common.{rules, ap, ap₂, ◌∙◌, ◌≡◌, true}
 use Rattle.std.proofs.lemmas.Result.{IfOk-weaker}
 use Rattle.clap.specs.Words.{App, app_of, rule_of, with_rule, with_subcommand}
 use Rattle.clap.specs.Simple.{app_of_fields}
 use Rattle.clap.specs.declared.builder.command.Command.{Command}
 use Rattle.clap.specs.declared.builder.command.Command.TheOpen.{Command-F}
-use Rattle.kp_cli.specs.CommandLine.{bare_app, file_rule, kprod_app, pack_app}
+use Rattle.kp_cli.specs.CommandLine.{bare_app, file_rule, pack_app}
 use Rattle.kp_cli.proofs.command_line.kprod.Goals as goal
 
 -- the settings of the program

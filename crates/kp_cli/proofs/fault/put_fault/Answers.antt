@@ -1,6 +1,5 @@
-use Rattle.std.proofs.Common.{◌≡◌, ◌++◌, List, ℕ, codes, ap, sym, subst, append_assoc}
+use Rattle.std.proofs.Common.{◌++◌, codes}
 use Rattle.std.proofs.lemmas.Result.{on_ok_weaker}
-use Rattle.std.specs.Io.KnownBytes.{Appends}
 use Rattle.kp_cli.specs.Packed.{newline}
 use Rattle.kp_cli.proofs.KnownBytesLemmas.{Appends-append}
 use Rattle.kp_cli.proofs.fault.put_fault.Goals as goal

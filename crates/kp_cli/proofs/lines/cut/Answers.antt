@@ -1,4 +1,4 @@
-use Rattle.std.proofs.Common.{◌≡◌, ◌+◌, suc, add-one, arith}
+use Rattle.std.proofs.Common.{◌+◌, add-one, arith}
 use Rattle.std.proofs.lemmas.Bool.{false_from_ne_true}
 use Rattle.std.proofs.lemmas.List.{take_rest}
 use Rattle.kp_cli.proofs.LineLemmas.{lines-at, lines-nowhere}

@@ -1,7 +1,0 @@
-use Rattle.std.proofs.Common.{◌≡◌, ◌++◌, drop}
-use Rattle.kp_cli.specs.Packed.{log_lines, values_of}
-use Rattle.kp_cli.proofs.packing.put_log.Given as goal
-
-abbrev pub invariant-loop-offset : goal.invariant-loop-offset
-invariant-loop-offset l =
-    l.out.items ++ log_lines l.offset (drop l.offset (values_of l.records)) ≡ l.initial.out.items ++ log_lines 0 (values_of l.records)
