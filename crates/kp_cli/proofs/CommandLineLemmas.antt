@@ -1,0 +1,39 @@
+-- What clap finds where the standard input is to be packed.
+use Rattle.std.proofs.Common.{◌≡◌, List, [], ◌∷◌, Option, None, Some, codes, true, refl, ap}
+use Rattle.clap.specs.Words.{Row, Text, first_of, is_simple, subcommand_of, takes}
+use Rattle.clap.proofs.OnLiterals.{clap_on_literals}
+use Rattle.kp_cli.specs.CommandLine.{AskToPackInput, kprod_app}
+
+abbrev pub words_of : Text → List Text
+words_of program = program ∷ codes "pack" ∷ codes "-" ∷ []
+
+-- the first word, whatever it is, is the program's name
+pub words_asked : (words : List Text) → AskToPackInput words → (program : Text) × (words ≡ words_of program)
+words_asked [] asked = cc
+words_asked (program ∷ others) asked = (program, ap (λ (ws : List Text). program ∷ ws) asked)
+
+abbrev rows_behind : Option (Text × List Row) → List Row
+rows_behind None = []
+rows_behind (Some found) = found.1
+
+abbrev pub rows_found : Text → List Row
+rows_found program = rows_behind (subcommand_of kprod_app (words_of program))
+
+pub is_found : (program : Text) → subcommand_of kprod_app (words_of program) ≡ Some (codes "pack", rows_found program)
+unfolding clap_on_literals
+is_found program = refl
+
+pub is_file : (program : Text) → first_of (codes "file") (rows_found program) ≡ Some (codes "-")
+unfolding clap_on_literals
+is_file program = refl
+
+pub is_taken : (program : Text) → takes kprod_app (words_of program) ≡ true
+unfolding clap_on_literals
+is_taken program = refl
+
+pub is_simple_app : is_simple kprod_app ≡ true
+unfolding clap_on_literals
+is_simple_app = refl
+
+pub same_rows : (found rows : List Row) → Some found ≡ Some rows → found ≡ rows
+same_rows found rows same = cc

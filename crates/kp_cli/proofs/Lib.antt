@@ -1,0 +1,5 @@
+mod CommandLineLemmas
+mod KnownBytesLemmas
+mod LineLemmas
+mod OfferedLemmas
+mod PackedLemmas

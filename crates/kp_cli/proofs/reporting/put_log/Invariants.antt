@@ -1,0 +1,8 @@
+use Rattle.std.proofs.Common.{◌≡◌, ◌++◌, drop}
+use Rattle.kp_cli.specs.Packed.{log_lines}
+use Rattle.kp_cli.specs.Report.{values_of}
+use Rattle.kp_cli.proofs.reporting.put_log.Given as goal
+
+abbrev pub invariant-loop-offset : goal.invariant-loop-offset
+invariant-loop-offset l =
+    l.out.items ++ log_lines l.offset (drop l.offset (values_of l.log.records)) ≡ l.initial.out.items ++ log_lines 0 (values_of l.log.records)

@@ -1,0 +1,7 @@
+pub mod CommandLine
+pub mod Faults
+pub mod Lines
+pub mod Offered
+pub mod Packed
+pub mod Printed
+pub mod Report
