@@ -14,9 +14,8 @@ use crate::streams::{read_file, write_whole};
 use clap::Error;
 use clap::error::ErrorKind;
 use std::convert::AsStr;
-use std::env;
-use std::io::{self, Lock, Read, Write};
-use std::rt::{Env, Files};
+use std::io::{self, Read, Write};
+use std::rt::Files;
 
 /// The output is written.
 pub const DONE: u8 = 0;
@@ -101,18 +100,9 @@ pub fn kprod_with<R: Files + AllocGlobal, S: AsStr, I: Read, O: Write, E: Write>
     }
 }
 
-/// The program at the process's own words and streams.
-pub fn kprod(rt: HostRuntime) -> u8 {
-    let input = &mut rt.stdin().lock();
-    let out = &mut rt.stdout().lock();
-    let err = &mut rt.stderr().lock();
-    let read: io::Result<Vec<String>> = words_of(&rt);
-    match read {
-        Ok(words) => kprod_with(&rt, words.as_slice(), input, out, err),
-        Err(error) => fail(memory_or(&error, Fault::NotText), err),
-    }
-}
-
-fn words_of<R: Env + AllocGlobal>(rt: &R) -> io::Result<Vec<String>> {
-    Ok(env::args(rt)?.collect(rt.alloc())?)
+/// Ends a call whose words could not be had: its status.
+pub fn refuse_words<E: Write>(error: &io::Error, err: &mut E) -> u8
+    ensures { result ≢ DONE }
+{
+    fail(memory_or(error, Fault::NotText), err)
 }

@@ -10,12 +10,8 @@ mod printing;
 mod program;
 mod reporting;
 mod streams;
+
+pub use program::{DONE, FAULT, USAGE, kprod_with, refuse_words};
+
 #[cfg(test)]
 mod tests;
-
-use program::kprod;
-use std::process::ExitCode;
-
-fn main(rt: HostRuntime) -> ExitCode {
-    ExitCode::from(kprod(rt))
-}
