@@ -1,6 +1,6 @@
 -- What is read as a batch is spelled so, and what is spelled so is read.
-use Rattle.std.proofs.Common.{◌≡◌, ℕ, zero, suc, ◌+◌, ◌-◌, ◌<◌, ◌≤◌, ◌^◌, max, Bool, true, false, cond, ◌&&◌, ◌||◌, not, eqb, List, [], ◌∷◌, ◌++◌, length, ℤ, pos, negsuc, Result, Ok, Err, refl, sym, ap, subst, ◌∙◌, append_assoc, arith}
-use Rattle.std.specs.Prelude.{nat_abs, ◌+ℤ◌, ◌-ℤ◌, int_le, int_lt, IfOk, MatchResult}
+use Rattle.std.proofs.Common.{◌≡◌, ℕ, ◌+◌, ◌<◌, Bool, true, false, cond, not, eqb, List, [], ◌++◌, length, ℤ, pos, negsuc, Result, Ok, Err, refl, sym, ap, subst, ◌∙◌, append_assoc, arith}
+use Rattle.std.specs.Prelude.{nat_abs, ◌+ℤ◌, ◌-ℤ◌, int_le, IfOk, MatchResult}
 use Rattle.std.specs.Int.{w8, w16, w32, w64}
 use Rattle.std.specs.List.{flat_map, AllByRecursion}
 use Rattle.std.specs.Ordering.{int_eq}
@@ -10,10 +10,10 @@ use Rattle.std.proofs.lemmas.Bool.Decides.{Decides-int_eq, Decides-eqb}
 use Rattle.std.proofs.lemmas.List.{length-append, length-map, append-nil, nil_from_length}
 use Rattle.kp_wire.specs.declared.fault.WireFault.{WireFault}
 use Rattle.kp_wire.specs.declared.fault.WireFault.TheVariants.{BadLength}
-use Rattle.kp_wire.specs.Reading.{Read, ◌>>=◌}
-use Rattle.kp_wire.specs.Codec.{Codec, read_many}
+use Rattle.kp_wire.specs.Reading.{◌>>=◌}
+use Rattle.kp_wire.specs.Codec.{read_many}
 use Rattle.kp_wire.specs.Checksum.{crc}
-use Rattle.kp_wire.proofs.ReadLemmas.{IsBytes, Takes, bind_ok, ok_is}
+use Rattle.kp_wire.proofs.ReadLemmas.{IsBytes, bind_ok, ok_is}
 use Rattle.kp_wire.proofs.CodecLemmas.{IsExact, pair_exact, made_exact, int_exact, number_exact, many_takes, many_again, one_spelling as codec_spelling, wide8, wide16, wide32, wide64}
 use Rattle.kp_batch.specs.declared.fault.BatchFault.{BatchFault}
 use Rattle.kp_batch.specs.declared.fault.BatchFault.TheVariants.{Short, Length, Magic, Checksum, Attributes, Count, BadRecord, Deltas, Timestamps, OutOfMemory}
@@ -26,7 +26,7 @@ use Rattle.kp_batch.specs.declared.summary.Summary.{Summary}
 use Rattle.kp_batch.specs.Record.{relative_record}
 use Rattle.kp_batch.specs.Spelling.{front, head, summary, base_timestamp, max_timestamp, relatives_from, relatives, summary_of, covered, front_of, spelling, HasSpelling, Spells}
 use Rattle.kp_batch.specs.Reading.{refuse, or_else, is_short, is_misfit, is_counted, Opened, opened_of, opened, all_records, in_places, are_moments, begins_at_base, absolute, records_of, is_timed, batch_at, Answers, Refuses}
-use Rattle.kp_batch.proofs.RecordLemmas.{relative_record_exact, let_through}
+use Rattle.kp_batch.proofs.RecordLemmas.{relative_record_exact}
 use Rattle.kp_batch.proofs.RelativeLemmas.{both, HasMoment, length-relatives_from, in_places-relatives_from, are_moments-relatives_from, records_of-relatives_from, begins_at_base-relatives, have_moments, relatives_from-records_of, base_timestamp-records_of}
 
 -- ---- the fields before the records

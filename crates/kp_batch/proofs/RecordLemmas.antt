@@ -1,5 +1,5 @@
 -- The fields of a record are read as they are written.
-use Rattle.std.proofs.Common.{◌≡◌, ℕ, zero, suc, ◌+◌, ◌-◌, ◌<◌, ◌≤◌, ◌^◌, Bool, true, false, cond, eqb, List, [], ◌∷◌, ◌++◌, length, ℤ, pos, negsuc, Option, Some, None, Result, Ok, Err, refl, sym, ap, subst, ◌∙◌, arith}
+use Rattle.std.proofs.Common.{◌≡◌, ℕ, zero, suc, ◌+◌, ◌-◌, ◌≤◌, Bool, true, false, cond, eqb, List, [], ◌∷◌, ◌++◌, length, ℤ, Ok, Err, refl, ap, subst, ◌∙◌, arith}
 use Rattle.std.specs.Prelude.{FitsSigned}
 use Rattle.std.specs.Int.{w32}
 use Rattle.std.proofs.lemmas.List.{length-append}
@@ -7,11 +7,10 @@ use Rattle.std.proofs.lemmas.Bool.{eqb-true}
 use Rattle.std.proofs.lemmas.Bool.Decides.{Decides-eqb}
 use Rattle.kp_wire.specs.declared.fault.WireFault.{WireFault}
 use Rattle.kp_wire.specs.declared.fault.WireFault.TheVariants.{BadLength}
-use Rattle.kp_wire.specs.Reading.{Read, ◌>>=◌}
-use Rattle.kp_wire.specs.Codec.{Codec, within, plain, utf8, sized, pair, made}
+use Rattle.kp_wire.specs.Codec.{within, plain, utf8}
 use Rattle.kp_wire.specs.Varint.{varint, varlong}
-use Rattle.kp_wire.proofs.ReadLemmas.{IsBytes, IsBytes-rest, Takes, bind_ok, chosen, done, ok_is, failed}
-use Rattle.kp_wire.proofs.CodecLemmas.{IsExact, IsSizedBy, anywhere_exact, pair_exact, made_exact, within_exact, sized_exact, nullable_sized_exact, array_exact, plain_exact, utf8_exact}
+use Rattle.kp_wire.proofs.ReadLemmas.{IsBytes, IsBytes-rest, Takes, bind_ok, ok_is}
+use Rattle.kp_wire.proofs.CodecLemmas.{IsExact, pair_exact, made_exact, within_exact, sized_exact, nullable_sized_exact, array_exact, plain_exact, utf8_exact}
 use Rattle.kp_wire.proofs.VarintLemmas.{varint_exact, varlong_exact}
 use Rattle.kp_batch.specs.declared.relative.RelativeRecord.{RelativeRecord}
 use Rattle.kp_batch.specs.Record.{attributes, read_zero, length_field, bytes_or_null, text, header, headers, fields, fields_size, read_fields, sized_fields, relative_record}

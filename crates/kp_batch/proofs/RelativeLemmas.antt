@@ -1,13 +1,12 @@
 -- Records less the batch's timestamp and offset, and back.
-use Rattle.std.proofs.Common.{◌≡◌, ℕ, zero, suc, ◌+◌, ◌-◌, ◌<◌, ◌≤◌, ◌^◌, max, Bool, true, false, cond, ◌&&◌, List, [], ◌∷◌, length, map, ℤ, pos, negsuc, refl, sym, ap, ◌∙◌, arith}
-use Rattle.std.specs.Prelude.{nat_abs, ◌+ℤ◌, ◌-ℤ◌, int_le, int_lt}
+use Rattle.std.proofs.Common.{◌≡◌, ℕ, suc, ◌<◌, ◌^◌, Bool, true, false, ◌&&◌, List, [], ◌∷◌, length, ℤ, pos, negsuc, refl, sym, ap, ◌∙◌, arith}
+use Rattle.std.specs.Prelude.{nat_abs, ◌+ℤ◌, ◌-ℤ◌}
 use Rattle.std.specs.List.{AllByRecursion}
-use Rattle.std.specs.Ordering.{int_eq}
 use Rattle.std.proofs.lemmas.Int.{ints}
 use Rattle.std.proofs.lemmas.Bool.Decides.{Decides-int_eq}
 use Rattle.kp_batch.specs.declared.record.Record.{Record}
 use Rattle.kp_batch.specs.declared.relative.RelativeRecord.{RelativeRecord}
-use Rattle.kp_batch.specs.Spelling.{base_timestamp, max_timestamp, relative, relatives_from, relatives}
+use Rattle.kp_batch.specs.Spelling.{base_timestamp, relative, relatives_from, relatives}
 use Rattle.kp_batch.specs.Reading.{in_places, is_moment, are_moments, begins_at_base, absolute, records_of}
 
 pub both : (a b : Bool) → (a && b) ≡ true → (a ≡ true) × (b ≡ true)

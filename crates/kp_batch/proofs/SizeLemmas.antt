@@ -1,18 +1,16 @@
 -- Sizes of fields, of records and of batches.
-use Rattle.std.proofs.Common.{◌≡◌, ℕ, zero, suc, ◌+◌, ◌-◌, ◌<◌, ◌≤◌, ◌^◌, Bool, true, false, cond, ltb, List, [], ◌∷◌, ◌++◌, length, get_or, drop, drop-cons, ℤ, pos, negsuc, Option, Some, None, refl, sym, ap, subst, ◌∙◌, add-one, arith}
+use Rattle.std.proofs.Common.{◌≡◌, ℕ, suc, ◌+◌, ◌<◌, ◌≤◌, List, [], ◌∷◌, ◌++◌, length, get_or, drop, drop-cons, pos, Some, refl, sym, ap, ◌∙◌, add-one, arith}
 use Rattle.std.specs.List.{flat_map}
-use Rattle.std.specs.Prelude.{nat_le}
-use Rattle.std.proofs.lemmas.Bool.{ltb-false, ltb-true, lt-ltb, le-ltb}
 use Rattle.std.proofs.lemmas.Bool.Decides.{nat_tests}
 use Rattle.std.proofs.lemmas.List.{length-append, drop_all}
 use Rattle.std.proofs.lemmas.List.Concat.{flat_map-cons}
-use Rattle.kp_wire.specs.Varint.{varint, varlong, groups, zigzag}
+use Rattle.kp_wire.specs.Varint.{varint, varlong, zigzag}
 use Rattle.kp_wire.proofs.VarintLemmas.{groups_some}
 use Rattle.kp_batch.specs.declared.record.Header.{Header}
 use Rattle.kp_batch.specs.declared.record.Record.{Record}
 use Rattle.kp_batch.specs.declared.relative.RelativeRecord.{RelativeRecord}
 use Rattle.kp_batch.specs.Record.{attributes, length_field, bytes_or_null, text, header, headers, fields, fields_size, relative_record}
-use Rattle.kp_batch.specs.Spelling.{relative_by, relative, relatives_from, relatives, base_timestamp, measured, size_of_batch}
+use Rattle.kp_batch.specs.Spelling.{relative, relatives_from, base_timestamp, measured, size_of_batch}
 
 -- the bytes of the records from place k on
 abbrev pub bytes_from : ℕ → ℕ → List Record → ℕ

@@ -15,7 +15,7 @@ use Rattle.std.proofs.lemmas.List.Concat.{flat_map-cons}
 use Rattle.kp_wire.specs.Varint.{varint, varlong}
 use Rattle.kp_batch.specs.declared.record.Header.{Header}
 use Rattle.kp_batch.specs.declared.relative.RelativeRecord.{RelativeRecord}
-use Rattle.kp_batch.specs.Record.{attributes, bytes_or_null, header, headers, fields, fields_size, sized_fields, relative_record}
+use Rattle.kp_batch.specs.Record.{attributes, bytes_or_null, header, headers, fields, fields_size, relative_record}
 use Rattle.kp_batch.specs.declared.record.Record.{Record}
 use Rattle.kp_batch.specs.Spelling.{front, head, summary, summary_of, covered, front_of, spelling, HasFields, Spells, written, relative, relatives_from, base_timestamp, max_timestamp}
 use Rattle.kp_batch.proofs.RelativeLemmas.{HasMoment}

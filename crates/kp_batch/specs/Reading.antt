@@ -1,9 +1,9 @@
 -- Reading a batch: of the rows of its table of faults, the first that applies.
-use Rattle.std.specs.Prelude.{◌≡◌, ℕ, zero, suc, ◌+◌, ◌-◌, ◌^◌, max, List, [], ◌∷◌, length, map, ℤ, pos, negsuc, Result, Ok, Err, Bool, true, false, ◌==◌, ◌&&◌, ◌||◌, not, int_lt, int_le, ◌+ℤ◌, ◌-ℤ◌, nat_abs, if◌then◌else◌, IsOk}
+use Rattle.std.specs.Prelude.{◌≡◌, ℕ, suc, ◌^◌, List, [], ◌∷◌, length, map, ℤ, pos, Result, Ok, Err, Bool, true, ◌==◌, ◌&&◌, ◌||◌, not, int_lt, int_le, ◌+ℤ◌, ◌-ℤ◌, nat_abs, if◌then◌else◌, IsOk}
 use Rattle.std.specs.Ordering.{int_eq}
 use Rattle.kp_wire.specs.declared.fault.WireFault.{WireFault}
 use Rattle.kp_wire.specs.declared.fault.WireFault.TheVariants.{BadLength}
-use Rattle.kp_wire.specs.Reading.{Read, ◌>>=◌}
+use Rattle.kp_wire.specs.Reading.{◌>>=◌}
 use Rattle.kp_wire.specs.Codec.{read_many}
 use Rattle.kp_wire.specs.Checksum.{crc}
 use Rattle.kp_batch.specs.declared.fault.BatchFault.{BatchFault}

@@ -1,5 +1,5 @@
 -- The format of a record in a batch, field by field.
-use Rattle.std.specs.Prelude.{◌≡◌, ℕ, zero, suc, ◌+◌, ◌-◌, ◌<◌, ◌^◌, List, [], ◌∷◌, ◌++◌, length, ℤ, pos, negsuc, Option, Some, None, Result, Ok, Err, ◌==◌, if◌then◌else◌, FitsSigned}
+use Rattle.std.specs.Prelude.{◌≡◌, ℕ, zero, suc, ◌+◌, ◌-◌, List, [], ◌∷◌, length, ℤ, Option, Ok, Err, ◌==◌, if◌then◌else◌}
 use Rattle.kp_wire.specs.declared.fault.WireFault.TheVariants.{Short, BadLength, BadByte}
 use Rattle.kp_wire.specs.Reading.{Read, ◌>>=◌}
 use Rattle.kp_wire.specs.Codec.{Codec, pair, made, within, sized, nullable_sized, plain, utf8, array}

@@ -1,5 +1,5 @@
 -- The register's steps are places of the division.
-use Rattle.std.proofs.Common.{◌≡◌, ℕ, zero, suc, ◌+◌, ◌-◌, ◌*◌, ◌/◌, ◌%◌, ◌^◌, ◌<◌, ◌≤◌, Bool, true, false, cond, eqb, List, [], ◌∷◌, ◌++◌, length, take, drop, get_or, map, refl, sym, ap, ◌∙◌, append_assoc, arith}
+use Rattle.std.proofs.Common.{◌≡◌, ℕ, zero, suc, ◌+◌, ◌-◌, ◌*◌, ◌/◌, ◌%◌, ◌^◌, ◌<◌, ◌≤◌, Bool, true, false, cond, eqb, List, [], ◌∷◌, ◌++◌, length, take, drop, get_or, refl, sym, ap, ◌∙◌, append_assoc, arith}
 use Rattle.std.specs.Prelude.{bit_xor, replicate}
 use Rattle.std.specs.List.{flat_map, fold, AllByRecursion}
 use Rattle.std.specs.Int.{bit_at, w32, bit_not}
@@ -9,7 +9,7 @@ use Rattle.std.proofs.lemmas.Nat.{xor_lt, xor_comm}
 use Rattle.std.proofs.lemmas.Nat.Bits.{bit_at_lowest, bit_at-suc, bit_at_xor, same_from_bits}
 use Rattle.std.proofs.lemmas.List.{length-append, length-replicate}
 use Rattle.std.proofs.lemmas.List.Concat.{flat_map-cons}
-use Rattle.kp_wire.specs.Checksum.{bits, number, inverted, plus, low_divisor, divisor, quotient, remainder, message, dividend, crc, times_divisor, Divides}
+use Rattle.kp_wire.specs.Checksum.{bits, number, inverted, plus, low_divisor, quotient, remainder, message, dividend, crc, times_divisor, Divides}
 use Rattle.kp_wire.specs.Register.{step, step_times, byte_step}
 
 pub steps_more : (n i s : ℕ) → i < n → step_times (n - i) s ≡ step_times (n - (i + 1)) (step s)

@@ -1,5 +1,5 @@
 -- Numbers in groups of seven bits are read as they are written.
-use Rattle.std.proofs.Common.{◌≡◌, ℕ, zero, suc, ◌+◌, ◌-◌, ◌*◌, ◌/◌, ◌%◌, ◌^◌, ◌<◌, ◌≤◌, Bool, true, false, cond, ltb, eqb, List, [], ◌∷◌, ◌++◌, length, get_or, drop, take, ℤ, pos, negsuc, Result, Ok, Err, refl, sym, ap, subst, ◌∙◌, ◌≢◌, append_assoc, arith, inl, inr}
+use Rattle.std.proofs.Common.{◌≡◌, ℕ, zero, suc, ◌+◌, ◌-◌, ◌*◌, ◌/◌, ◌%◌, ◌^◌, ◌<◌, ◌≤◌, Bool, true, false, cond, ltb, eqb, List, [], ◌∷◌, ◌++◌, length, drop, take, ℤ, pos, negsuc, Result, Ok, Err, refl, sym, ap, subst, ◌∙◌, ◌≢◌, append_assoc, arith, inl, inr}
 use Rattle.std.specs.Prelude.{FitsSigned, IfOk}
 use Rattle.std.specs.Int.{Width, w32, w64}
 use Rattle.std.proofs.lemmas.Bool.{ltb-false, ltb-true, lt-ltb, le-ltb, eqb-true, eqb-false}
@@ -7,12 +7,12 @@ use Rattle.std.proofs.lemmas.Bool.Decides.{nat_tests}
 use Rattle.std.proofs.Math.ListN.{set}
 use Rattle.std.proofs.lemmas.List.{length-append, length-drop, take_more_set}
 use Rattle.kp_wire.specs.declared.fault.WireFault.{WireFault}
-use Rattle.kp_wire.specs.declared.fault.WireFault.TheVariants.{Short, TooLarge, NotShortest}
-use Rattle.kp_wire.specs.Reading.{◌>>=◌, Took}
+use Rattle.kp_wire.specs.declared.fault.WireFault.TheVariants.{TooLarge, NotShortest}
+use Rattle.kp_wire.specs.Reading.{Took}
 use Rattle.kp_wire.specs.Codec.{Codec}
 use Rattle.kp_wire.specs.Varint.{room, groups, read_groups, zigzag, unzigzag, variable, varint, varlong}
 use Rattle.kp_wire.proofs.CodecLemmas.{IsExact}
-use Rattle.kp_wire.proofs.ReadLemmas.{IsBytes, IsBytes-rest, Takes, bind_ok, done, failed, ok_is, chosen, took_text}
+use Rattle.kp_wire.proofs.ReadLemmas.{IsBytes, IsBytes-rest, Takes, bind_ok, failed, ok_is, chosen, took_text}
 
 pub room_more : (more top : ℕ) → 0 < more → room more top ≡ 128 * room (more - 1) top
 unfolding room

@@ -1,5 +1,5 @@
 -- Formats, and how they are put together from formats.
-use Rattle.std.specs.Prelude.{◌≡◌, ℕ, zero, suc, ◌<◌, ◌^◌, List, [], ◌∷◌, ◌++◌, length, take, drop, ℤ, pos, negsuc, Option, Some, None, Result, Ok, Err, nat_lt, if◌then◌else◌, FitsSigned}
+use Rattle.std.specs.Prelude.{◌≡◌, ℕ, zero, suc, ◌<◌, ◌^◌, List, [], ◌∷◌, ◌++◌, length, take, drop, ℤ, pos, negsuc, Option, Some, None, Ok, Err, nat_lt, if◌then◌else◌, FitsSigned}
 use mir.Val.{bits}
 use Rattle.std.specs.Int.{Width, to_be_bytes, from_be_bytes, cast_unsigned, cast_signed, byte_len}
 use Rattle.std.specs.List.{flat_map, AllByRecursion}

@@ -1,10 +1,9 @@
-use Rattle.std.proofs.Common.{◌≡◌, ◌∙◌, [], ℕ, List, length, max, pos, sym, ap, arith}
-use Rattle.std.specs.Prelude.{FitsSigned, nat_abs}
+use Rattle.std.proofs.Common.{◌≡◌, ◌∙◌, [], length, sym, ap, arith}
+use Rattle.std.specs.Prelude.{FitsSigned}
 use Rattle.std.specs.Int.{w64}
 use Rattle.std.proofs.lemmas.Int.{to_z-of_z}
 use Rattle.std.specs.Vec.Iter.{into_iter_items}
 use Rattle.std.proofs.lemmas.List.{nil_from_length, append-nil}
-use Rattle.kp_batch.specs.declared.relative.RelativeRecord.{RelativeRecord}
 use Rattle.kp_batch.specs.Spelling.{max_timestamp}
 use Rattle.kp_batch.specs.Reading.{records_of}
 use Rattle.kp_batch.proofs.RowLemmas.{some_moment, no_moment, moments_more, moments_broken, moments_done, made_more, greatest_more}

@@ -1,12 +1,12 @@
-use Rattle.std.proofs.Common.{◌≡◌, ◌∙◌, ◌-◌, length, drop, sym, ap, pos, ℤ, refl, [], arith}
-use Rattle.std.specs.Prelude.{FitsSigned, ◌-ℤ◌}
+use Rattle.std.proofs.Common.{◌≡◌, ◌∙◌, length, sym, ap, pos, ℤ, [], arith}
+use Rattle.std.specs.Prelude.{◌-ℤ◌}
 use Rattle.std.specs.Int.{w32, w64}
 use mir.Val.{to_z, of_z}
-use Rattle.std.proofs.lemmas.Int.{to_z-of_z, ints}
+use Rattle.std.proofs.lemmas.Int.{ints}
 use Rattle.std.proofs.lemmas.List.{nil_from_length}
 use Rattle.kp_batch.specs.Spelling.{relative, relative_by, measured, size_of_batch, base_timestamp}
 use Rattle.kp_batch.specs.Record.{relative_record}
-use Rattle.kp_batch.proofs.SizeLemmas.{bytes_from, measured_small, measured_large, small_measured, large_measured, size_of_batch-is, bytes_from-here, bytes_from-none, first_has_base, some_bytes}
+use Rattle.kp_batch.proofs.SizeLemmas.{measured_small, measured_large, small_measured, large_measured, size_of_batch-is, bytes_from-here, bytes_from-none, first_has_base, some_bytes}
 use Rattle.kp_batch.proofs.size.measure.Goals as goal
 
 pub returns-in-empty : goal.returns-in-empty

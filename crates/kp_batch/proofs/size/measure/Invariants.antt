@@ -1,4 +1,4 @@
-use Rattle.std.proofs.Common.{◌≡◌, ◌+◌, ◌-◌, ◌≤◌, length, drop, pos}
+use Rattle.std.proofs.Common.{◌≡◌, ◌+◌, ◌-◌, ◌≤◌, drop}
 use Rattle.kp_batch.specs.Spelling.{measured, base_timestamp}
 use Rattle.kp_batch.proofs.SizeLemmas.{bytes_from}
 use Rattle.kp_batch.proofs.size.measure.Given as goal

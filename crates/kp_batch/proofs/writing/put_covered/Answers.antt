@@ -1,12 +1,10 @@
-use Rattle.std.proofs.Common.{◌≡◌, ◌∙◌, ◌++◌, ◌<◌, ◌^◌, length, get_or, ap, sym, subst, pos, ℤ, List, ℕ, arith, rules}
+use Rattle.std.proofs.Common.{◌≡◌, ◌++◌, ◌<◌, ◌^◌, length, pos, arith, rules}
 use Rattle.std.specs.Prelude.{◌-ℤ◌, FitsSigned}
-use Rattle.std.specs.List.{flat_map, AllByRecursion}
 use Rattle.std.specs.Int.{w16, w32, w64}
 use mir.Val.{to_z, of_z}
 use Rattle.std.proofs.lemmas.Int.{ints}
 use Rattle.std.proofs.lemmas.Result.{err_from_is_err_and}
-use Rattle.kp_batch.specs.Record.{relative_record}
-use Rattle.kp_batch.specs.Spelling.{summary, summary_of, relatives_from, base_timestamp, max_timestamp}
+use Rattle.kp_batch.specs.Spelling.{summary, summary_of, base_timestamp, max_timestamp}
 use Rattle.kp_batch.proofs.SizeLemmas.{size_of_batch-is}
 use Rattle.kp_batch.proofs.WritingLemmas.{first_timestamp, latest_timestamp, summary_fits, covered_spelled}
 use Rattle.kp_batch.proofs.writing.put_covered.Goals as goal

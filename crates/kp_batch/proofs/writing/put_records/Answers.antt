@@ -1,10 +1,10 @@
-use Rattle.std.proofs.Common.{◌≡◌, ◌∙◌, ◌++◌, ap, sym, pos, ℤ, List, ℕ, arith}
-use Rattle.std.specs.Prelude.{◌-ℤ◌, FitsSigned}
+use Rattle.std.proofs.Common.{◌≡◌, ◌++◌, pos, arith}
+use Rattle.std.specs.Prelude.{◌-ℤ◌}
 use Rattle.std.specs.Int.{w32, w64}
 use mir.Val.{to_z, of_z}
-use Rattle.std.proofs.lemmas.Int.{to_z-of_z, ints}
+use Rattle.std.proofs.lemmas.Int.{ints}
 use Rattle.kp_batch.specs.Record.{relative_record}
-use Rattle.kp_batch.specs.Spelling.{relative, relative_by}
+use Rattle.kp_batch.specs.Spelling.{relative}
 use Rattle.kp_batch.proofs.SizeLemmas.{bytes_from-here}
 use Rattle.kp_batch.proofs.WritingLemmas.{record_more, fits_more, moments_further}
 use Rattle.kp_batch.proofs.writing.put_records.Goals as goal

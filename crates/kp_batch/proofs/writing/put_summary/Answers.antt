@@ -1,6 +1,6 @@
 use Rattle.std.proofs.Common.{rules}
 use Rattle.std.specs.Prelude.{FitsSigned}
-use Rattle.std.specs.Int.{w8, w16, w32, w64}
+use Rattle.std.specs.Int.{w16, w32, w64}
 use Rattle.std.proofs.lemmas.Int.{to_z-of_z}
 use Rattle.kp_batch.proofs.WritingLemmas.{summary_spelled}
 use Rattle.kp_batch.proofs.writing.put_summary.Goals as goal

@@ -1,7 +1,6 @@
-use Rattle.std.proofs.Common.{◌≡◌, ◌∙◌, ◌+◌, ◌-◌, ◌≤◌, ◌++◌, length, take, drop, [], ap, sym, subst, refl, pos, negsuc, ℤ, List, ℕ, arith}
-use Rattle.std.specs.Prelude.{FitsSigned}
+use Rattle.std.proofs.Common.{◌≡◌, ◌∙◌, ◌+◌, ◌-◌, ◌++◌, length, take, drop, [], ap, sym, subst, refl, pos, List, ℕ, arith}
 use Rattle.std.specs.Int.{w32}
-use mir.Val.{to_z, of_z}
+use mir.Val.{to_z}
 use Rattle.std.proofs.lemmas.Int.{ints}
 use Rattle.std.proofs.lemmas.List.{length-append}
 use Rattle.kp_wire.specs.Checksum.{crc}

@@ -1,4 +1,4 @@
-use Rattle.std.proofs.Common.{◌≡◌, ◌∙◌, ◌≤◌, ◌-◌, ℕ, ap, length, take, arith}
+use Rattle.std.proofs.Common.{◌∙◌, ◌-◌, ℕ, ap, arith}
 use Rattle.std.specs.List.{fold}
 use Rattle.std.proofs.lemmas.List.{take_all}
 use Rattle.kp_wire.specs.Register.{byte_step}

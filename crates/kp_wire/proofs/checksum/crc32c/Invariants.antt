@@ -1,4 +1,4 @@
-use Rattle.std.proofs.Common.{◌≡◌, ◌-◌, take}
+use Rattle.std.proofs.Common.{◌≡◌, take}
 use Rattle.std.specs.List.{fold}
 use Rattle.kp_wire.specs.Register.{byte_step}
 use Rattle.kp_wire.proofs.checksum.crc32c.Given as goal

@@ -1,6 +1,5 @@
 use Rattle.std.proofs.Common.{◌≡◌, ◌++◌, ◌∷◌, []}
 use Rattle.std.proofs.lemmas.Result.{err_from_is_err_and}
-use Rattle.kp_wire.specs.Codec.{read_many}
 use Rattle.kp_wire.proofs.ManyLemmas.{goes_on, ends, is_done}
 use Rattle.kp_wire.proofs.codec.read_many.Goals as goal
 

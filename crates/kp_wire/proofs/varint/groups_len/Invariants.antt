@@ -1,4 +1,4 @@
-use Rattle.std.proofs.Common.{◌≡◌, ◌+◌, ◌≤◌, length}
+use Rattle.std.proofs.Common.{◌≡◌, ◌+◌, length}
 use Rattle.kp_wire.specs.Varint.{groups}
 use Rattle.kp_wire.proofs.varint.groups_len.Given as goal
 

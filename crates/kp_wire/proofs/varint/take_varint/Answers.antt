@@ -1,4 +1,4 @@
-use Rattle.std.proofs.Common.{ap, ◌∙◌, arith}
+use Rattle.std.proofs.Common.{arith}
 use Rattle.kp_wire.specs.Varint.{varint}
 use Rattle.kp_wire.proofs.VarintLemmas.{took_found, took_only, varint_exact}
 use Rattle.kp_wire.proofs.varint.take_varint.Goals as goal

@@ -1,4 +1,4 @@
-use Rattle.std.proofs.Common.{ap, ◌∙◌, arith}
+use Rattle.std.proofs.Common.{arith}
 use Rattle.kp_wire.specs.Varint.{varlong}
 use Rattle.kp_wire.proofs.VarintLemmas.{took_found, took_only, varlong_exact}
 use Rattle.kp_wire.proofs.varint.take_varlong.Goals as goal
