@@ -57,7 +57,7 @@ impl<'a> From<PackFault> for Fault<'a> {
 }
 
 /// Memory that was refused, or else this fault.
-pub fn memory_or<'a>(error: &io::Error, fault: Fault<'a>) -> Fault<'a> {
+pub(crate) fn memory_or<'a>(error: &io::Error, fault: Fault<'a>) -> Fault<'a> {
     match error.kind() {
         ErrorKind::OutOfMemory => Fault::OutOfMemory,
         _ => fault,

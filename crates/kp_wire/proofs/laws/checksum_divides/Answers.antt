@@ -2,4 +2,4 @@ use Rattle.kp_wire.proofs.ChecksumLemmas as lemmas
 use Rattle.kp_wire.proofs.laws.checksum_divides.Goals as goal
 
 pub returns : goal.returns
-returns c = lemmas.checksum_divides c.args.bytes.now
+returns c = lemmas.checksum_divides
