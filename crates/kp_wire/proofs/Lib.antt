@@ -1,6 +1,11 @@
 pub mod ReadLemmas
 pub mod VarintLemmas
 pub mod ChecksumLemmas
+pub mod StepLemmas
+pub mod SliceLemmas
+pub mod TableEntries
 pub mod CodecLemmas
+pub mod TakeLemmas
+pub mod StringLemmas
 pub mod TextLemmas
 pub mod ManyLemmas

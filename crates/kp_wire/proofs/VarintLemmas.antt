@@ -1,18 +1,16 @@
 -- Numbers in groups of seven bits are read as they are written.
-use Rattle.std.proofs.Common.{◌≡◌, ℕ, zero, suc, ◌+◌, ◌-◌, ◌*◌, ◌/◌, ◌%◌, ◌^◌, ◌<◌, ◌≤◌, Bool, true, false, cond, ltb, eqb, List, [], ◌∷◌, ◌++◌, length, drop, take, ℤ, pos, negsuc, Result, Ok, Err, refl, sym, ap, subst, ◌∙◌, ◌≢◌, append_assoc, arith, inl, inr}
-use Rattle.std.specs.Prelude.{FitsSigned, IfOk}
+use Rattle.std.proofs.Common.{◌≡◌, ℕ, zero, suc, ◌+◌, ◌-◌, ◌*◌, ◌/◌, ◌%◌, ◌^◌, ◌<◌, ◌≤◌, Bool, true, false, cond, ltb, eqb, List, [], ◌∷◌, ◌++◌, length, take, ℤ, pos, negsuc, Result, Ok, refl, sym, ap, subst, ◌∙◌, ◌≢◌, append_assoc, arith, inl, inr}
+use Rattle.std.specs.Prelude.{FitsSigned}
 use Rattle.std.specs.Int.{Width, w32, w64}
 use Rattle.std.proofs.lemmas.Bool.{ltb-false, ltb-true, lt-ltb, le-ltb, eqb-true, eqb-false}
 use Rattle.std.proofs.lemmas.Bool.Decides.{nat_tests}
 use Rattle.std.proofs.Math.ListN.{set}
-use Rattle.std.proofs.lemmas.List.{length-append, length-drop, take_more_set}
+use Rattle.std.proofs.lemmas.List.{take_more_set}
 use Rattle.kp_wire.specs.declared.fault.WireFault.{WireFault}
 use Rattle.kp_wire.specs.declared.fault.WireFault.TheVariants.{TooLarge, NotShortest}
-use Rattle.kp_wire.specs.Reading.{Took}
-use Rattle.kp_wire.specs.Codec.{Codec}
 use Rattle.kp_wire.specs.Varint.{room, groups, read_groups, zigzag, unzigzag, variable, varint, varlong}
 use Rattle.kp_wire.proofs.CodecLemmas.{IsExact}
-use Rattle.kp_wire.proofs.ReadLemmas.{IsBytes, IsBytes-rest, Takes, bind_ok, failed, ok_is, chosen, took_text}
+use Rattle.kp_wire.proofs.ReadLemmas.{IsBytes, IsBytes-rest, Takes, bind_ok, failed, ok_is, chosen}
 
 pub room_more : (more top : ℕ) → 0 < more → room more top ≡ 128 * room (more - 1) top
 unfolding room
@@ -100,12 +98,6 @@ last_takes more b n bytes rest lt e fits =
 
 no_read : (f : WireFault) (n : ℕ) (rest : List ℕ) → failed f ≡ read_as n rest → ⊥
 no_read f n rest e = cc
-
-abbrev pub value_as : ℤ → List ℕ → Result (ℤ × List ℕ) WireFault
-value_as z rest = Ok (z, rest)
-
-no_value : (f : WireFault) (z : ℤ) (rest : List ℕ) → failed f ≡ value_as z rest → ⊥
-no_value f z rest e = cc
 
 -- what is read is spelled so
 pub groups_takes : (more top : ℕ) (bytes : List ℕ) (n : ℕ) (rest : List ℕ) → top < 128 → IsBytes bytes → read_groups more top bytes ≡ Ok (n, rest) → (n < room more top) × Takes bytes (groups more n) rest
@@ -217,20 +209,3 @@ pub varlong_exact : IsExact 0 varlong
 varlong_exact = variable_exact w64 9 0x01 holds64
 
 -- ---- a value and the number of its bytes
-
-pub took_found : (c : Codec ℤ) → IsExact 0 c → (bytes : List ℕ) (r : Result (ℤ × ℕ) WireFault) → IsBytes bytes → Took bytes r (c.read bytes) → IfOk r (λ x. take x.1 bytes ≡ c.spell x.0)
-took_found c p bytes (Ok x) fits t = took_text bytes (c.spell x.0) x.1 t.0 (p.takes bytes (x.0, drop x.1 bytes) fits t.1).0
-took_found c p bytes (Err f) fits t = tt
-
-pub took_only : (c : Codec ℤ) → IsExact 0 c → (bytes : List ℕ) (r : Result (ℤ × ℕ) WireFault) (z : ℤ) (rest : List ℕ)
-    → bytes ≡ c.spell z ++ rest → c.Fits z → Took bytes r (c.read bytes) → r ≡ Ok (z, length (c.spell z))
-took_only c p bytes (Ok x) z rest e fits t =
-    let again = ap c.read e ∙ p.again z rest fits (omega arith) in
-    let both = ok_is (x.0, drop x.1 bytes) (z, rest) (sym t.1 ∙ again) in
-    let rest-is : drop x.1 bytes ≡ rest = ap (λ (p : ℤ × List ℕ). p.1) both in
-    let z-is : x.0 ≡ z = ap (λ (p : ℤ × List ℕ). p.0) both in
-    let whole : length bytes ≡ length (c.spell z) + length rest = ap length e ∙ length-append (c.spell z) rest in
-    let left : length bytes - x.1 ≡ length rest = sym (length-drop x.1 bytes) ∙ ap length rest-is in
-    let len : x.1 ≡ length (c.spell z) = omega (arith, t.0) in
-    ap (λ (p : ℤ × ℕ). Ok p) (ap (λ (y : ℤ). (y, x.1)) z-is ∙ ap (λ (n : ℕ). (z, n)) len)
-took_only c p bytes (Err f) z rest e fits t = absurd (no_value f z rest (sym t ∙ ap c.read e ∙ p.again z rest fits (omega arith)))

@@ -19,10 +19,11 @@ abbrev pub IsRead : {X Y E : Type 0} → (X → Y) → Result X E → Result Y E
 IsRead view (Ok x) read = read ≡ Ok (view x)
 IsRead view (Err e) read = read ≡ Err e
 
--- A value and the number of its bytes, where reading gives that value and the bytes behind it; else the same fault.
-abbrev pub Took : {A : Type 0} → List ℕ → Result (A × ℕ) WireFault → Read A → Type 0
-Took bytes (Ok x) read = (x.1 ≤ length bytes) × (read ≡ Ok (x.0, drop x.1 bytes))
-Took bytes (Err e) read = read ≡ Err e
+-- A value, seen by view, and the number of its bytes, where reading gives that value and the bytes behind it; else the
+-- same fault.
+abbrev pub Took : {X A : Type 0} → (X → A) → List ℕ → Result (X × ℕ) WireFault → Read A → Type 0
+Took view bytes (Ok x) read = (x.1 ≤ length bytes) × (read ≡ Ok (view x.0, drop x.1 bytes))
+Took view bytes (Err e) read = read ≡ Err e
 
 -- The error is that of reading, or memory was refused.
 abbrev pub Fails : {Y : Type 0} → ReadError → Result Y WireFault → Type 0

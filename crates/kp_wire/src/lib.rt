@@ -9,6 +9,7 @@ mod field;
 pub mod laws;
 mod number;
 mod seq;
+mod string;
 mod text;
 mod varint;
 
@@ -21,6 +22,9 @@ pub use number::{
     put_i8, put_i16, put_i32, put_i64, put_u32, read_i8, read_i16, read_i32, read_i64, read_u32,
 };
 pub use seq::Seq;
+pub use string::{
+    put_nullable, put_string, read_nullable, read_string, take_nullable, take_string,
+};
 pub use text::Text;
 pub use varint::{
     put_varint, put_varlong, read_varint, read_varlong, take_varint, take_varlong, varint_len,

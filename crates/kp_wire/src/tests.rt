@@ -2,6 +2,8 @@ use super::*;
 use std::alloc::Global;
 use std::test::Fail;
 
+mod string;
+
 /// RFC 3720, appendix B.4, and the check value of the CRC catalogues.
 #[test]
 fn checksums_are_the_published_ones(rt: HostRuntime) {

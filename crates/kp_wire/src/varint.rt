@@ -161,7 +161,7 @@ pub fn varlong_len(n: i64) -> u64
 }
 
 fn counted_varint(bytes: &[u8]) -> Result<(i32, usize), WireFault>
-    ensures { Took bytes.now result (varint.read bytes.now) }
+    ensures { Took (λ n. n) bytes.now result (varint.read bytes.now) }
 {
     let (n, rest) = read_varint(bytes)?;
     Ok((n, bytes.len() - rest.len()))
@@ -177,13 +177,13 @@ pub fn take_varint(bytes: &[u8]) -> Result<(i32, usize), WireFault>
         → result ≡ Ok (n, length (varint.spell n)) }
 
     // Which fault it is.
-    ensures exact { Took bytes.now result (varint.read bytes.now) }
+    ensures exact { Took (λ n. n) bytes.now result (varint.read bytes.now) }
 {
     counted_varint(bytes)
 }
 
 fn counted_varlong(bytes: &[u8]) -> Result<(i64, usize), WireFault>
-    ensures { Took bytes.now result (varlong.read bytes.now) }
+    ensures { Took (λ n. n) bytes.now result (varlong.read bytes.now) }
 {
     let (n, rest) = read_varlong(bytes)?;
     Ok((n, bytes.len() - rest.len()))
@@ -199,7 +199,7 @@ pub fn take_varlong(bytes: &[u8]) -> Result<(i64, usize), WireFault>
         → result ≡ Ok (n, length (varlong.spell n)) }
 
     // Which fault it is.
-    ensures exact { Took bytes.now result (varlong.read bytes.now) }
+    ensures exact { Took (λ n. n) bytes.now result (varlong.read bytes.now) }
 {
     counted_varlong(bytes)
 }
