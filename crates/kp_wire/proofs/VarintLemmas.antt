@@ -1,11 +1,12 @@
 -- Numbers in groups of seven bits are read as they are written.
-use Rattle.std.proofs.Common.{◌≡◌, ℕ, zero, suc, ◌+◌, ◌-◌, ◌*◌, ◌/◌, ◌%◌, ◌^◌, ◌<◌, ◌≤◌, Bool, true, false, cond, ltb, eqb, List, [], ◌∷◌, ◌++◌, length, take, ℤ, pos, negsuc, Result, Ok, refl, sym, ap, subst, ◌∙◌, ◌≢◌, append_assoc, arith, inl, inr}
+use Rattle.std.proofs.Common.{◌≡◌, ℕ, zero, suc, ◌+◌, ◌-◌, ◌*◌, ◌/◌, ◌%◌, ◌^◌, ◌<◌, ◌≤◌, Bool, true, false, cond, ltb, eqb, List, [], ◌∷◌, ◌++◌, length, get_or, drop, take, ℤ, pos, negsuc, Result, Ok, refl, sym, ap, subst, ◌∙◌, ◌≢◌, append_assoc, arith, inl, inr}
 use Rattle.std.specs.Prelude.{FitsSigned}
 use Rattle.std.specs.Int.{Width, w32, w64}
 use Rattle.std.proofs.lemmas.Bool.{ltb-false, ltb-true, lt-ltb, le-ltb, eqb-true, eqb-false}
+use Rattle.std.proofs.Math.Dec.{eqb-suc-zero}
 use Rattle.std.proofs.lemmas.Bool.Decides.{nat_tests}
 use Rattle.std.proofs.Math.ListN.{set}
-use Rattle.std.proofs.lemmas.List.{take_more_set}
+use Rattle.std.proofs.lemmas.List.{length-drop, take_all, take_more_set}
 use Rattle.kp_wire.specs.declared.fault.WireFault.{WireFault}
 use Rattle.kp_wire.specs.declared.fault.WireFault.TheVariants.{TooLarge, NotShortest}
 use Rattle.kp_wire.specs.Varint.{room, groups, read_groups, zigzag, unzigzag, variable, varint, varlong}
@@ -209,3 +210,45 @@ pub varlong_exact : IsExact 0 varlong
 varlong_exact = variable_exact w64 9 0x01 holds64
 
 -- ---- a value and the number of its bytes
+
+-- ---- one or two groups
+
+pub one_group : (more n : ℕ) → n < 128 → groups more n ≡ n ∷ []
+one_group more n h = groups_last more n h
+
+pub two_groups : (more n : ℕ) → 2 ≤ more → 128 ≤ n → n < 16384 → groups more n ≡ (n % 128 + 128) ∷ (n / 128) ∷ []
+unfolding groups
+two_groups zero n some long h = absurd (omega arith)
+two_groups (suc more) n some long h = rw (le-ltb n 128 long) (ap (λ (x : List ℕ). (n % 128 + 128) ∷ x) (groups_last more (n / 128) (omega arith)))
+
+whole_rest : (k : ℕ) (bytes : List ℕ) → take (length bytes - k) (drop k bytes) ≡ drop k bytes
+whole_rest k bytes = take_all (length bytes - k) (drop k bytes) (omega (arith, length-drop k bytes))
+
+pub read_one : (more top b : ℕ) (bytes : List ℕ) → 2 ≤ more → 1 ≤ length bytes → b ≡ get_or bytes 0 0 → b < 128
+    → read_groups more top bytes ≡ Ok (b, take (length bytes - 1) (drop 1 bytes))
+unfolding read_groups
+read_one more top b bytes some long is h = rw (whole_rest 1 bytes, is) (one more bytes some long (omega (arith, is)))
+  where
+    one : (more : ℕ) (bytes : List ℕ) → 2 ≤ more → 1 ≤ length bytes → get_or bytes 0 0 < 128 → read_groups more top bytes ≡ Ok (get_or bytes 0 0, drop 1 bytes)
+    one zero bytes some long h = absurd (omega arith)
+    one (suc more) [] some long h = absurd (omega arith)
+    one (suc more) (x ∷ rest) some long h = rw (lt-ltb x 128 h) refl
+
+pub read_two : (more top n : ℕ) (bytes : List ℕ) → 2 ≤ more → 2 ≤ length bytes → n ≡ get_or bytes 0 0 - 128 + 128 * get_or bytes 1 0 → 128 ≤ get_or bytes 0 0 → 0 < get_or bytes 1 0 → get_or bytes 1 0 < 128
+    → read_groups more top bytes ≡ Ok (n, take (length bytes - 2) (drop 2 bytes))
+unfolding read_groups
+read_two more top n bytes some long is wide not_zero low = rw (whole_rest 2 bytes, is) (two more bytes some long wide not_zero low)
+  where
+    two : (more : ℕ) (bytes : List ℕ) → 2 ≤ more → 2 ≤ length bytes → 128 ≤ get_or bytes 0 0 → 0 < get_or bytes 1 0 → get_or bytes 1 0 < 128
+        → read_groups more top bytes ≡ Ok (get_or bytes 0 0 - 128 + 128 * get_or bytes 1 0, drop 2 bytes)
+    two zero bytes some long wide not_zero low = absurd (omega arith)
+    two (suc zero) bytes some long wide not_zero low = absurd (omega arith)
+    two (suc (suc more)) [] some long wide not_zero low = absurd (omega arith)
+    two (suc (suc more)) (x ∷ []) some long wide not_zero low = absurd (omega arith)
+    two (suc (suc more)) (x ∷ zero ∷ rest) some long wide not_zero low = absurd (omega arith)
+    two (suc (suc more)) (x ∷ suc y ∷ rest) some long wide not_zero low = rw (le-ltb x 128 wide, lt-ltb (suc y) 128 low, eqb-suc-zero y) refl
+
+pub room_of_two : (more top : ℕ) → 2 ≤ more → 16384 ≤ room more top
+room_of_two more top h = omega (arith, room_more more top (omega arith), room_least (more - 1) top (omega arith))
+
+pub ruleset few_groups = (one_group, two_groups)

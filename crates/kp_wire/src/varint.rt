@@ -70,12 +70,29 @@ fn groups_of(bytes: &[u8], more: u8, top: u8) -> Result<(u64, &[u8]), WireFault>
     }
 }
 
+/// As `groups_of`, at once where there are one or two groups, as most numbers have.
+#[inline]
+fn number_of(bytes: &[u8], more: u8, top: u8) -> Result<(u64, &[u8]), WireFault>
+    requires some { 2 ≤ more }
+    requires fits { room more top ≤ 2 ^ 64 }
+    ensures exact { IsRead (λ x. (x.0, x.1.now)) result (read_groups more top bytes.now) }
+    ensures small { IfOk result (λ x. x.0 < room more top) }
+{
+    match bytes {
+        [last, rest @ ..] if *last < 128 => Ok((u64::from(*last), rest)),
+        [low, high, rest @ ..] if *high < 128 && *high > 0 => {
+            Ok((u64::from(*low - 128) + 128 * u64::from(*high), rest))
+        }
+        _ => groups_of(bytes, more, top),
+    }
+}
+
 /// The VARINT at the front, and the bytes behind it.
 #[tactic(auto, unfolding(crate::specs::Varint::room))]
 pub fn read_varint(bytes: &[u8]) -> Result<(i32, &[u8]), WireFault>
     ensures { IsRead (λ x. (x.0, x.1.now)) result (varint.read bytes.now) }
 {
-    let (n, rest) = groups_of(bytes, MORE_IN_VARINT, TOP_OF_VARINT)?;
+    let (n, rest) = number_of(bytes, MORE_IN_VARINT, TOP_OF_VARINT)?;
     Ok((unfolded(n) as i32, rest))
 }
 
@@ -84,7 +101,7 @@ pub fn read_varint(bytes: &[u8]) -> Result<(i32, &[u8]), WireFault>
 pub fn read_varlong(bytes: &[u8]) -> Result<(i64, &[u8]), WireFault>
     ensures { IsRead (λ x. (x.0, x.1.now)) result (varlong.read bytes.now) }
 {
-    let (n, rest) = groups_of(bytes, MORE_IN_VARLONG, TOP_OF_VARLONG)?;
+    let (n, rest) = number_of(bytes, MORE_IN_VARLONG, TOP_OF_VARLONG)?;
     Ok((unfolded(n), rest))
 }
 
@@ -109,13 +126,33 @@ fn put_groups(out: &mut Vec<u8>, more: u8, n: u64) -> Result<(), AllocError>
     out.extend_from_slice(&buffer[..len + 1])
 }
 
+/// As `put_groups`, at once where there are one or two groups, as most numbers have.
+#[inline]
+#[tactic(auto, using(crate::proofs::VarintLemmas::few_groups))]
+fn put_number(out: &mut Vec<u8>, more: u8, n: u64) -> Result<(), AllocError>
+    requires some { 2 ≤ more }
+    requires few { more < 10 }
+    requires fits { n < room more 127 }
+    ensures ok { OnOk result (out.new.items ≡ out.old.items ++ groups more n) }
+    ensures err { OnErr result (out.new.items ≡ out.old.items) }
+{
+    if n < 128 {
+        out.push(n as u8)?;
+        Ok(())
+    } else if n < 16384 {
+        out.extend_from_slice(&[(n % 128) as u8 + 128, (n / 128) as u8])
+    } else {
+        put_groups(out, more, n)
+    }
+}
+
 /// Appends the VARINT of `n`. An `Err` leaves `out` as it was.
 #[tactic(auto, unfolding(crate::specs::Varint::room))]
 pub fn put_varint(out: &mut Vec<u8>, n: i32) -> Result<(), AllocError>
     ensures ok { OnOk result (out.new.items ≡ out.old.items ++ varint.spell n) }
     ensures err { OnErr result (out.new.items ≡ out.old.items) }
 {
-    put_groups(out, MORE_IN_VARINT, folded(i64::from(n)))
+    put_number(out, MORE_IN_VARINT, folded(i64::from(n)))
 }
 
 /// Appends the VARLONG of `n`. An `Err` leaves `out` as it was.
@@ -124,7 +161,7 @@ pub fn put_varlong(out: &mut Vec<u8>, n: i64) -> Result<(), AllocError>
     ensures ok { OnOk result (out.new.items ≡ out.old.items ++ varlong.spell n) }
     ensures err { OnErr result (out.new.items ≡ out.old.items) }
 {
-    put_groups(out, MORE_IN_VARLONG, folded(n))
+    put_number(out, MORE_IN_VARLONG, folded(n))
 }
 
 /// How many bytes a number in at most `more + 1` groups takes.
@@ -144,12 +181,30 @@ fn groups_len(n: u64, more: u8) -> u64
     len
 }
 
+/// As `groups_len`, at once where there are one or two groups, as most numbers have.
+#[inline]
+#[tactic(auto, using(crate::proofs::VarintLemmas::few_groups))]
+fn number_len(n: u64, more: u8) -> u64
+    requires some { 2 ≤ more }
+    requires few { more < 10 }
+    ensures value { result ≡ length (groups more n) }
+    ensures few { result ≤ more + 1 }
+{
+    if n < 128 {
+        1
+    } else if n < 16384 {
+        2
+    } else {
+        groups_len(n, more)
+    }
+}
+
 /// How many bytes the VARINT of `n` takes: 1 to 5.
 pub fn varint_len(n: i32) -> u64
     ensures value { result ≡ length (varint.spell n) }
     ensures few { result ≤ 5 }
 {
-    groups_len(folded(i64::from(n)), MORE_IN_VARINT)
+    number_len(folded(i64::from(n)), MORE_IN_VARINT)
 }
 
 /// How many bytes the VARLONG of `n` takes: 1 to 10.
@@ -157,7 +212,7 @@ pub fn varlong_len(n: i64) -> u64
     ensures value { result ≡ length (varlong.spell n) }
     ensures few { result ≤ 10 }
 {
-    groups_len(folded(n), MORE_IN_VARLONG)
+    number_len(folded(n), MORE_IN_VARLONG)
 }
 
 fn counted_varint(bytes: &[u8]) -> Result<(i32, usize), WireFault>

@@ -1,0 +1,79 @@
+//! The works whose cost is measured.
+
+use kp_batch::{BatchHead, Record, SIZE_LIMIT, Timestamp, batch_size, read_batch, write_batch};
+use kp_wire::{Blob, Seq, crc32c};
+use std::alloc::{AllocError, Global};
+
+/// How many bytes a checksum is taken of.
+const CHECKED: usize = 16384;
+
+/// How many records the batch has.
+const RECORDS: u8 = 149;
+
+/// A record's value: a hundred bytes.
+const VALUE: [u8; 100] = [b'v'; 100];
+
+const HEAD: BatchHead = BatchHead {
+    producer_id: 1000,
+    epoch: 0,
+    base_sequence: 0,
+};
+
+fn records_of(alloc: Global) -> Result<Vec<Record>, AllocError> {
+    let mut records = Vec::new(alloc);
+    for millis in 0..RECORDS {
+        records.push(Record {
+            timestamp: Timestamp::from_millis(i64::from(millis)).ok_or(AllocError)?,
+            key: None,
+            value: Some(Blob::from_slice(alloc, &VALUE)?),
+            headers: Seq::new(Vec::new(alloc)),
+        })?;
+    }
+    Ok(records)
+}
+
+fn batch_of(alloc: Global, records: &[Record]) -> Result<Vec<u8>, AllocError> {
+    if records.is_empty() || batch_size(records) > SIZE_LIMIT {
+        return Err(AllocError);
+    }
+    write_batch(alloc, HEAD, records)
+}
+
+/// The sum of so many checksums.
+pub fn checksums(alloc: Global, times: u32) -> Result<u64, AllocError> {
+    let mut bytes = Vec::new(alloc);
+    bytes.resize(CHECKED, b'c')?;
+    let mut sum = 0u64;
+    for time in 0..times {
+        if let Some(first) = bytes.first_mut() {
+            *first = (time % 256) as u8;
+        }
+        sum = sum.wrapping_add(u64::from(crc32c(&bytes)));
+    }
+    Ok(sum)
+}
+
+/// The bytes of so many batches.
+pub fn writes(alloc: Global, times: u32) -> Result<u64, AllocError> {
+    let records = records_of(alloc)?;
+    if records.is_empty() || batch_size(&records) > SIZE_LIMIT {
+        return Err(AllocError);
+    }
+    let mut sum = 0u64;
+    for _ in 0..times {
+        sum = sum.wrapping_add(write_batch(alloc, HEAD, &records)?.len() as u64);
+    }
+    Ok(sum)
+}
+
+/// The records of so many batches.
+pub fn reads(alloc: Global, times: u32) -> Result<u64, AllocError> {
+    let bytes = batch_of(alloc, &records_of(alloc)?)?;
+    let mut sum = 0u64;
+    for _ in 0..times {
+        if let Ok(batch) = read_batch(alloc, &bytes) {
+            sum = sum.wrapping_add(batch.records.len() as u64);
+        }
+    }
+    Ok(sum)
+}
