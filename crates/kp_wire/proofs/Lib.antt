@@ -4,3 +4,4 @@ pub mod ChecksumLemmas
 pub mod CodecLemmas
 pub mod TextLemmas
 pub mod ManyLemmas
+pub mod HashLemmas

@@ -3,3 +3,4 @@ pub mod Codec
 pub mod Varint
 pub mod Checksum
 pub mod Register
+pub mod Hash
