@@ -28,13 +28,14 @@ folded places n = bit_xor n (n / 2 ^ places)
 unfoldable pub with_word : ℕ → ℕ → ℕ
 with_word hash word = bit_xor (multiplied hash) (multiplied (folded 24 (multiplied word)))
 
--- the hash with the bytes left; the second and the third shifted left by 8 and by 16 places
+-- The hash with the bytes left: the third shifted left by 16 places, the second by 8. None left, the same hash.
 unfoldable pub with_left : ℕ → List ℕ → ℕ
 with_left hash (a ∷ []) = multiplied (bit_xor hash a)
 with_left hash (a ∷ b ∷ []) = multiplied (bit_xor (bit_xor hash (2 ^ 8 * b)) a)
 with_left hash (a ∷ b ∷ c ∷ []) = multiplied (bit_xor (bit_xor (bit_xor hash (2 ^ 16 * c)) (2 ^ 8 * b)) a)
 with_left hash bytes = hash
 
+-- the last mixing of the bits
 unfoldable pub finished : ℕ → ℕ
 finished hash = folded 15 (multiplied (folded 13 hash))
 
@@ -42,5 +43,6 @@ finished hash = folded 15 (multiplied (folded 13 hash))
 unfoldable pub start : List ℕ → ℕ
 start bytes = bit_xor 0x9747b28c (length bytes % 2 ^ 32)
 
+-- the words go into the hash in turn, then the bytes left
 unfoldable pub murmur2 : List ℕ → ℕ
 murmur2 bytes = finished (with_left (fold with_word (start bytes) (words bytes)) (left bytes))

@@ -68,7 +68,7 @@ pub fn murmur2(bytes: &[u8]) -> u32
 pub fn partition_of_key(key: &[u8], partitions: u32) -> u32
     requires { 0 < partitions }
     ensures value { result ≡ bit_and (murmur2 key.now) 0x7fffffff % partitions }
-    ensures there { result < partitions }
+    ensures below { result < partitions }
 {
     (murmur2(key) & NOT_NEGATIVE) % partitions
 }
