@@ -9,3 +9,4 @@ pub mod TakeLemmas
 pub mod StringLemmas
 pub mod TextLemmas
 pub mod ManyLemmas
+pub mod HashLemmas

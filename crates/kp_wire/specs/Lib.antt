@@ -4,3 +4,4 @@ pub mod Varint
 pub mod Strings
 pub mod Checksum
 pub mod Register
+pub mod Hash

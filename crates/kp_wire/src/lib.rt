@@ -6,6 +6,7 @@ mod checksum;
 mod codec;
 mod fault;
 mod field;
+mod hash;
 pub mod laws;
 mod number;
 mod seq;
@@ -18,6 +19,7 @@ pub use checksum::crc32c;
 pub use codec::{ReadField, WriteField, put_all, read_many};
 pub use fault::{ReadError, WireFault, WriteError};
 pub use field::{end_before, read_bytes, read_utf8};
+pub use hash::{murmur2, partition_of_key};
 pub use number::{
     put_i8, put_i16, put_i32, put_i64, put_u32, read_i8, read_i16, read_i32, read_i64, read_u32,
 };

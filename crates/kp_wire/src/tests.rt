@@ -1,3 +1,5 @@
+mod hash;
+
 use super::*;
 use std::alloc::Global;
 use std::test::Fail;

@@ -1,0 +1,28 @@
+//! Holds the codecs and hashes to what other clients agree on, and prints how many lines of each kind agree.
+//!
+//! `vectors.txt` and `batches.jsonl` lie in the folder where the program runs. The vectors are agreed by
+//! python3-kafka, librdkafka, the JDK and python3-crc32c, as far as each has the kind; the batches were written
+//! by python3-kafka.
+#![tactic(auto)]
+
+mod batches;
+mod bitwise;
+mod fault;
+mod program;
+mod tally;
+#[cfg(test)]
+mod tests;
+mod vectors;
+
+use std::process::ExitCode;
+
+fn main(rt: HostRuntime) -> ExitCode {
+    match program::run(&rt) {
+        Ok(true) => ExitCode::SUCCESS,
+        Ok(false) => ExitCode::FAILURE,
+        Err(failure) => {
+            let _ = eprintln!(rt; "kp_vectors: {failure}");
+            ExitCode::FAILURE
+        }
+    }
+}

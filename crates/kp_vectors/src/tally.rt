@@ -1,0 +1,160 @@
+//! How many lines of each kind agree, and which lines do not.
+
+use crate::fault::LineFault;
+use std::alloc::{AllocError, Global};
+use std::fmt;
+
+/// What a line is about.
+#[derive(Clone, Copy, Debug, PartialEq, Eq)]
+pub enum Kind {
+    Varint,
+    Varlong,
+    Crc32c,
+    Murmur2,
+    PartitionOfFour,
+    Batch,
+    /// Of a line whose kind can't be read.
+    Unknown,
+}
+
+impl Kind {
+    /// The kind's word in the files and on output.
+    fn name(self) -> &'static str {
+        match self {
+            Kind::Varint => "varint",
+            Kind::Varlong => "varlong",
+            Kind::Crc32c => "crc32c",
+            Kind::Murmur2 => "murmur2",
+            Kind::PartitionOfFour => "partition-of-4",
+            Kind::Batch => "batch",
+            Kind::Unknown => "unknown",
+        }
+    }
+
+    /// The kind of a vector that begins with this word.
+    pub fn of_vector(word: &str) -> Kind {
+        match word {
+            "varint" => Kind::Varint,
+            "varlong" => Kind::Varlong,
+            "crc32c" => Kind::Crc32c,
+            "murmur2" => Kind::Murmur2,
+            "partition-of-4" => Kind::PartitionOfFour,
+            _ => Kind::Unknown,
+        }
+    }
+}
+
+impl fmt::Display for Kind {
+    fn fmt<W: fmt::Write>(&self, f: &mut fmt::Formatter<W>) -> fmt::Result {
+        f.write_str(self.name())
+    }
+}
+
+/// How many of a kind's lines agree.
+#[derive(Clone, Copy, Debug, PartialEq, Eq)]
+struct Count {
+    kind: Kind,
+    agree: u64,
+    lines: u64,
+}
+
+impl Count {
+    fn none_of(kind: Kind) -> Self {
+        Count {
+            kind,
+            agree: 0,
+            lines: 0,
+        }
+    }
+}
+
+/// A line's place.
+#[derive(Clone, Copy, Debug, PartialEq, Eq)]
+pub struct Place {
+    pub file: &'static str,
+    /// From 1.
+    pub line: u64,
+}
+
+/// A line that does not agree, and why.
+#[derive(Clone, Copy, Debug, PartialEq, Eq)]
+struct Disagreement {
+    place: Place,
+    kind: Kind,
+    fault: LineFault,
+}
+
+impl fmt::Display for Disagreement {
+    fn fmt<W: fmt::Write>(&self, f: &mut fmt::Formatter<W>) -> fmt::Result {
+        let Disagreement { place, kind, fault } = *self;
+        write!(f, "{}:{}: {kind}: {fault}", place.file, place.line)
+    }
+}
+
+/// The counts of all kinds, in the order in which they are printed, and the lines that do not agree.
+#[derive(Debug, Drop)]
+pub struct Tally {
+    counts: [Count; 7],
+    disagreements: Vec<Disagreement>,
+}
+
+impl Tally {
+    pub fn new(alloc: Global) -> Self {
+        Tally {
+            counts: [
+                Count::none_of(Kind::Varint),
+                Count::none_of(Kind::Varlong),
+                Count::none_of(Kind::Crc32c),
+                Count::none_of(Kind::Murmur2),
+                Count::none_of(Kind::PartitionOfFour),
+                Count::none_of(Kind::Batch),
+                Count::none_of(Kind::Unknown),
+            ],
+            disagreements: Vec::new(alloc),
+        }
+    }
+
+    /// Whether each line agrees.
+    pub fn agrees(&self) -> bool {
+        self.disagreements.is_empty()
+    }
+
+    /// Counts a line of this kind and what was found of it. Memory that was refused is passed on, and the line
+    /// is then not counted.
+    pub fn add(
+        &mut self,
+        place: Place,
+        kind: Kind,
+        finding: Result<(), LineFault>,
+    ) -> Result<(), AllocError> {
+        match finding {
+            Ok(()) => {}
+            Err(LineFault::OutOfMemory) => return Err(AllocError),
+            Err(fault) => self
+                .disagreements
+                .push(Disagreement { place, kind, fault })?,
+        }
+        for count in self.counts.iter_mut() {
+            if count.kind == kind {
+                count.lines = count.lines.saturating_add(1);
+                count.agree = count.agree.saturating_add(u64::from(finding.is_ok()));
+            }
+        }
+        Ok(())
+    }
+}
+
+impl fmt::Display for Tally {
+    fn fmt<W: fmt::Write>(&self, f: &mut fmt::Formatter<W>) -> fmt::Result {
+        for disagreement in &self.disagreements {
+            writeln!(f, "{disagreement}")?;
+        }
+        for count in &self.counts {
+            let Count { kind, agree, lines } = *count;
+            if kind != Kind::Unknown || lines > 0 {
+                writeln!(f, "{kind} {agree} of {lines}")?;
+            }
+        }
+        Ok(())
+    }
+}
