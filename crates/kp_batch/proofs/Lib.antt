@@ -3,4 +3,5 @@ pub mod RowLemmas
 pub mod RelativeLemmas
 pub mod BatchLemmas
 pub mod SizeLemmas
+pub mod ListedLemmas
 pub mod WritingLemmas

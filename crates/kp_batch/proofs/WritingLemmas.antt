@@ -88,14 +88,6 @@ pub summary_spelled : (s : Summary) (o0 o1 o2 o3 o4 o5 o6 : List ℕ) → o1 ≡
 unfolding summary
 summary_spelled s o0 o1 o2 o3 o4 o5 o6 e1 e2 e3 e4 e5 e6 = rw (e6, e5, e4, e3, e2, e1) (simp append_assoc)
 
-pub first_timestamp : (rs : List Record) (d : Record) → 0 < length rs → (get_or rs 0 d).timestamp ≡ base_timestamp rs
-first_timestamp [] d some = absurd (omega arith)
-first_timestamp (r ∷ rs) d some = refl
-
-pub latest_timestamp : (rs : List Record) (d : Record) → 0 < length rs → max (get_or rs 0 d).timestamp (max_timestamp rs) ≡ max_timestamp rs
-latest_timestamp [] d some = absurd (omega arith)
-latest_timestamp (r ∷ rs) d some = omega arith
-
 pub summary_fits : (h : BatchHead) (rs : List Record) → FitsSigned w64 h.producer_id → FitsSigned w16 h.epoch → FitsSigned w32 h.base_sequence → 0 < length rs → length rs ≤ 2147483647 → base_timestamp rs < 2 ^ 63 → max_timestamp rs < 2 ^ 63
     → summary.Fits (summary_of h rs)
 unfolding summary head

@@ -1,6 +1,7 @@
 //! Record batches of magic 2 (Kafka's documentation, "Message Format": "Record Batch").
 #![tactic(auto)]
 
+mod as_record;
 mod batch;
 mod fault;
 pub mod laws;
@@ -11,11 +12,12 @@ mod size;
 mod summary;
 mod writing;
 
+pub use as_record::AsRecord;
 pub use batch::{Batch, BatchHead};
 pub use fault::BatchFault;
 pub use reading::read_batch;
 pub use record::{Header, Record, Timestamp};
-pub use size::{SIZE_LIMIT, batch_size, record_size};
+pub use size::{SIZE_LIMIT, batch_size, charge, record_size};
 pub use writing::write_batch;
 
 #[cfg(test)]

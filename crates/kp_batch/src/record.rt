@@ -1,8 +1,9 @@
 //! A record as its sender made it.
 
-ghost use Rattle.std.specs.Prelude.{◌≡◌, ◌<◌, ◌^◌, ℕ, ◌↔◌, pos, ◌≤ℤ◌, IsSome, IfSome};
+ghost use Rattle.std.specs.Prelude.{◌≡◌, ◌<◌, ◌^◌, ℕ, ◌↔◌, pos, ◌≤ℤ◌, IsSome, IfSome, IfOk};
 
 use kp_wire::{Blob, Seq, Text};
+use std::alloc::{AllocError, Global};
 use std::marker::Model;
 
 /// A moment in milliseconds since the beginning of 1970, and never before it: seen as that number.
@@ -52,6 +53,18 @@ pub struct Header {
     pub value: Option<Blob>,
 }
 
+impl Header {
+    /// An equal header of its own memory.
+    pub fn copy(&self, alloc: Global) -> Result<Header, AllocError>
+        ensures { IfOk result (λ h. h ≡ self.now) }
+    {
+        Ok(Header {
+            key: Text::from_str(alloc, self.key.as_str())?,
+            value: copy_of(alloc, &self.value)?,
+        })
+    }
+}
+
 /// What a sender hands over: Kafka's record.
 #[derive(Debug, Drop)]
 pub struct Record {
@@ -61,4 +74,37 @@ pub struct Record {
     /// None is Kafka's null.
     pub value: Option<Blob>,
     pub headers: Seq<Header>,
+}
+
+impl Record {
+    /// An equal record of its own memory.
+    pub fn copy(&self, alloc: Global) -> Result<Record, AllocError>
+        ensures { IfOk result (λ r. r ≡ self.now) }
+    {
+        Ok(Record {
+            timestamp: self.timestamp,
+            key: copy_of(alloc, &self.key)?,
+            value: copy_of(alloc, &self.value)?,
+            headers: copy_of_headers(alloc, self.headers.as_slice())?,
+        })
+    }
+}
+
+fn copy_of(alloc: Global, bytes: &Option<Blob>) -> Result<Option<Blob>, AllocError>
+    ensures { IfOk result (λ copy. copy ≡ bytes.now) }
+{
+    match bytes {
+        None => Ok(None),
+        Some(bytes) => Ok(Some(Blob::from_slice(alloc, bytes.as_slice())?)),
+    }
+}
+
+fn copy_of_headers(alloc: Global, headers: &[Header]) -> Result<Seq<Header>, AllocError>
+    ensures { IfOk result (λ copy. copy ≡ headers.now) }
+{
+    let mut copy = Vec::with_capacity(alloc, headers.len())?;
+    for header in headers {
+        copy.push(header.copy(alloc)?)?;
+    }
+    Ok(Seq::new(copy))
 }

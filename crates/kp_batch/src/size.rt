@@ -1,11 +1,12 @@
 //! The sizes of records and of batches, in bytes.
 
-ghost use Rattle.std.specs.Prelude.{◌≡◌, ℕ, ◌+◌, ◌≤◌, length, pos};
+ghost use Rattle.std.specs.Prelude.{◌≡◌, ℕ, ◌+◌, ◌≤◌, List, [], ◌∷◌, length, map, pos};
 ghost use Rattle.std.specs.List.{flat_map};
 ghost use Rattle.kp_wire.specs.Varint.{varint};
 ghost use Rattle.kp_batch.specs.Record.{bytes_or_null, header, headers, fields_size, relative_record};
 ghost use Rattle.kp_batch.specs.Spelling.{relative_by, measured, size_of_batch};
 
+use crate::as_record::AsRecord;
 use crate::record::{Header, Record};
 use kp_wire::{Blob, varint_len, varlong_len};
 
@@ -91,18 +92,26 @@ pub fn record_size(body: &Record, timestamp_delta: i64, offset_delta: i32) -> u6
     add_sizes(varint_len(fields as i32), fields)
 }
 
-fn measure(records: &[Record]) -> u64
-    ensures { result ≡ measured (size_of_batch records.now) }
+/// The size of the batch that holds the record alone; u64::MAX where it is above the limit.
+pub fn charge(body: &Record) -> u64
+    ensures { result ≡ measured (size_of_batch (body.now ∷ [])) }
+{
+    add_sizes(HEAD_SIZE, record_size(body, 0, 0))
+}
+
+fn measure<T: AsRecord>(records: &[T]) -> u64
+    ensures { result ≡ measured (size_of_batch (map T.record records.now)) }
 {
     let base = match records {
         [] => return HEAD_SIZE,
-        [first, ..] => first.timestamp.millis(),
+        [first, ..] => first.as_record().timestamp.millis(),
     };
     let mut size = HEAD_SIZE;
-    for (k, body) in records.iter().enumerate() {
+    for (k, item) in records.iter().enumerate() {
         if size > SIZE_LIMIT {
             return u64::MAX;
         }
+        let body = item.as_record();
         let timestamp_delta = body.timestamp.millis() - base;
         size = add_sizes(size, record_size(body, timestamp_delta, k as i32));
     }
@@ -110,9 +119,9 @@ fn measure(records: &[Record]) -> u64
 }
 
 /// The size of the batch of these records; u64::MAX where it is above the limit.
-pub fn batch_size(records: &[Record]) -> u64
-    ensures value { result ≡ measured (size_of_batch records.now) }
-    ensures fits { result ≤ SIZE_LIMIT → size_of_batch records.now ≤ SIZE_LIMIT }
+pub fn batch_size<T: AsRecord>(records: &[T]) -> u64
+    ensures value { result ≡ measured (size_of_batch (map T.record records.now)) }
+    ensures fits { result ≤ SIZE_LIMIT → size_of_batch (map T.record records.now) ≤ SIZE_LIMIT }
 {
     measure(records)
 }

@@ -1,12 +1,13 @@
 //! A batch into bytes.
 
-ghost use Rattle.std.specs.Prelude.{◌≡◌, ℕ, ◌+◌, ◌<◌, ◌≤◌, ◌++◌, ◌^◌, length, take, drop, max, IfOk, OnOk, IsErrOf};
+ghost use Rattle.std.specs.Prelude.{◌≡◌, ℕ, ◌+◌, ◌<◌, ◌≤◌, ◌++◌, ◌^◌, length, map, take, drop, max, IfOk, OnOk, IsErrOf};
 ghost use Rattle.std.specs.Int.{w32, to_be_bytes};
 ghost use Rattle.std.specs.List.{flat_map, AllByRecursion};
 ghost use Rattle.kp_wire.specs.Checksum.{crc};
 ghost use Rattle.kp_batch.specs.Record.{bytes_or_null, header, headers, fields, fields_size, relative_record};
 ghost use Rattle.kp_batch.specs.Spelling.{front, head, summary, relative_by, relatives_from, max_timestamp, size_of_batch, covered, HasFields, written, Spells};
 
+use crate::as_record::AsRecord;
 use crate::batch::BatchHead;
 use crate::record::{Header, Record, Timestamp};
 use crate::size::{SIZE_LIMIT, batch_size, record_fields_size};
@@ -133,15 +134,20 @@ fn put_record(
 }
 
 /// Appends the records of a batch with this base timestamp. An `Err` may leave a part.
-fn put_records(out: &mut Vec<u8>, base: Timestamp, records: &[Record]) -> Result<(), WriteError>
+fn put_records<T: AsRecord>(
+    out: &mut Vec<u8>,
+    base: Timestamp,
+    records: &[T],
+) -> Result<(), WriteError>
     requires { length records.now ≤ SIZE_LIMIT }
-    ensures spelled { OnOk result (out.new.items ≡ out.old.items ++ flat_map relative_record.spell (relatives_from base 0 records.now)) }
-    ensures fits { OnOk result (AllByRecursion relative_record.Fits (relatives_from base 0 records.now)) }
-    ensures moments { OnOk result (AllByRecursion (λ r. r.timestamp < 2 ^ 63) records.now) }
+    ensures spelled { OnOk result (out.new.items ≡ out.old.items ++ flat_map relative_record.spell (relatives_from base 0 (map T.record records.now))) }
+    ensures fits { OnOk result (AllByRecursion relative_record.Fits (relatives_from base 0 (map T.record records.now))) }
+    ensures moments { OnOk result (AllByRecursion (λ r. r.timestamp < 2 ^ 63) (map T.record records.now)) }
     ensures long_only { IsErrOf result WriteError.BadLength
-        → SIZE_LIMIT < length (flat_map relative_record.spell (relatives_from base 0 records.now)) }
+        → SIZE_LIMIT < length (flat_map relative_record.spell (relatives_from base 0 (map T.record records.now))) }
 {
-    for (k, body) in records.iter().enumerate() {
+    for (k, item) in records.iter().enumerate() {
+        let body = item.as_record();
         let timestamp_delta = body.timestamp.millis() - base.millis();
         put_record(out, body, timestamp_delta, k as i32)?;
     }
@@ -149,11 +155,12 @@ fn put_records(out: &mut Vec<u8>, base: Timestamp, records: &[Record]) -> Result
 }
 
 /// The latest of this moment and those of the records.
-fn latest_of(first: Timestamp, records: &[Record]) -> Timestamp
-    ensures { result ≡ max first (max_timestamp records.now) }
+fn latest_of<T: AsRecord>(first: Timestamp, records: &[T]) -> Timestamp
+    ensures { result ≡ max first (max_timestamp (map T.record records.now)) }
 {
     let mut latest = first;
-    for body in records {
+    for item in records {
+        let body = item.as_record();
         if latest.millis() < body.timestamp.millis() {
             latest = body.timestamp;
         }
@@ -204,14 +211,18 @@ fn seal(bytes: &mut [u8])
 }
 
 /// Appends what the checksum covers: the fields behind it, and the records. An `Err` may leave a part.
-fn put_covered(out: &mut Vec<u8>, h: BatchHead, records: &[Record]) -> Result<(), WriteError>
+fn put_covered<T: AsRecord>(
+    out: &mut Vec<u8>,
+    h: BatchHead,
+    records: &[T],
+) -> Result<(), WriteError>
     requires some { 0 < length records.now }
     requires few { length records.now ≤ SIZE_LIMIT }
-    ensures spelled { OnOk result (out.new.items ≡ out.old.items ++ covered h records.now) }
-    ensures fits { OnOk result (HasFields h records.now) }
-    ensures long_only { IsErrOf result WriteError.BadLength → SIZE_LIMIT < size_of_batch records.now }
+    ensures spelled { OnOk result (out.new.items ≡ out.old.items ++ covered h (map T.record records.now)) }
+    ensures fits { OnOk result (HasFields h (map T.record records.now)) }
+    ensures long_only { IsErrOf result WriteError.BadLength → SIZE_LIMIT < size_of_batch (map T.record records.now) }
 {
-    let base = records[0].timestamp;
+    let base = records[0].as_record().timestamp;
     let count = records.len() as i32;
     let s = Summary {
         attributes: 0,
@@ -228,10 +239,14 @@ fn put_covered(out: &mut Vec<u8>, h: BatchHead, records: &[Record]) -> Result<()
 
 /// The batch of these records, as a producer writes it: base offset 0, leader epoch -1. It has a record, and
 /// its size, which `batch_size` tells, is at most `SIZE_LIMIT`.
-pub fn write_batch(alloc: Global, h: BatchHead, records: &[Record]) -> Result<Vec<u8>, AllocError>
+pub fn write_batch<T: AsRecord>(
+    alloc: Global,
+    h: BatchHead,
+    records: &[T],
+) -> Result<Vec<u8>, AllocError>
     requires some { 0 < length records.now }
-    requires fits { size_of_batch records.now ≤ SIZE_LIMIT }
-    ensures { IfOk result (λ bytes. Spells bytes.items (written h records.now)) }
+    requires fits { size_of_batch (map T.record records.now) ≤ SIZE_LIMIT }
+    ensures { IfOk result (λ bytes. Spells bytes.items (written h (map T.record records.now))) }
 {
     let size = batch_size(records);
     let mut out = Vec::with_capacity(alloc, size as usize)?;

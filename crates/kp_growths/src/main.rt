@@ -4,8 +4,8 @@
 #![tactic(auto)]
 
 use kp_batch::{
-    Batch, BatchFault, BatchHead, Header, Record, SIZE_LIMIT, Timestamp, batch_size, read_batch,
-    write_batch,
+    Batch, BatchFault, BatchHead, Header, Record, SIZE_LIMIT, Timestamp, batch_size, charge,
+    read_batch, write_batch,
 };
 use kp_cli::{DONE, FAULT, kprod_with};
 use kp_log::{Answer, LogFault, PartitionLog};
@@ -67,6 +67,38 @@ fn records_of(alloc: Global) -> Result<Vec<Record>, AllocError> {
     records.push(record_of(alloc)?)?;
     records.push(record_of(alloc)?)?;
     Ok(records)
+}
+
+/// The size of a batch that holds such a record alone.
+const CHARGE: u64 = 74;
+
+/// Whether the record is one that `record_of` makes.
+fn is_sample(record: &Record) -> bool {
+    record.timestamp.millis() == 0
+        && is_blob(&record.key, b"k")
+        && is_blob(&record.value, b"a")
+        && record.headers.len() == 1
+        && record.headers.as_slice().iter().all(|header| header.key.as_str() == "h"
+            && is_blob(&header.value, b"v"))
+        && charge(record) == CHARGE
+}
+
+fn is_blob(blob: &Option<Blob>, bytes: &[u8]) -> bool {
+    match blob {
+        Some(blob) => blob.as_slice() == bytes,
+        None => false,
+    }
+}
+
+/// A copy of the record, which is as it was where memory is refused.
+fn copied(alloc: Global, record: &Record) -> Outcome {
+    match record.copy(alloc) {
+        Ok(copy) => Outcome::of(is_sample(&copy)),
+        Err(AllocError) => match record.copy(alloc) {
+            Ok(copy) => Outcome::of(is_sample(&copy) && is_sample(record)).after_refusal(),
+            Err(AllocError) => Outcome::Wrong,
+        },
+    }
 }
 
 /// The varints of 300 and of -1; what stood before them stays where memory is refused.
@@ -193,13 +225,22 @@ fn outcome_of<R: Files + AllocGlobal>(rt: &R) -> Outcome {
     let Ok(records) = records_of(alloc) else {
         return Outcome::Refused;
     };
+    let Some(record) = records.first() else {
+        return Outcome::Wrong;
+    };
     let Some((bytes, wrote)) = written(alloc, &records) else {
         return Outcome::Wrong;
     };
     if bytes.len() as u64 != batch_size(&records) {
         return Outcome::Wrong;
     }
-    let outcomes = [wrote, read(alloc, &bytes), offer(alloc, &bytes), pack(rt)];
+    let outcomes = [
+        copied(alloc, record),
+        wrote,
+        read(alloc, &bytes),
+        offer(alloc, &bytes),
+        pack(rt),
+    ];
     if outcomes.contains(&Outcome::Wrong) {
         return Outcome::Wrong;
     }

@@ -1,4 +1,4 @@
-use Rattle.std.proofs.Common.{◌≡◌, ◌∙◌, length, sym, ap, pos, ℤ, [], arith}
+use Rattle.std.proofs.Common.{map, ◌≡◌, ◌∙◌, length, sym, ap, pos, ℤ, [], arith}
 use Rattle.std.specs.Prelude.{◌-ℤ◌}
 use Rattle.std.specs.Int.{w32, w64}
 use mir.Val.{to_z, of_z}
@@ -7,30 +7,39 @@ use Rattle.std.proofs.lemmas.List.{nil_from_length}
 use Rattle.kp_batch.specs.Spelling.{relative, relative_by, measured, size_of_batch, base_timestamp}
 use Rattle.kp_batch.specs.Record.{relative_record}
 use Rattle.kp_batch.proofs.SizeLemmas.{measured_small, measured_large, small_measured, large_measured, size_of_batch-is, bytes_from-here, bytes_from-none, first_has_base, some_bytes}
+use Rattle.kp_batch.proofs.ListedLemmas.{as_many, record_here}
 use Rattle.kp_batch.proofs.size.measure.Goals as goal
 
 pub returns-in-empty : goal.returns-in-empty
 unfolding size_of_batch
-returns-in-empty c = let none : c.args.records.now ≡ [] = nil_from_length c.args.records.now (omega arith) in rw none (sym (measured_small 61 (omega arith)))
+returns-in-empty g c =
+    let records = map g.T.AsRecord.record c.args.records.now in
+    let none : records ≡ [] = nil_from_length records (omega (arith, as_many g.T.AsRecord.record c.args.records.now)) in
+    rw none (sym (measured_small 61 (omega arith)))
 
 pub returns-then-size-gt-SIZE_LIMIT : goal.returns-then-size-gt-SIZE_LIMIT
-returns-then-size-gt-SIZE_LIMIT c =
+returns-then-size-gt-SIZE_LIMIT g c =
     let large = large_measured _ _ c.loop-k.invariant.so_far c.if-size-gt-SIZE_LIMIT.true in
-    sym (measured_large _ (omega (arith, large.1, c.loop-k.invariant.left, size_of_batch-is c.args.records.now)))
+    sym (measured_large _ (omega (arith, large.1, c.loop-k.invariant.left, size_of_batch-is (map g.T.AsRecord.record c.args.records.now))))
 
 pub loop-k-init : goal.loop-k-init
-loop-k-init c = record { left = omega arith; so_far = sym (measured_small _ (omega arith)) ∙ ap measured (omega arith) }
+loop-k-init g c = record { left = omega arith; so_far = sym (measured_small _ (omega arith)) ∙ ap measured (omega arith) }
 
 pub overflow_cast-k : goal.overflow_cast-k
-overflow_cast-k c = let small = small_measured _ _ c.loop-k.invariant.so_far c.if-size-gt-SIZE_LIMIT.false in omega (arith, small, c.loop-k.invariant.left)
+overflow_cast-k g c = let small = small_measured _ _ c.loop-k.invariant.so_far c.if-size-gt-SIZE_LIMIT.false in omega (arith, small, c.loop-k.invariant.left)
 
 pub loop-k-preserved : goal.loop-k-preserved
-loop-k-preserved c =
-    let records = c.args.records.now in
+loop-k-preserved g c =
+    let record_in = g.T.AsRecord.record in
+    let items = c.args.records.now in
+    let records = map record_in items in
+    let many = as_many record_in items in
     let base = base_timestamp records in
-    let body = c.index-records-k.result in
-    let first = first_has_base records c.first-item.result (omega arith) c.first-item.is in
-    let step = bytes_from-here base c.loop-k.k records body (omega arith) c.index-records-k.is in
+    let body = c.as_record-body.result.now in
+    let is = record_here record_in items c.loop-k.k c.index-records-k.result body (omega arith) c.index-records-k.is c.as_record-body.ensures in
+    let first-is = record_here record_in items 0 c.first-item.result c.as_record.result.now (omega arith) c.first-item.is c.as_record.ensures in
+    let first = first_has_base records c.as_record.result.now (omega (arith, many)) first-is in
+    let step = bytes_from-here base c.loop-k.k records body (omega (arith, many)) is in
     let small = small_measured _ _ c.loop-k.invariant.so_far c.if-size-gt-SIZE_LIMIT.false in
     let index : to_z w32 c.loop-k.k ≡ pos c.loop-k.k = omega (arith, ints, small, c.loop-k.invariant.left) in
     let delta : to_z w64 (of_z w64 (to_z w64 (of_z w64 c.millis.result) -ℤ to_z w64 (of_z w64 c.millis-base.result))) ≡ pos body.timestamp -ℤ pos base =
@@ -45,6 +54,7 @@ loop-k-preserved c =
     }
 
 pub returns : goal.returns
-returns c =
-    let none = bytes_from-none (base_timestamp c.args.records.now) c.loop-k.k c.args.records.now (omega arith) in
-    c.loop-k.invariant.so_far ∙ ap measured (omega (arith, none, size_of_batch-is c.args.records.now))
+returns g c =
+    let records = map g.T.AsRecord.record c.args.records.now in
+    let none = bytes_from-none (base_timestamp records) c.loop-k.k records (omega (arith, as_many g.T.AsRecord.record c.args.records.now)) in
+    c.loop-k.invariant.so_far ∙ ap measured (omega (arith, none, size_of_batch-is records))

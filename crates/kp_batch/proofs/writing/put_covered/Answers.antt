@@ -1,4 +1,4 @@
-use Rattle.std.proofs.Common.{◌≡◌, ◌++◌, ◌<◌, ◌^◌, length, pos, arith, rules}
+use Rattle.std.proofs.Common.{◌≡◌, ◌++◌, ◌<◌, ◌≤◌, ◌^◌, length, map, pos, arith, rules}
 use Rattle.std.specs.Prelude.{◌-ℤ◌, FitsSigned}
 use Rattle.std.specs.Int.{w16, w32, w64}
 use mir.Val.{to_z, of_z}
@@ -6,41 +6,50 @@ use Rattle.std.proofs.lemmas.Int.{ints}
 use Rattle.std.proofs.lemmas.Result.{err_from_is_err_and}
 use Rattle.kp_batch.specs.Spelling.{summary, summary_of, base_timestamp, max_timestamp}
 use Rattle.kp_batch.proofs.SizeLemmas.{size_of_batch-is}
-use Rattle.kp_batch.proofs.WritingLemmas.{first_timestamp, latest_timestamp, summary_fits, covered_spelled}
+use Rattle.kp_batch.proofs.ListedLemmas.{as_many, first_timestamp, latest_timestamp}
+use Rattle.kp_batch.proofs.WritingLemmas.{summary_fits, covered_spelled}
 use Rattle.kp_batch.proofs.writing.put_covered.Goals as goal
 
 pub returns-in_err-put_records-clause-long_only : goal.returns-in_err-put_records-clause-long_only
-returns-in_err-put_records-clause-long_only c = λ e.
+returns-in_err-put_records-clause-long_only g c = λ e.
     let p = err_from_is_err_and c.from_residual-in_err-put_records.result c.from_residual-in_err-put_records.ensures.1 in
-    let first = first_timestamp c.args.records.now c.index-records-0.result c.requires.some in
+    let first = first_timestamp g.T.AsRecord.record c.args.records.now _ _ c.requires.some c.index-records-0.is c.as_record.ensures in
     let long = rw first at (c.in_err-put_records.ensures.long_only (rw (p.1, p.2) at e)) in
-    omega (arith, long, size_of_batch-is c.args.records.now)
+    omega (arith, long, size_of_batch-is (map g.T.AsRecord.record c.args.records.now))
 
 pub returns-clause-spelled : goal.returns-clause-spelled
-returns-clause-spelled c =
-    let rs = c.args.records.now in
-    let first = first_timestamp rs c.index-records-0.result c.requires.some in
-    let latest = latest_timestamp rs c.index-records-0.result c.requires.some in
-    let last-is : to_z w32 (of_z w32 (to_z w32 (length rs) -ℤ pos 1)) ≡ pos (length rs) -ℤ pos 1 = omega (arith, ints, c.requires.some, c.requires.few) in
+returns-clause-spelled g c =
+    let items = c.args.records.now in
+    let rs = map g.T.AsRecord.record items in
+    let many = as_many g.T.AsRecord.record items in
+    let some : 0 < length rs = omega (arith, many, c.requires.some) in
+    let few : length rs ≤ 2147483647 = omega (arith, many, c.requires.few) in
+    let first = first_timestamp g.T.AsRecord.record items _ _ c.requires.some c.index-records-0.is c.as_record.ensures in
+    let latest = latest_timestamp rs in
+    let last-is : to_z w32 (of_z w32 (to_z w32 (length items) -ℤ pos 1)) ≡ pos (length rs) -ℤ pos 1 = omega (arith, ints, many, some, few) in
     let base-is : to_z w64 (of_z w64 c.millis.result) ≡ pos (base_timestamp rs) = omega (arith, ints, c.millis.ensures.value, c.millis.ensures.fits, first) in
-    let max-is : to_z w64 (of_z w64 c.millis-2.result) ≡ pos (max_timestamp rs) = omega (arith, ints, c.millis-2.ensures.value, c.millis-2.ensures.fits, c.latest_of.ensures, latest) in
-    let count-is : to_z w32 (length rs) ≡ pos (length rs) = omega (arith, ints, c.requires.few) in
+    let max-is : to_z w64 (of_z w64 c.millis-2.result) ≡ pos (max_timestamp rs) = omega (arith, ints, c.millis-2.ensures.value, c.millis-2.ensures.fits, c.latest_of.ensures, first, latest) in
+    let count-is : to_z w32 (length items) ≡ pos (length rs) = omega (arith, ints, many, few) in
     let summarized : c.put_summary.new.out.items ≡ c.args.out.now.items ++ summary.spell (summary_of c.args.h rs) = rw (last-is, base-is, max-is, count-is) at c.in_ok-put_summary.ensures in
     covered_spelled c.args.h rs c.args.out.now.items _ _ summarized (rw first at c.in_ok-put_records.ensures.spelled)
 
 pub returns-clause-fits : goal.returns-clause-fits
-returns-clause-fits c =
-    let rs = c.args.records.now in
-    let first = first_timestamp rs c.index-records-0.result c.requires.some in
-    let latest = latest_timestamp rs c.index-records-0.result c.requires.some in
+returns-clause-fits g c =
+    let items = c.args.records.now in
+    let rs = map g.T.AsRecord.record items in
+    let many = as_many g.T.AsRecord.record items in
+    let some : 0 < length rs = omega (arith, many, c.requires.some) in
+    let few : length rs ≤ 2147483647 = omega (arith, many, c.requires.few) in
+    let first = first_timestamp g.T.AsRecord.record items _ _ c.requires.some c.index-records-0.is c.as_record.ensures in
+    let latest = latest_timestamp rs in
     let id : FitsSigned w64 c.args.h.producer_id = search rules in
     let epoch : FitsSigned w16 c.args.h.epoch = search rules in
     let sequence : FitsSigned w32 c.args.h.base_sequence = search rules in
     let early : base_timestamp rs < 2 ^ 63 = omega (arith, c.millis.ensures.fits, first) in
-    let late : max_timestamp rs < 2 ^ 63 = omega (arith, c.millis-2.ensures.fits, c.latest_of.ensures, latest) in
+    let late : max_timestamp rs < 2 ^ 63 = omega (arith, c.millis-2.ensures.fits, c.latest_of.ensures, first, latest) in
     record {
-      some = c.requires.some;
+      some = some;
       moments = c.in_ok-put_records.ensures.moments;
-      summary = summary_fits c.args.h rs id epoch sequence c.requires.some c.requires.few early late;
+      summary = summary_fits c.args.h rs id epoch sequence some few early late;
       records = rw first at c.in_ok-put_records.ensures.fits;
     }

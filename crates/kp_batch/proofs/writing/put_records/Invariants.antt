@@ -1,4 +1,4 @@
-use Rattle.std.proofs.Common.{◌≡◌, ◌≤◌, ◌++◌, drop}
+use Rattle.std.proofs.Common.{◌≡◌, ◌≤◌, ◌++◌, map, drop}
 use Rattle.std.specs.List.{flat_map, AllByRecursion}
 use Rattle.kp_batch.specs.Record.{relative_record}
 use Rattle.kp_batch.specs.Spelling.{relatives_from}
@@ -7,9 +7,11 @@ use Rattle.kp_batch.proofs.RelativeLemmas.{HasMoment}
 use Rattle.kp_batch.proofs.writing.put_records.Given as goal
 
 abbrev pub invariant-loop-k : goal.invariant-loop-k
-invariant-loop-k l = record {
-  spelled : l.out.items ++ flat_map relative_record.spell (relatives_from l.base l.k (drop l.k l.records)) ≡ l.fn.out.items ++ flat_map relative_record.spell (relatives_from l.base 0 l.records);
-  fits : AllByRecursion relative_record.Fits (relatives_from l.base l.k (drop l.k l.records)) → AllByRecursion relative_record.Fits (relatives_from l.base 0 l.records);
-  moments : AllByRecursion HasMoment (drop l.k l.records) → AllByRecursion HasMoment l.records;
-  left : bytes_from l.base l.k (drop l.k l.records) ≤ bytes_from l.base 0 l.records;
-}
+invariant-loop-k g l =
+    let records = map g.T.AsRecord.record l.records in
+    record {
+      spelled : l.out.items ++ flat_map relative_record.spell (relatives_from l.base l.k (drop l.k records)) ≡ l.fn.out.items ++ flat_map relative_record.spell (relatives_from l.base 0 records);
+      fits : AllByRecursion relative_record.Fits (relatives_from l.base l.k (drop l.k records)) → AllByRecursion relative_record.Fits (relatives_from l.base 0 records);
+      moments : AllByRecursion HasMoment (drop l.k records) → AllByRecursion HasMoment records;
+      left : bytes_from l.base l.k (drop l.k records) ≤ bytes_from l.base 0 records;
+    }
