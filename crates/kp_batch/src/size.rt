@@ -21,11 +21,8 @@ pub(crate) const HEAD_SIZE: u64 = 61;
 pub(crate) fn add_sizes(a: u64, b: u64) -> u64
     ensures { (m n : ℕ) → a ≡ measured m → b ≡ measured n → result ≡ measured (m + n) }
 {
-    if a > SIZE_LIMIT || b > SIZE_LIMIT || a + b > SIZE_LIMIT {
-        u64::MAX
-    } else {
-        a + b
-    }
+    let sum = a.saturating_add(b);
+    if sum > SIZE_LIMIT { u64::MAX } else { sum }
 }
 
 /// The size of so many bytes with their length before them.

@@ -42,6 +42,8 @@ fn unfolded(n: u64) -> i64
 }
 
 /// The number at the front, in at most `more + 1` groups, and the bytes behind it.
+#[cold]
+#[inline(never)]
 #[tactic(auto, using(crate::proofs::VarintLemmas::room_laws), unfolding(crate::specs::Varint::read_groups))]
 fn groups_of(bytes: &[u8], more: u8, top: u8) -> Result<(u64, &[u8]), WireFault>
     requires { room more top ≤ 2 ^ 64 }
@@ -88,6 +90,7 @@ fn number_of(bytes: &[u8], more: u8, top: u8) -> Result<(u64, &[u8]), WireFault>
 }
 
 /// The VARINT at the front, and the bytes behind it.
+#[inline]
 #[tactic(auto, unfolding(crate::specs::Varint::room))]
 pub fn read_varint(bytes: &[u8]) -> Result<(i32, &[u8]), WireFault>
     ensures { IsRead (λ x. (x.0, x.1.now)) result (varint.read bytes.now) }
@@ -97,6 +100,7 @@ pub fn read_varint(bytes: &[u8]) -> Result<(i32, &[u8]), WireFault>
 }
 
 /// The VARLONG at the front, and the bytes behind it.
+#[inline]
 #[tactic(auto, unfolding(crate::specs::Varint::room))]
 pub fn read_varlong(bytes: &[u8]) -> Result<(i64, &[u8]), WireFault>
     ensures { IsRead (λ x. (x.0, x.1.now)) result (varlong.read bytes.now) }
@@ -106,6 +110,8 @@ pub fn read_varlong(bytes: &[u8]) -> Result<(i64, &[u8]), WireFault>
 }
 
 /// Appends a number in at most `more + 1` groups. An `Err` leaves `out` as it was.
+#[cold]
+#[inline(never)]
 fn put_groups(out: &mut Vec<u8>, more: u8, n: u64) -> Result<(), AllocError>
     requires few { more < 10 }
     requires fits { n < room more 127 }
@@ -147,6 +153,7 @@ fn put_number(out: &mut Vec<u8>, more: u8, n: u64) -> Result<(), AllocError>
 }
 
 /// Appends the VARINT of `n`. An `Err` leaves `out` as it was.
+#[inline]
 #[tactic(auto, unfolding(crate::specs::Varint::room))]
 pub fn put_varint(out: &mut Vec<u8>, n: i32) -> Result<(), AllocError>
     ensures ok { OnOk result (out.new.items ≡ out.old.items ++ varint.spell n) }
@@ -156,6 +163,7 @@ pub fn put_varint(out: &mut Vec<u8>, n: i32) -> Result<(), AllocError>
 }
 
 /// Appends the VARLONG of `n`. An `Err` leaves `out` as it was.
+#[inline]
 #[tactic(auto, unfolding(crate::specs::Varint::room))]
 pub fn put_varlong(out: &mut Vec<u8>, n: i64) -> Result<(), AllocError>
     ensures ok { OnOk result (out.new.items ≡ out.old.items ++ varlong.spell n) }
