@@ -4,7 +4,7 @@ use std::test::Fail;
 
 /// A line of python3-kafka's.
 const BATCH: &str =
-    "{\"producer_id\": 835824954945, \"epoch\": 0, \"sequence\": 68495, \"records\": [{\"timestamp\": 574836085846, \"key\": null, \"value\": null, \"headers\": []}], \"bytes\": \"000000000000000000000038ffffffff02031bc11b00000000000000000085d6e6945600000085d6e69456000000c29b0cae41000000010b8f000000010c000000010100\"}";
+    r#"{"producer_id": 835824954945, "epoch": 0, "sequence": 68495, "records": [{"timestamp": 574836085846, "key": null, "value": null, "headers": []}], "bytes": "000000000000000000000038ffffffff02031bc11b00000000000000000085d6e6945600000085d6e69456000000c29b0cae41000000010b8f000000010c000000010100"}"#;
 
 fn printed(alloc: Global, vectors: &[u8], batches: &[u8]) -> Result<String, Fail> {
     let tally = tally_of(alloc, vectors, batches)?;
@@ -32,7 +32,12 @@ fn agreed_lines_of_each_kind_agree(rt: HostRuntime) -> Result<(), Fail> {
     assert_eq!(rt;
         tally.to_string(rt.alloc())?.as_str(),
         "\
-        varint 2 of 2\nvarlong 1 of 1\ncrc32c 1 of 1\nmurmur2 2 of 2\npartition-of-4 1 of 1\nbatch 1 of 1\n"
+        varint 2 of 2\n\
+        varlong 1 of 1\n\
+        crc32c 1 of 1\n\
+        murmur2 2 of 2\n\
+        partition-of-4 1 of 1\n\
+        batch 1 of 1\n"
     );
     Ok(())
 }
@@ -47,7 +52,7 @@ fn a_wrong_line_of_each_kind_is_named_and_not_counted_as_agreeing(
         murmur2 3231 c5f2f8ed\n\
         partition-of-4 3231 1\n\
         varint -1 01\n";
-    let batch = changed(rt.alloc(), "\"sequence\": 68495", "\"sequence\": 68496")?;
+    let batch = changed(rt.alloc(), r#""sequence": 68495"#, r#""sequence": 68496"#)?;
     let tally = tally_of(rt.alloc(), vectors, batch.as_bytes())?;
     assert!(rt; !tally.agrees());
     assert_eq!(rt;
@@ -59,7 +64,12 @@ fn a_wrong_line_of_each_kind_is_named_and_not_counted_as_agreeing(
         vectors.txt:4: murmur2: another value is computed\n\
         vectors.txt:5: partition-of-4: another value is computed\n\
         batches.jsonl:1: batch: another value is read\n\
-        varint 1 of 2\nvarlong 0 of 1\ncrc32c 0 of 1\nmurmur2 0 of 1\npartition-of-4 0 of 1\nbatch 0 of 1\n"
+        varint 1 of 2\n\
+        varlong 0 of 1\n\
+        crc32c 0 of 1\n\
+        murmur2 0 of 1\n\
+        partition-of-4 0 of 1\n\
+        batch 0 of 1\n"
     );
     Ok(())
 }
@@ -85,7 +95,12 @@ fn a_line_that_is_not_understood_is_named(rt: HostRuntime) -> Result<(), Fail> {
         vectors.txt:6: unknown: the kind is unknown\n\
         vectors.txt:7: partition-of-4: a field is no number of its type\n\
         vectors.txt:8: unknown: the line is not UTF-8\n\
-        varint 0 of 3\nvarlong 0 of 0\ncrc32c 0 of 1\nmurmur2 0 of 0\npartition-of-4 0 of 1\nbatch 0 of 0\n\
+        varint 0 of 3\n\
+        varlong 0 of 0\n\
+        crc32c 0 of 1\n\
+        murmur2 0 of 0\n\
+        partition-of-4 0 of 1\n\
+        batch 0 of 0\n\
         unknown 0 of 3\n"
     );
     Ok(())
@@ -97,15 +112,15 @@ fn a_batch_of_another_head_or_record_is_named(rt: HostRuntime) -> Result<(), Fai
     let otherwise = "batches.jsonl:1: batch: another value is read\n";
     let rows = [
         (
-            "\"producer_id\": 835824954945",
-            "\"producer_id\": 835824954946",
+            r#""producer_id": 835824954945"#,
+            r#""producer_id": 835824954946"#,
             otherwise,
         ),
-        ("\"epoch\": 0", "\"epoch\": 1", otherwise),
+        (r#""epoch": 0"#, r#""epoch": 1"#, otherwise),
         ("574836085846", "574836085847", otherwise),
-        ("\"key\": null", "\"key\": \"\"", otherwise),
-        ("\"value\": null", "\"value\": \"00\"", otherwise),
-        ("\"headers\": []", "\"headers\": [[\"h\", null]]", otherwise),
+        (r#""key": null"#, r#""key": """#, otherwise),
+        (r#""value": null"#, r#""value": "00""#, otherwise),
+        (r#""headers": []"#, r#""headers": [["h", null]]"#, otherwise),
         (
             "c29b0cae",
             "c29b0caf",
@@ -117,12 +132,12 @@ fn a_batch_of_another_head_or_record_is_named(rt: HostRuntime) -> Result<(), Fai
             "batches.jsonl:1: batch: no batch has these records\n",
         ),
         (
-            "\"key\": null",
-            "\"key\": \"0\"",
+            r#""key": null"#,
+            r#""key": "0""#,
             "batches.jsonl:1: batch: a field is not hexadecimal\n",
         ),
         (
-            "\"epoch\": 0, ",
+            r#""epoch": 0, "#,
             "",
             "batches.jsonl:1: batch: the line is not a batch in JSON\n",
         ),
