@@ -146,7 +146,10 @@ fn put_number(out: &mut Vec<u8>, more: u8, n: u64) -> Result<(), AllocError>
         out.push(n as u8)?;
         Ok(())
     } else if n < 16384 {
-        out.extend_from_slice(&[(n % 128) as u8 + 128, (n / 128) as u8])
+        out.reserve(2)?;
+        out.push_reserved((n % 128) as u8 + 128);
+        out.push_reserved((n / 128) as u8);
+        Ok(())
     } else {
         put_groups(out, more, n)
     }
