@@ -1,6 +1,6 @@
 //! The fields of a record.
 
-ghost use Rattle.std.specs.Prelude.{◌≡◌, length};
+ghost use Rattle.std.specs.Prelude.{◌≡◌, length, option_map, IfOk};
 ghost use Rattle.kp_wire.specs.Reading.{Gives, IsRead};
 ghost use Rattle.kp_wire.specs.Codec.{by_length, by_nullable_length, within, plain, utf8, many};
 ghost use Rattle.kp_batch.specs.Record.{attributes, length_field, bytes_or_null, text, header, headers};
@@ -10,7 +10,7 @@ use kp_wire::{
     Blob, ReadError, ReadField, Seq, Text, WireFault, end_before, read_bytes, read_many, read_utf8,
     read_varint,
 };
-use std::alloc::Global;
+use std::alloc::{AllocError, Global};
 
 /// A record's attributes, one byte 0, behind which `after` bytes stand or more.
 #[tactic(auto, unfolding(crate::specs::Record::read_zero, crate::specs::Record::attributes))]
@@ -57,60 +57,61 @@ fn read_utf8_within(bytes: &[u8], len: usize, after: usize) -> Result<(&str, &[u
 }
 
 /// The bytes that stand behind their length, or None behind a length of -1.
+#[inline]
 #[tactic(auto, unfolding(kp_wire::specs::Codec::by_nullable_length))]
-fn read_bytes_by(
-    alloc: Global,
-    bytes: &[u8],
-    len: i32,
-    after: usize,
-) -> Result<(Option<Blob>, &[u8]), ReadError>
-    ensures { Gives (λ x. (x.0, x.1.now)) result (by_nullable_length (λ n. (within after (plain n)).read) len bytes.now) }
+fn read_bytes_by(bytes: &[u8], len: i32, after: usize) -> Result<(Option<&[u8]>, &[u8]), WireFault>
+    ensures { IsRead (λ x. (option_map (λ s. s.now) x.0, x.1.now)) result (by_nullable_length (λ n. (within after (plain n)).read) len bytes.now) }
 {
     if len < -1 {
-        return Err(ReadError::Fault(WireFault::BadLength));
+        return Err(WireFault::BadLength);
     }
     if len == -1 {
         return Ok((None, bytes));
     }
     let (front, rest) = read_bytes_within(bytes, len as usize, after)?;
-    Ok((Some(Blob::from_slice(alloc, front)?), rest))
+    Ok((Some(front), rest))
 }
 
+#[inline]
 #[tactic(auto, unfolding(crate::specs::Record::bytes_or_null))]
 pub(super) fn read_bytes_or_null(
-    alloc: Global,
     bytes: &[u8],
     after: usize,
-) -> Result<(Option<Blob>, &[u8]), ReadError>
-    ensures { Gives (λ x. (x.0, x.1.now)) result ((bytes_or_null after).read bytes.now) }
+) -> Result<(Option<&[u8]>, &[u8]), WireFault>
+    ensures { IsRead (λ x. (option_map (λ s. s.now) x.0, x.1.now)) result ((bytes_or_null after).read bytes.now) }
 {
     let (len, rest) = read_length(bytes, after)?;
-    read_bytes_by(alloc, rest, len, after)
+    read_bytes_by(rest, len, after)
+}
+
+/// A copy of the bytes, where there are any.
+#[inline]
+pub(super) fn copied(alloc: Global, bytes: Option<&[u8]>) -> Result<Option<Blob>, AllocError>
+    ensures { IfOk result (λ copy. copy ≡ option_map (λ s. s.now) bytes.entry) }
+{
+    match bytes {
+        None => Ok(None),
+        Some(bytes) => Ok(Some(Blob::from_slice(alloc, bytes)?)),
+    }
 }
 
 /// The text that stands behind its length.
 #[tactic(auto, unfolding(kp_wire::specs::Codec::by_length))]
-fn read_text_by(
-    alloc: Global,
-    bytes: &[u8],
-    len: i32,
-    after: usize,
-) -> Result<(Text, &[u8]), ReadError>
-    ensures { Gives (λ x. (x.0, x.1.now)) result (by_length (λ n. (within after (utf8 n)).read) len bytes.now) }
+fn read_text_by(bytes: &[u8], len: i32, after: usize) -> Result<(&str, &[u8]), WireFault>
+    ensures { IsRead (λ x. (x.0.now, x.1.now)) result (by_length (λ n. (within after (utf8 n)).read) len bytes.now) }
 {
     if len < 0 {
-        return Err(ReadError::Fault(WireFault::BadLength));
+        return Err(WireFault::BadLength);
     }
-    let (front, rest) = read_utf8_within(bytes, len as usize, after)?;
-    Ok((Text::from_str(alloc, front)?, rest))
+    read_utf8_within(bytes, len as usize, after)
 }
 
 #[tactic(auto, unfolding(crate::specs::Record::text))]
-fn read_text(alloc: Global, bytes: &[u8], after: usize) -> Result<(Text, &[u8]), ReadError>
-    ensures { Gives (λ x. (x.0, x.1.now)) result ((text after).read bytes.now) }
+fn read_text(bytes: &[u8], after: usize) -> Result<(&str, &[u8]), WireFault>
+    ensures { IsRead (λ x. (x.0.now, x.1.now)) result ((text after).read bytes.now) }
 {
     let (len, rest) = read_length(bytes, after)?;
-    read_text_by(alloc, rest, len, after)
+    read_text_by(rest, len, after)
 }
 
 impl ReadField for Header {
@@ -118,9 +119,13 @@ impl ReadField for Header {
 
     #[tactic(auto, unfolding(crate::specs::Record::header))]
     fn read(alloc: Global, bytes: &[u8], after: usize) -> Result<(Self, &[u8]), ReadError> {
-        let (key, rest) = read_text(alloc, bytes, after)?;
-        let (value, rest) = read_bytes_or_null(alloc, rest, after)?;
-        Ok((Header { key, value }, rest))
+        let (key, rest) = read_text(bytes, after)?;
+        let (value, rest) = read_bytes_or_null(rest, after)?;
+        let header = Header {
+            key: Text::from_str(alloc, key)?,
+            value: copied(alloc, value)?,
+        };
+        Ok((header, rest))
     }
 }
 

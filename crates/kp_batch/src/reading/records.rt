@@ -5,7 +5,7 @@ ghost use Rattle.kp_wire.specs.Reading.{Gives};
 ghost use Rattle.kp_batch.specs.Record.{fields, read_fields, relative_record};
 ghost use Rattle.kp_batch.specs.Reading.{all_records};
 
-use super::fields::{read_attributes, read_bytes_or_null, read_headers};
+use super::fields::{copied, read_attributes, read_bytes_or_null, read_headers};
 use crate::relative::RelativeRecord;
 use kp_wire::{
     ReadError, ReadField, Seq, WireFault, end_before, read_many, read_varint, read_varlong,
@@ -24,19 +24,17 @@ fn read_fields(
     let rest = read_attributes(bytes, after)?;
     let (timestamp_delta, rest) = end_before(read_varlong(rest)?, after)?;
     let (offset_delta, rest) = end_before(read_varint(rest)?, after)?;
-    let (key, rest) = read_bytes_or_null(alloc, rest, after)?;
-    let (value, rest) = read_bytes_or_null(alloc, rest, after)?;
+    let (key, rest) = read_bytes_or_null(rest, after)?;
+    let (value, rest) = read_bytes_or_null(rest, after)?;
     let (headers, rest) = read_headers(alloc, rest, after)?;
-    Ok((
-        RelativeRecord {
-            timestamp_delta,
-            offset_delta,
-            key,
-            value,
-            headers,
-        },
-        rest,
-    ))
+    let record = RelativeRecord {
+        timestamp_delta,
+        offset_delta,
+        key: copied(alloc, key)?,
+        value: copied(alloc, value)?,
+        headers,
+    };
+    Ok((record, rest))
 }
 
 /// The record whose length is `len`: its fields end where it ends.
