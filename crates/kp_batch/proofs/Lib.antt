@@ -1,5 +1,6 @@
 pub mod RecordLemmas
-pub mod RowLemmas
+pub mod GatherLemmas
+pub mod WholeLemmas
 pub mod RelativeLemmas
 pub mod BatchLemmas
 pub mod SizeLemmas

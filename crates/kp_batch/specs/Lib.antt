@@ -1,3 +1,4 @@
 pub mod Record
 pub mod Spelling
 pub mod Reading
+pub mod Gathering

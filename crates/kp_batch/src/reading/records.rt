@@ -1,15 +1,12 @@
-//! Records as they stand in a batch.
+//! A record as it stands in a batch.
 
 ghost use Rattle.std.specs.Prelude.{◌≡◌, ◌-◌, length};
 ghost use Rattle.kp_wire.specs.Reading.{Gives};
 ghost use Rattle.kp_batch.specs.Record.{fields, read_fields, relative_record};
-ghost use Rattle.kp_batch.specs.Reading.{all_records};
 
 use super::fields::{copied, read_attributes, read_bytes_or_null, read_headers};
 use crate::relative::RelativeRecord;
-use kp_wire::{
-    ReadError, ReadField, Seq, WireFault, end_before, read_many, read_varint, read_varlong,
-};
+use kp_wire::{ReadError, WireFault, end_before, read_varint, read_varlong};
 use std::alloc::Global;
 
 /// What stands behind a record's length, and behind it `after` bytes or more.
@@ -53,31 +50,14 @@ fn read_sized(alloc: Global, bytes: &[u8], len: usize) -> Result<(RelativeRecord
     Ok((record, rest))
 }
 
-impl ReadField for RelativeRecord {
-    ghost reads = { λ _. relative_record.read };
-
-    #[tactic(auto, unfolding(kp_wire::specs::Codec::by_length, crate::specs::Record::relative_record))]
-    fn read(alloc: Global, bytes: &[u8], _after: usize) -> Result<(Self, &[u8]), ReadError> {
-        let (len, rest) = read_varint(bytes)?;
-        if len < 0 {
-            return Err(ReadError::Fault(WireFault::BadLength));
-        }
-        read_sized(alloc, rest, len as usize)
-    }
-}
-
-/// So many records, all of the bytes.
-#[tactic(auto, unfolding(crate::specs::Reading::all_records))]
-pub(super) fn read_records(
-    alloc: Global,
-    count: u32,
-    bytes: &[u8],
-) -> Result<Seq<RelativeRecord>, ReadError>
-    ensures { Gives (λ x. x) result (all_records count bytes.now) }
+/// The record at the front, and the bytes behind it.
+#[tactic(auto, unfolding(kp_wire::specs::Codec::by_length, crate::specs::Record::relative_record))]
+pub(super) fn read_record(alloc: Global, bytes: &[u8]) -> Result<(RelativeRecord, &[u8]), ReadError>
+    ensures { Gives (λ x. (x.0, x.1.now)) result (relative_record.read bytes.now) }
 {
-    let (records, rest) = read_many::<RelativeRecord>(alloc, count, bytes, 0)?;
-    if !rest.is_empty() {
+    let (len, rest) = read_varint(bytes)?;
+    if len < 0 {
         return Err(ReadError::Fault(WireFault::BadLength));
     }
-    Ok(records)
+    read_sized(alloc, rest, len as usize)
 }
