@@ -9,6 +9,7 @@ mod writing;
 use super::*;
 use kp_wire::{Blob, Seq, Text, WireFault, crc32c};
 use std::alloc::{AllocError, Global};
+use std::process::Abort;
 use std::test::Fail;
 
 /// The batch of one record, value "a", of producer 1000 at sequence 0: written out from Kafka's format by hand,
@@ -129,22 +130,48 @@ fn fault_alone(alloc: Global, record: &[u8]) -> Result<Option<BatchFault>, Fail>
     Ok(fault_of(alloc, &bytes))
 }
 
-/// The fault of a batch of this record and of `SECOND` behind it.
-fn fault_before_second(alloc: Global, record: &[u8]) -> Result<Option<BatchFault>, Fail> {
-    let bytes = batch_of(alloc, &[record, &SECOND])?;
-    Ok(fault_of(alloc, &bytes))
+/// Asserts that each of these records, alone in a batch, has the fault.
+fn each_alone<R: Abort + AllocGlobal>(
+    rt: &R,
+    records: &[&[u8]],
+    fault: WireFault,
+) -> Result<(), Fail> {
+    for (k, record) in records.iter().enumerate() {
+        assert_eq!(rt;
+            fault_alone(rt.alloc(), record)?,
+            Some(BatchFault::BadRecord(fault)),
+            "at {k}"
+        );
+    }
+    Ok(())
 }
 
-fn bad_record(fault: WireFault) -> Option<BatchFault> {
-    Some(BatchFault::BadRecord(fault))
+/// Asserts that each of these records, with `SECOND` behind it, has the fault.
+fn each_before_second<R: Abort + AllocGlobal>(
+    rt: &R,
+    records: &[&[u8]],
+    fault: WireFault,
+) -> Result<(), Fail> {
+    for (k, record) in records.iter().enumerate() {
+        let bytes = batch_of(rt.alloc(), &[*record, &SECOND])?;
+        assert_eq!(rt;
+            fault_of(rt.alloc(), &bytes),
+            Some(BatchFault::BadRecord(fault)),
+            "at {k}"
+        );
+    }
+    Ok(())
 }
 
 #[test]
 fn the_builder_by_hand_gives_the_batch_by_hand(rt: HostRuntime) -> Result<(), Fail> {
     let bytes = batch_of(rt.alloc(), &[&[0x0e, 0, 0, 0, 0x01, 0x02, 0x61, 0]])?;
     assert_eq!(rt; bytes.as_slice(), BATCH.as_slice());
-    let first = [0x0e, 0, 0, 0, 0x01, 0x02, 0x61, 0];
-    assert_eq!(rt; fault_before_second(rt.alloc(), &first)?, None);
+    let two = batch_of(
+        rt.alloc(),
+        &[&[0x0e, 0, 0, 0, 0x01, 0x02, 0x61, 0], &SECOND],
+    )?;
+    assert_eq!(rt; fault_of(rt.alloc(), &two), None);
     Ok(())
 }
 

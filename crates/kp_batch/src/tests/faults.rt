@@ -242,7 +242,7 @@ fn a_later_records_fault_comes_before_an_earlier_ones_place(rt: HostRuntime) -> 
     let bytes = batch_of(rt.alloc(), &[&misplaced, &faulty])?;
     assert_eq!(rt;
         fault_of(rt.alloc(), &bytes),
-        bad_record(WireFault::BadByte)
+        Some(BatchFault::BadRecord(WireFault::BadByte))
     );
     Ok(())
 }

@@ -2,92 +2,72 @@
 
 use super::*;
 
-const BAD_LENGTH: Option<BatchFault> = Some(BatchFault::BadRecord(WireFault::BadLength));
-
-const SHORT: Option<BatchFault> = Some(BatchFault::BadRecord(WireFault::Short));
-
 #[test]
 fn a_record_that_is_cut_is_short(rt: HostRuntime) -> Result<(), Fail> {
-    let record = [0x0e, 0, 0, 0, 0x01, 0x02, 0x61, 0];
-    for len in 0..8usize {
-        let part = record.get(..len).unwrap_or(&[]);
-        assert_eq!(rt; fault_alone(rt.alloc(), part)?, SHORT, "at {len}");
-    }
-    assert_eq!(rt; fault_alone(rt.alloc(), &record)?, None);
-    Ok(())
+    const CUT: [&[u8]; 8] = [
+        &[],
+        &[0x0e],
+        &[0x0e, 0],
+        &[0x0e, 0, 0],
+        &[0x0e, 0, 0, 0],
+        &[0x0e, 0, 0, 0, 0x01],
+        &[0x0e, 0, 0, 0, 0x01, 0x02],
+        &[0x0e, 0, 0, 0, 0x01, 0x02, 0x61],
+    ];
+    each_alone(&rt, &CUT, WireFault::Short)
 }
 
 #[test]
 fn a_record_shorter_than_its_fields_has_a_bad_length(rt: HostRuntime) -> Result<(), Fail> {
-    for length in [0x00u8, 0x02, 0x04, 0x06, 0x08, 0x0a] {
-        let record = [length, 0, 0, 0, 0x01, 0x01, 0];
-        assert_eq!(rt;
-            fault_alone(rt.alloc(), &record)?,
-            BAD_LENGTH,
-            "at {length}"
-        );
-        assert_eq!(rt;
-            fault_before_second(rt.alloc(), &record)?,
-            BAD_LENGTH,
-            "at {length}"
-        );
-    }
-    Ok(())
+    const SHORTER: [&[u8]; 6] = [
+        &[0x00, 0, 0, 0, 0x01, 0x01, 0],
+        &[0x02, 0, 0, 0, 0x01, 0x01, 0],
+        &[0x04, 0, 0, 0, 0x01, 0x01, 0],
+        &[0x06, 0, 0, 0, 0x01, 0x01, 0],
+        &[0x08, 0, 0, 0, 0x01, 0x01, 0],
+        &[0x0a, 0, 0, 0, 0x01, 0x01, 0],
+    ];
+    each_alone(&rt, &SHORTER, WireFault::BadLength)?;
+    each_before_second(&rt, &SHORTER, WireFault::BadLength)
 }
 
 #[test]
 fn a_record_longer_than_its_fields_has_a_bad_length(rt: HostRuntime) -> Result<(), Fail> {
-    let with_a_byte = [0x0e, 0, 0, 0, 0x01, 0x01, 0, 0];
-    assert_eq!(rt; fault_alone(rt.alloc(), &with_a_byte)?, BAD_LENGTH);
-    assert_eq!(rt; fault_before_second(rt.alloc(), &with_a_byte)?, BAD_LENGTH);
-    for length in [0x0eu8, 0x10, 0x7e] {
-        let record = [length, 0, 0, 0, 0x01, 0x01, 0];
-        assert_eq!(rt;
-            fault_alone(rt.alloc(), &record)?,
-            BAD_LENGTH,
-            "at {length}"
-        );
-        assert_eq!(rt;
-            fault_before_second(rt.alloc(), &record)?,
-            BAD_LENGTH,
-            "at {length}"
-        );
-    }
-    let greatest = [0xfe, 0xff, 0xff, 0xff, 0x0f, 0, 0, 0, 0x01, 0x01, 0];
-    assert_eq!(rt; fault_alone(rt.alloc(), &greatest)?, BAD_LENGTH);
-    Ok(())
+    // By a byte that is there, by bytes of the next record, and by bytes that no record has.
+    const LONGER: [&[u8]; 5] = [
+        &[0x0e, 0, 0, 0, 0x01, 0x01, 0, 0],
+        &[0x0e, 0, 0, 0, 0x01, 0x01, 0],
+        &[0x10, 0, 0, 0, 0x01, 0x01, 0],
+        &[0x7e, 0, 0, 0, 0x01, 0x01, 0],
+        &[0xfe, 0xff, 0xff, 0xff, 0x0f, 0, 0, 0, 0x01, 0x01, 0],
+    ];
+    each_alone(&rt, &LONGER, WireFault::BadLength)?;
+    each_before_second(&rt, &LONGER, WireFault::BadLength)
 }
 
 #[test]
 fn a_record_of_length_below_0_has_a_bad_length(rt: HostRuntime) -> Result<(), Fail> {
-    assert_eq!(rt; fault_alone(rt.alloc(), &[0x01])?, BAD_LENGTH);
-    assert_eq!(rt;
-        fault_alone(rt.alloc(), &[0x01, 0, 0, 0, 0x01, 0x01, 0])?,
-        BAD_LENGTH
-    );
-    assert_eq!(rt;
-        fault_alone(rt.alloc(), &[0xff, 0xff, 0xff, 0xff, 0x0f])?,
-        BAD_LENGTH
-    );
-    Ok(())
+    const BELOW: [&[u8]; 3] = [
+        &[0x01],
+        &[0x01, 0, 0, 0, 0x01, 0x01, 0],
+        &[0xff, 0xff, 0xff, 0xff, 0x0f],
+    ];
+    each_alone(&rt, &BELOW, WireFault::BadLength)
 }
 
 #[test]
 fn a_records_attributes_but_0_are_a_bad_byte(rt: HostRuntime) -> Result<(), Fail> {
     for byte in 1..=255u8 {
         let record = [0x0c, byte, 0, 0, 0x01, 0x01, 0];
-        assert_eq!(rt;
-            fault_alone(rt.alloc(), &record)?,
-            bad_record(WireFault::BadByte),
-            "at {byte}"
-        );
+        each_alone(&rt, &[&record], WireFault::BadByte)?;
     }
-    // A record of no bytes: its attributes are the next record's first byte, and their own fault comes first.
-    assert_eq!(rt;
-        fault_before_second(rt.alloc(), &[0])?,
-        bad_record(WireFault::BadByte)
-    );
     Ok(())
+}
+
+#[test]
+fn a_fields_own_fault_comes_before_its_end(rt: HostRuntime) -> Result<(), Fail> {
+    // A record of no bytes: its attributes are the next record's first byte.
+    each_before_second(&rt, &[&[0]], WireFault::BadByte)
 }
 
 #[test]
@@ -95,49 +75,39 @@ fn a_key_longer_than_its_record_but_not_than_the_batch_has_a_bad_length(
     rt: HostRuntime,
 ) -> Result<(), Fail> {
     // Three bytes of the record stand behind the key's length, and eleven of the batch.
-    for length in [0x08u8, 0x0a, 0x16] {
-        let record = [0x0e, 0, 0, 0, length, 0x61, 0x01, 0];
-        assert_eq!(rt;
-            fault_before_second(rt.alloc(), &record)?,
-            BAD_LENGTH,
-            "at {length}"
-        );
-    }
-    Ok(())
+    const LONGER: [&[u8]; 3] = [
+        &[0x0e, 0, 0, 0, 0x08, 0x61, 0x01, 0],
+        &[0x0e, 0, 0, 0, 0x0a, 0x61, 0x01, 0],
+        &[0x0e, 0, 0, 0, 0x16, 0x61, 0x01, 0],
+    ];
+    each_before_second(&rt, &LONGER, WireFault::BadLength)
 }
 
 #[test]
 fn a_key_longer_than_the_batch_is_short(rt: HostRuntime) -> Result<(), Fail> {
-    for length in [0x18u8, 0x28, 0x7e] {
-        let record = [0x0e, 0, 0, 0, length, 0x61, 0x01, 0];
-        assert_eq!(rt;
-            fault_before_second(rt.alloc(), &record)?,
-            SHORT,
-            "at {length}"
-        );
-    }
-    assert_eq!(rt;
-        fault_alone(rt.alloc(), &[0x0e, 0, 0, 0, 0x08, 0x61, 0x01, 0])?,
-        SHORT
-    );
-    let greatest = [0x16, 0, 0, 0, 0xfe, 0xff, 0xff, 0xff, 0x0f, 0x61, 0x01, 0];
-    assert_eq!(rt; fault_before_second(rt.alloc(), &greatest)?, SHORT);
-    Ok(())
+    const LONGER: [&[u8]; 4] = [
+        &[0x0e, 0, 0, 0, 0x18, 0x61, 0x01, 0],
+        &[0x0e, 0, 0, 0, 0x28, 0x61, 0x01, 0],
+        &[0x0e, 0, 0, 0, 0x7e, 0x61, 0x01, 0],
+        &[0x16, 0, 0, 0, 0xfe, 0xff, 0xff, 0xff, 0x0f, 0x61, 0x01, 0],
+    ];
+    each_before_second(&rt, &LONGER, WireFault::Short)?;
+    each_alone(
+        &rt,
+        &[&[0x0e, 0, 0, 0, 0x08, 0x61, 0x01, 0]],
+        WireFault::Short,
+    )
 }
 
 #[test]
 fn a_key_of_length_below_minus_1_has_a_bad_length(rt: HostRuntime) -> Result<(), Fail> {
-    for length in [0x03u8, 0x05, 0x7f] {
-        let record = [0x0c, 0, 0, 0, length, 0x01, 0];
-        assert_eq!(rt;
-            fault_alone(rt.alloc(), &record)?,
-            BAD_LENGTH,
-            "at {length}"
-        );
-    }
-    let least = [0x14, 0, 0, 0, 0xff, 0xff, 0xff, 0xff, 0x0f, 0x01, 0];
-    assert_eq!(rt; fault_alone(rt.alloc(), &least)?, BAD_LENGTH);
-    Ok(())
+    const BELOW: [&[u8]; 4] = [
+        &[0x0c, 0, 0, 0, 0x03, 0x01, 0],
+        &[0x0c, 0, 0, 0, 0x05, 0x01, 0],
+        &[0x0c, 0, 0, 0, 0x7f, 0x01, 0],
+        &[0x14, 0, 0, 0, 0xff, 0xff, 0xff, 0xff, 0x0f, 0x01, 0],
+    ];
+    each_alone(&rt, &BELOW, WireFault::BadLength)
 }
 
 #[test]
@@ -145,70 +115,55 @@ fn a_value_longer_than_its_record_but_not_than_the_batch_has_a_bad_length(
     rt: HostRuntime,
 ) -> Result<(), Fail> {
     // Two bytes of the record stand behind the value's length, and ten of the batch.
-    for length in [0x06u8, 0x0a, 0x14] {
-        let record = [0x0e, 0, 0, 0, 0x01, length, 0x61, 0];
-        assert_eq!(rt;
-            fault_before_second(rt.alloc(), &record)?,
-            BAD_LENGTH,
-            "at {length}"
-        );
-    }
-    Ok(())
+    const LONGER: [&[u8]; 3] = [
+        &[0x0e, 0, 0, 0, 0x01, 0x06, 0x61, 0],
+        &[0x0e, 0, 0, 0, 0x01, 0x0a, 0x61, 0],
+        &[0x0e, 0, 0, 0, 0x01, 0x14, 0x61, 0],
+    ];
+    each_before_second(&rt, &LONGER, WireFault::BadLength)
 }
 
 #[test]
 fn a_value_longer_than_the_batch_is_short(rt: HostRuntime) -> Result<(), Fail> {
-    for length in [0x16u8, 0x28, 0x7e] {
-        let record = [0x0e, 0, 0, 0, 0x01, length, 0x61, 0];
-        assert_eq!(rt;
-            fault_before_second(rt.alloc(), &record)?,
-            SHORT,
-            "at {length}"
-        );
-    }
-    assert_eq!(rt;
-        fault_alone(rt.alloc(), &[0x0e, 0, 0, 0, 0x01, 0x06, 0x61, 0])?,
-        SHORT
-    );
-    let greatest = [0x16, 0, 0, 0, 0x01, 0xfe, 0xff, 0xff, 0xff, 0x0f, 0x61, 0];
-    assert_eq!(rt; fault_before_second(rt.alloc(), &greatest)?, SHORT);
-    Ok(())
+    const LONGER: [&[u8]; 4] = [
+        &[0x0e, 0, 0, 0, 0x01, 0x16, 0x61, 0],
+        &[0x0e, 0, 0, 0, 0x01, 0x28, 0x61, 0],
+        &[0x0e, 0, 0, 0, 0x01, 0x7e, 0x61, 0],
+        &[0x16, 0, 0, 0, 0x01, 0xfe, 0xff, 0xff, 0xff, 0x0f, 0x61, 0],
+    ];
+    each_before_second(&rt, &LONGER, WireFault::Short)?;
+    each_alone(
+        &rt,
+        &[&[0x0e, 0, 0, 0, 0x01, 0x06, 0x61, 0]],
+        WireFault::Short,
+    )
 }
 
 #[test]
 fn a_value_of_length_below_minus_1_has_a_bad_length(rt: HostRuntime) -> Result<(), Fail> {
-    for length in [0x03u8, 0x05, 0x7f] {
-        let record = [0x0c, 0, 0, 0, 0x01, length, 0];
-        assert_eq!(rt;
-            fault_alone(rt.alloc(), &record)?,
-            BAD_LENGTH,
-            "at {length}"
-        );
-    }
-    let least = [0x14, 0, 0, 0, 0x01, 0xff, 0xff, 0xff, 0xff, 0x0f, 0];
-    assert_eq!(rt; fault_alone(rt.alloc(), &least)?, BAD_LENGTH);
-    Ok(())
+    const BELOW: [&[u8]; 4] = [
+        &[0x0c, 0, 0, 0, 0x01, 0x03, 0],
+        &[0x0c, 0, 0, 0, 0x01, 0x05, 0],
+        &[0x0c, 0, 0, 0, 0x01, 0x7f, 0],
+        &[0x14, 0, 0, 0, 0x01, 0xff, 0xff, 0xff, 0xff, 0x0f, 0],
+    ];
+    each_alone(&rt, &BELOW, WireFault::BadLength)
 }
 
 #[test]
 fn bytes_behind_the_last_record_are_a_bad_length(rt: HostRuntime) -> Result<(), Fail> {
-    let with_a_byte = [0x0c, 0, 0, 0, 0x01, 0x01, 0, 0];
-    assert_eq!(rt; fault_alone(rt.alloc(), &with_a_byte)?, BAD_LENGTH);
-    let fields = Fields {
-        last_offset_delta: 0,
-        base_timestamp: 0,
-        max_timestamp: 0,
-        count: 1,
-    };
-    let first = [0x0c, 0, 0, 0, 0x01, 0x01, 0];
-    let two = batch_with(rt.alloc(), &fields, &[&first, &SECOND])?;
-    assert_eq!(rt; fault_of(rt.alloc(), &two), BAD_LENGTH);
-    Ok(())
+    // One byte, and a second record where the count is 1.
+    const BEHIND: [&[u8]; 2] = [
+        &[0x0c, 0, 0, 0, 0x01, 0x01, 0, 0],
+        &[
+            0x0c, 0, 0, 0, 0x01, 0x01, 0, 0x0c, 0, 0, 0x02, 0x01, 0x01, 0,
+        ],
+    ];
+    each_alone(&rt, &BEHIND, WireFault::BadLength)
 }
 
 #[test]
 fn a_count_above_that_of_the_records_is_short(rt: HostRuntime) -> Result<(), Fail> {
-    let first = [0x0c, 0, 0, 0, 0x01, 0x01, 0];
     for count in [2i32, i32::MAX] {
         let fields = Fields {
             last_offset_delta: count.saturating_sub(1),
@@ -216,8 +171,12 @@ fn a_count_above_that_of_the_records_is_short(rt: HostRuntime) -> Result<(), Fai
             max_timestamp: 0,
             count,
         };
-        let one = batch_with(rt.alloc(), &fields, &[&first])?;
-        assert_eq!(rt; fault_of(rt.alloc(), &one), SHORT, "at {count}");
+        let one = batch_with(rt.alloc(), &fields, &[&[0x0c, 0, 0, 0, 0x01, 0x01, 0]])?;
+        assert_eq!(rt;
+            fault_of(rt.alloc(), &one),
+            Some(BatchFault::BadRecord(WireFault::Short)),
+            "at {count}"
+        );
     }
     Ok(())
 }

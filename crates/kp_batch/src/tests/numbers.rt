@@ -2,99 +2,113 @@
 
 use super::*;
 
-/// What stands before each number of a record: of 20 bytes, with a key and a value of null, and one header "h".
-const BEFORE: [&[u8]; 8] = [
-    &[], // its length
-    &[0x28, 0], // its timestamp
-    &[0x28, 0, 0], // its offset
-    &[0x28, 0, 0, 0], // the key's length
-    &[0x28, 0, 0, 0, 1], // the value's length
-    &[0x28, 0, 0, 0, 1, 1], // the count of headers
-    &[0x28, 0, 0, 0, 1, 1, 2], // a header's key's length
-    &[0x28, 0, 0, 0, 1, 1, 2, 2, 0x68], // a header's value's length
+/// What stands before the timestamp of a record of 20 bytes, a number of 64 bits.
+const BEFORE_TIMESTAMP: [&[u8]; 1] = [&[0x28, 0]];
+
+/// What stands before each number of 32 bits: the length of such a record, its offset, the lengths of its key and
+/// of its value, the count of its headers, and the lengths of a header's key and of its value.
+const BEFORE: [&[u8]; 7] = [
+    &[],
+    &[0x28, 0, 0],
+    &[0x28, 0, 0, 0],
+    &[0x28, 0, 0, 0, 1],
+    &[0x28, 0, 0, 0, 1, 1],
+    &[0x28, 0, 0, 0, 1, 1, 2],
+    &[0x28, 0, 0, 0, 1, 1, 2, 2, 0x68],
 ];
 
-/// Which of these is a number of 64 bits.
-const TIMESTAMP: usize = 1;
+const NONE_BEHIND: [u8; 0] = [];
 
-/// The fault of a batch of one record that begins so, with these bytes behind.
-fn fault_behind(
-    alloc: Global,
-    before: &[u8],
-    number: &[u8],
+const TWENTY_BEHIND: [u8; 20] = [0; 20];
+
+/// Asserts that each of these numbers has the fault at each place, with these bytes behind.
+fn each_place<R: Abort + AllocGlobal>(
+    rt: &R,
+    places: &[&[u8]],
+    numbers: &[&[u8]],
     behind: &[u8],
-) -> Result<Option<BatchFault>, Fail> {
-    let mut record = Vec::from_slice(alloc, before)?;
-    record.extend_from_slice(number)?;
-    record.extend_from_slice(behind)?;
-    fault_alone(alloc, &record)
+    fault: WireFault,
+) -> Result<(), Fail> {
+    for before in places {
+        for number in numbers {
+            let mut record = Vec::from_slice(rt.alloc(), before)?;
+            record.extend_from_slice(number)?;
+            record.extend_from_slice(behind)?;
+            each_alone(rt, &[&record], fault)?;
+        }
+    }
+    Ok(())
 }
 
 #[test]
 fn a_number_that_is_cut_short_is_short(rt: HostRuntime) -> Result<(), Fail> {
-    for (k, before) in BEFORE.iter().enumerate() {
-        for number in [b"".as_slice(), b"\x80", b"\xff\xff\xff\xff"] {
-            assert_eq!(rt;
-                fault_behind(rt.alloc(), before, number, &[])?,
-                bad_record(WireFault::Short),
-                "at {k}"
-            );
-        }
-    }
-    Ok(())
+    const CUT: [&[u8]; 3] = [&[], &[0x80], &[0xff, 0xff, 0xff, 0xff]];
+    each_place(&rt, &BEFORE, &CUT, &NONE_BEHIND, WireFault::Short)?;
+    each_place(&rt, &BEFORE_TIMESTAMP, &CUT, &NONE_BEHIND, WireFault::Short)
 }
 
 #[test]
-fn a_number_beyond_its_bits_is_too_large(rt: HostRuntime) -> Result<(), Fail> {
-    for (k, before) in BEFORE.iter().enumerate() {
-        let numbers: [&[u8]; 2] = if k == TIMESTAMP {
-            [
-                b"\xff\xff\xff\xff\xff\xff\xff\xff\xff\x02",
-                b"\x80\x80\x80\x80\x80\x80\x80\x80\x80\x81",
-            ]
-        } else {
-            [b"\xff\xff\xff\xff\x10", b"\x80\x80\x80\x80\x8f"]
-        };
-        for number in numbers {
-            for behind in [b"".as_slice(), &[0; 20]] {
-                assert_eq!(rt;
-                    fault_behind(rt.alloc(), before, number, behind)?,
-                    bad_record(WireFault::TooLarge),
-                    "at {k}"
-                );
-            }
-        }
-    }
-    Ok(())
+fn a_number_beyond_32_bits_is_too_large(rt: HostRuntime) -> Result<(), Fail> {
+    const LARGE: [&[u8]; 3] = [
+        &[0xff, 0xff, 0xff, 0xff, 0x10],
+        &[0x80, 0x80, 0x80, 0x80, 0x8f],
+        &[0x80, 0x80, 0x80, 0x80, 0x80],
+    ];
+    each_place(&rt, &BEFORE, &LARGE, &TWENTY_BEHIND, WireFault::TooLarge)?;
+    each_place(&rt, &BEFORE, &LARGE, &NONE_BEHIND, WireFault::TooLarge)
+}
+
+#[test]
+fn a_timestamp_beyond_64_bits_is_too_large(rt: HostRuntime) -> Result<(), Fail> {
+    const LARGE: [&[u8]; 2] = [
+        &[0xff, 0xff, 0xff, 0xff, 0xff, 0xff, 0xff, 0xff, 0xff, 0x02],
+        &[0x80, 0x80, 0x80, 0x80, 0x80, 0x80, 0x80, 0x80, 0x80, 0x81],
+    ];
+    each_place(
+        &rt,
+        &BEFORE_TIMESTAMP,
+        &LARGE,
+        &TWENTY_BEHIND,
+        WireFault::TooLarge,
+    )?;
+    each_place(
+        &rt,
+        &BEFORE_TIMESTAMP,
+        &LARGE,
+        &NONE_BEHIND,
+        WireFault::TooLarge,
+    )
 }
 
 #[test]
 fn a_number_with_a_byte_too_many_is_not_the_shortest(rt: HostRuntime) -> Result<(), Fail> {
-    for (k, before) in BEFORE.iter().enumerate() {
-        for number in [
-            b"\x80\x00".as_slice(),
-            b"\x81\x00",
-            b"\xff\x80\x00",
-            b"\x80\x80\x80\x80\x00",
-        ] {
-            for behind in [b"".as_slice(), &[0; 20]] {
-                assert_eq!(rt;
-                    fault_behind(rt.alloc(), before, number, behind)?,
-                    bad_record(WireFault::NotShortest),
-                    "at {k}"
-                );
-            }
-        }
-    }
-    Ok(())
+    const LONG: [&[u8]; 4] = [
+        &[0x80, 0x00],
+        &[0x81, 0x00],
+        &[0xff, 0x80, 0x00],
+        &[0x80, 0x80, 0x80, 0x80, 0x00],
+    ];
+    each_place(&rt, &BEFORE, &LONG, &TWENTY_BEHIND, WireFault::NotShortest)?;
+    each_place(
+        &rt,
+        &BEFORE_TIMESTAMP,
+        &LONG,
+        &TWENTY_BEHIND,
+        WireFault::NotShortest,
+    )
 }
 
 #[test]
 fn the_greatest_and_least_offsets_are_numbers(rt: HostRuntime) -> Result<(), Fail> {
-    for number in [b"\xfe\xff\xff\xff\x0f".as_slice(), b"\xff\xff\xff\xff\x0f"] {
+    const OFFSETS: [&[u8]; 2] = [
+        &[0x14, 0, 0, 0xfe, 0xff, 0xff, 0xff, 0x0f, 1, 1, 0],
+        &[0x14, 0, 0, 0xff, 0xff, 0xff, 0xff, 0x0f, 1, 1, 0],
+    ];
+    for (k, record) in OFFSETS.iter().enumerate() {
         assert_eq!(rt;
-            fault_behind(rt.alloc(), &[0x14, 0, 0], number, &[0x01, 0x01, 0])?,
-            Some(BatchFault::Deltas)
+            fault_alone(rt.alloc(), record)?,
+            Some(BatchFault::Deltas),
+            "at {k}"
         );
     }
     Ok(())
