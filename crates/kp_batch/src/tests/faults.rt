@@ -19,7 +19,7 @@ fn a_part_of_a_batch_is_short_and_a_byte_behind_it_too_long(rt: HostRuntime) -> 
 }
 
 #[test]
-fn fewer_than_61_bytes_are_short_and_61_with_no_length_of_a_batch_too_long(rt: HostRuntime) {
+fn fewer_than_61_bytes_are_short_whatever_they_are(rt: HostRuntime) {
     let bytes = [0xffu8; 61];
     for len in 0..61usize {
         let part = bytes.get(..len).unwrap_or(&[]);
