@@ -6,7 +6,7 @@ use Rattle.std.proofs.lemmas.Bool.{lt-ltb}
 use Rattle.std.proofs.lemmas.List.{map-append}
 use Rattle.kp_wire.specs.declared.fault.WireFault.{WireFault}
 use Rattle.kp_wire.specs.Codec.{read_many}
-use Rattle.kp_wire.proofs.ManyLemmas.{with_front}
+use Rattle.kp_wire.proofs.ManyLemmas.{with_front, with_none}
 use Rattle.kp_batch.specs.declared.reading.gathering.Gathered.{Gathered}
 use Rattle.kp_batch.specs.declared.record.Record.{Record}
 use Rattle.kp_batch.specs.declared.relative.RelativeRecord.{RelativeRecord}
@@ -138,10 +138,6 @@ pub record SoFar (base : ℤ) (count k : ℕ) (bytes rest : List ℕ) (front : L
   pub many : length front ≡ k
   pub reads : with_front front (read_many relative_record.read (count - k) rest) ≡ read_many relative_record.read count bytes
   pub known : Known base front g
-
-with_none : {A : Type 0} (read : Result (List A × List ℕ) WireFault) → with_front [] read ≡ read
-with_none (Ok x) = refl
-with_none (Err e) = refl
 
 pub so_far_none : (base : ℤ) (count : ℕ) (bytes : List ℕ) → SoFar base count 0 bytes bytes [] (gathered [] 0 true true)
 so_far_none base count bytes =

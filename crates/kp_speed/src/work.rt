@@ -3,6 +3,7 @@
 use kp_batch::{BatchHead, Record, SIZE_LIMIT, Timestamp, batch_size, read_batch, write_batch};
 use kp_wire::{Blob, Seq, crc32c};
 use std::alloc::{AllocError, Global};
+use std::mem;
 
 /// How many bytes a checksum is taken of.
 const CHECKED: usize = 16384;
@@ -66,8 +67,24 @@ pub fn writes(alloc: Global, times: u32) -> Result<u64, AllocError> {
     Ok(sum)
 }
 
-/// The records of so many batches.
+/// The records of so many batches. What was read is kept, as a broker's log keeps it, and not dropped even at the
+/// end: so the cost is that of reading alone.
 pub fn reads(alloc: Global, times: u32) -> Result<u64, AllocError> {
+    let bytes = batch_of(alloc, &records_of(alloc)?)?;
+    let mut log = Vec::new(alloc);
+    let mut sum = 0u64;
+    for _ in 0..times {
+        if let Ok(batch) = read_batch(alloc, &bytes) {
+            sum = sum.wrapping_add(batch.records.len() as u64);
+            log.push(batch)?;
+        }
+    }
+    mem::forget(log);
+    Ok(sum)
+}
+
+/// The same, where each batch is dropped before the next is read.
+pub fn reads_and_drops(alloc: Global, times: u32) -> Result<u64, AllocError> {
     let bytes = batch_of(alloc, &records_of(alloc)?)?;
     let mut sum = 0u64;
     for _ in 0..times {

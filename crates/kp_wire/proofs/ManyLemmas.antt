@@ -11,6 +11,10 @@ use Rattle.kp_wire.specs.Codec.{read_many}
 abbrev pub with_front : {A : Type 0} → List A → Result (List A × List ℕ) WireFault → Result (List A × List ℕ) WireFault
 with_front front read = read >>= λ x. Ok (front ++ x.0, x.1)
 
+pub with_none : {A : Type 0} (read : Result (List A × List ℕ) WireFault) → with_front [] read ≡ read
+with_none (Ok x) = refl
+with_none (Err f) = refl
+
 regroup : {A : Type 0} (front : List A) (n : A) (read : Result (List A × List ℕ) WireFault) → with_front front (read >>= λ x. Ok (n ∷ x.0, x.1)) ≡ with_front (front ++ n ∷ []) read
 regroup {A = A} front n (Ok x) = ap (λ (ns : List A). Ok (ns, x.1)) (simp append_assoc)
 regroup front n (Err f) = refl

@@ -71,6 +71,10 @@ unfoldable pub read_many : {A : Type 0} → (List ℕ → Read A) → ℕ → Li
 read_many read zero bytes = Ok ([], bytes)
 read_many read (suc n) bytes = read bytes >>= λ x. read_many read n x.1 >>= λ xs. Ok (x.0 ∷ xs.0, xs.1)
 
+-- so many values, behind those that are there
+abbrev pub read_more : {A : Type 0} → (List ℕ → Read A) → List A → ℕ → List ℕ → Read (List A)
+read_more read front n bytes = read_many read n bytes >>= λ x. Ok (front ++ x.0, x.1)
+
 abbrev pub many : {A : Type 0} → Codec A → ℕ → Codec (List A)
 many c n = record {
   Fits = λ xs. (length xs ≡ n) × AllByRecursion c.Fits xs;

@@ -3,7 +3,7 @@
 ghost use Rattle.std.specs.Prelude.{◌≡◌, ◌++◌, List, ℕ, OnOk, IsErrOf, Any};
 ghost use Rattle.std.specs.List.{flat_map, AllByRecursion};
 ghost use Rattle.kp_wire.specs.Reading.{Read, Gives};
-ghost use Rattle.kp_wire.specs.Codec.{read_many};
+ghost use Rattle.kp_wire.specs.Codec.{read_many, read_more};
 
 use crate::fault::{ReadError, WriteError};
 use crate::seq::Seq;
@@ -38,6 +38,27 @@ pub trait WriteField {
         ensures long_only { IsErrOf result WriteError.BadLength → is_long self.now };
 }
 
+/// Appends so many values, one after the other, and gives the bytes behind them. An `Err` may leave a part of the
+/// values.
+#[inline]
+pub fn read_into<'a, T: ReadField>(
+    alloc: Global,
+    items: &mut Vec<T>,
+    count: u32,
+    bytes: &'a [u8],
+    after: usize,
+) -> Result<&'a [u8], ReadError>
+    ensures { Gives (λ rest. (items.new.items, rest.now)) result (read_more (T.reads after) items.old.items count bytes.now) }
+{
+    let mut rest = bytes;
+    for _ in 0..count {
+        let (item, behind) = T::read(alloc, rest, after)?;
+        items.push(item)?;
+        rest = behind;
+    }
+    Ok(rest)
+}
+
 /// So many values, one after the other, and the bytes behind them.
 pub fn read_many<T: ReadField>(
     alloc: Global,
@@ -48,12 +69,7 @@ pub fn read_many<T: ReadField>(
     ensures { Gives (λ x. (x.0, x.1.now)) result (read_many (T.reads after) count bytes.now) }
 {
     let mut items = Vec::new(alloc);
-    let mut rest = bytes;
-    for _ in 0..count {
-        let (item, behind) = T::read(alloc, rest, after)?;
-        items.push(item)?;
-        rest = behind;
-    }
+    let rest = read_into(alloc, &mut items, count, bytes, after)?;
     Ok((Seq::new(items), rest))
 }
 

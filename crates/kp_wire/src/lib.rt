@@ -16,7 +16,7 @@ mod varint;
 
 pub use blob::Blob;
 pub use checksum::crc32c;
-pub use codec::{ReadField, WriteField, put_all, read_many};
+pub use codec::{ReadField, WriteField, put_all, read_into, read_many};
 pub use fault::{ReadError, WireFault, WriteError};
 pub use field::{end_before, read_bytes, read_utf8};
 pub use hash::{murmur2, partition_of_key};

@@ -1,13 +1,13 @@
 //! The fields of a record.
 
-ghost use Rattle.std.specs.Prelude.{◌≡◌, length, option_map, IfOk};
+ghost use Rattle.std.specs.Prelude.{◌≡◌, [], length, option_map, IfOk};
 ghost use Rattle.kp_wire.specs.Reading.{Gives, IsRead};
 ghost use Rattle.kp_wire.specs.Codec.{by_length, by_nullable_length, within, plain, utf8, many};
 ghost use Rattle.kp_batch.specs.Record.{attributes, length_field, bytes_or_null, text, header, headers};
 
 use crate::record::Header;
 use kp_wire::{
-    Blob, ReadError, ReadField, Seq, Text, WireFault, end_before, read_bytes, read_many, read_utf8,
+    Blob, ReadError, ReadField, Text, WireFault, end_before, read_bytes, read_into, read_utf8,
     read_varint,
 };
 use std::alloc::{AllocError, Global};
@@ -129,30 +129,37 @@ impl ReadField for Header {
     }
 }
 
-/// The headers that stand behind their count.
+/// Appends the headers of a record to none: those that stand behind their count.
+#[inline]
 #[tactic(auto, unfolding(kp_wire::specs::Codec::by_length))]
-fn read_headers_by(
+fn read_headers_by<'a>(
     alloc: Global,
-    bytes: &[u8],
+    hs: &mut Vec<Header>,
     count: i32,
+    bytes: &'a [u8],
     after: usize,
-) -> Result<(Seq<Header>, &[u8]), ReadError>
-    ensures { Gives (λ x. (x.0, x.1.now)) result (by_length (λ n. (many (header after) n).read) count bytes.now) }
+) -> Result<&'a [u8], ReadError>
+    requires { hs.old.items ≡ [] }
+    ensures { Gives (λ rest. (hs.new.items, rest.now)) result (by_length (λ n. (many (header after) n).read) count bytes.now) }
 {
     if count < 0 {
         return Err(ReadError::Fault(WireFault::BadLength));
     }
-    read_many::<Header>(alloc, count as u32, bytes, after)
+    read_into::<Header>(alloc, hs, count as u32, bytes, after)
 }
 
+/// Appends the headers of a record to none, and gives the bytes behind them.
+#[inline]
 #[tactic(auto, unfolding(crate::specs::Record::headers))]
-pub(super) fn read_headers(
+pub(super) fn read_headers<'a>(
     alloc: Global,
-    bytes: &[u8],
+    hs: &mut Vec<Header>,
+    bytes: &'a [u8],
     after: usize,
-) -> Result<(Seq<Header>, &[u8]), ReadError>
-    ensures { Gives (λ x. (x.0, x.1.now)) result ((headers after).read bytes.now) }
+) -> Result<&'a [u8], ReadError>
+    requires { hs.old.items ≡ [] }
+    ensures { Gives (λ rest. (hs.new.items, rest.now)) result ((headers after).read bytes.now) }
 {
     let (count, rest) = read_length(bytes, after)?;
-    read_headers_by(alloc, rest, count, after)
+    read_headers_by(alloc, hs, count, rest, after)
 }

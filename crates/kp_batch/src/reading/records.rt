@@ -6,7 +6,7 @@ ghost use Rattle.kp_batch.specs.Record.{fields, read_fields, relative_record};
 
 use super::fields::{copied, read_attributes, read_bytes_or_null, read_headers};
 use crate::relative::RelativeRecord;
-use kp_wire::{ReadError, WireFault, end_before, read_varint, read_varlong};
+use kp_wire::{ReadError, Seq, WireFault, end_before, read_varint, read_varlong};
 use std::alloc::Global;
 
 /// What stands behind a record's length, and behind it `after` bytes or more.
@@ -23,13 +23,14 @@ fn read_fields(
     let (offset_delta, rest) = end_before(read_varint(rest)?, after)?;
     let (key, rest) = read_bytes_or_null(rest, after)?;
     let (value, rest) = read_bytes_or_null(rest, after)?;
-    let (headers, rest) = read_headers(alloc, rest, after)?;
+    let mut headers = Vec::new(alloc);
+    let rest = read_headers(alloc, &mut headers, rest, after)?;
     let record = RelativeRecord {
         timestamp_delta,
         offset_delta,
         key: copied(alloc, key)?,
         value: copied(alloc, value)?,
-        headers,
+        headers: Seq::new(headers),
     };
     Ok((record, rest))
 }

@@ -1,7 +1,7 @@
 use Rattle.std.proofs.Common.{◌≡◌, ◌++◌, ◌∷◌, []}
 use Rattle.std.proofs.lemmas.Result.{err_from_is_err_and}
 use Rattle.kp_wire.proofs.ManyLemmas.{goes_on, ends, is_done}
-use Rattle.kp_wire.proofs.codec.read_many.Goals as goal
+use Rattle.kp_wire.proofs.codec.read_into.Goals as goal
 
 pub returns-in_err-item : goal.returns-in_err-item
 returns-in_err-item g c =
@@ -15,4 +15,4 @@ loop-preserved g c =
     rw e (goes_on (g.T.ReadField.reads c.args.after) c.loop.items.items c.args.count c.loop.counter c.loop.rest.now n c.in_ok-item.behind.now _ c.loop-test.true c.in_ok-item.ensures c.loop.invariant)
 
 pub returns : goal.returns
-returns g c = rw c.new.ensures (is_done (g.T.ReadField.reads c.args.after) c.loop.items.items c.args.count c.loop.counter c.loop.rest.now _ c.loop-test.false c.loop.invariant)
+returns g c = is_done (g.T.ReadField.reads c.args.after) c.loop.items.items c.args.count c.loop.counter c.loop.rest.now _ c.loop-test.false c.loop.invariant
