@@ -1,9 +1,10 @@
 //! A batch into bytes.
 
-ghost use Rattle.std.specs.Prelude.{◌≡◌, ℕ, ◌+◌, ◌<◌, ◌≤◌, ◌++◌, ◌^◌, length, map, take, drop, max, IfOk, OnOk, IsErrOf};
+ghost use Rattle.std.specs.Prelude.{◌≡◌, ℕ, ◌+◌, ◌<◌, ◌≤◌, ◌++◌, ◌^◌, pos, length, map, take, drop, max, IfOk, OnOk, IsErrOf};
 ghost use Rattle.std.specs.Int.{w32, to_be_bytes};
 ghost use Rattle.std.specs.List.{flat_map, AllByRecursion};
 ghost use Rattle.kp_wire.specs.Checksum.{crc};
+ghost use Rattle.kp_wire.specs.Varint.{varint};
 ghost use Rattle.kp_batch.specs.Record.{bytes_or_null, header, headers, fields, fields_size, relative_record};
 ghost use Rattle.kp_batch.specs.Spelling.{front, head, summary, relative_by, relatives_from, max_timestamp, size_of_batch, covered, HasFields, written, Spells};
 
@@ -30,7 +31,24 @@ const CHECKSUM_AT: usize = 17;
 /// Where begins what the checksum covers.
 const COVERED_AT: usize = 21;
 
+/// Appends the bytes behind their length. An `Err` may leave a part.
+#[inline]
+#[tactic(auto, unfolding(crate::specs::Record::bytes_or_null, crate::specs::Record::length_field))]
+fn put_sized(out: &mut Vec<u8>, bytes: &[u8]) -> Result<(), WriteError>
+    ensures spelled { OnOk result (out.new.items ≡ out.old.items ++ (varint.spell (pos (length bytes.now)) ++ bytes.now)) }
+    ensures fits { OnOk result (length bytes.now ≤ SIZE_LIMIT) }
+    ensures long_only { IsErrOf result WriteError.BadLength → SIZE_LIMIT < length bytes.now }
+{
+    if bytes.len() as u64 > SIZE_LIMIT {
+        return Err(WriteError::BadLength);
+    }
+    put_varint(out, bytes.len() as i32)?;
+    out.extend_from_slice(bytes)?;
+    Ok(())
+}
+
 /// Appends the bytes behind their length, or the length -1 where there are none. An `Err` may leave a part.
+#[inline]
 #[tactic(auto, unfolding(crate::specs::Record::bytes_or_null, crate::specs::Record::length_field))]
 fn put_nullable(out: &mut Vec<u8>, bytes: &Option<Blob>) -> Result<(), WriteError>
     ensures spelled { OnOk result (out.new.items ≡ out.old.items ++ (bytes_or_null 0).spell bytes.now) }
@@ -39,13 +57,7 @@ fn put_nullable(out: &mut Vec<u8>, bytes: &Option<Blob>) -> Result<(), WriteErro
 {
     match bytes {
         None => put_varint(out, -1)?,
-        Some(bytes) => {
-            if bytes.len() as u64 > SIZE_LIMIT {
-                return Err(WriteError::BadLength);
-            }
-            put_varint(out, bytes.len() as i32)?;
-            out.extend_from_slice(bytes.as_slice())?;
-        }
+        Some(bytes) => put_sized(out, bytes.as_slice())?,
     }
     Ok(())
 }
@@ -63,12 +75,7 @@ impl WriteField for Header {
 
     #[tactic(auto, using(crate::proofs::SizeLemmas::size_laws), unfolding(crate::specs::Record::header, crate::specs::Record::text, crate::specs::Record::length_field))]
     fn put(&self, out: &mut Vec<u8>) -> Result<(), WriteError> {
-        let key = self.key.as_str();
-        if key.len() as u64 > SIZE_LIMIT {
-            return Err(WriteError::BadLength);
-        }
-        put_varint(out, key.len() as i32)?;
-        out.extend_from_slice(key.as_bytes())?;
+        put_sized(out, self.key.as_str().as_bytes())?;
         put_nullable(out, &self.value)?;
         Ok(())
     }
