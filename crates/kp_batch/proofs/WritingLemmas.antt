@@ -15,7 +15,7 @@ use Rattle.std.proofs.lemmas.List.Concat.{flat_map-cons}
 use Rattle.kp_wire.specs.Varint.{varint, varlong}
 use Rattle.kp_batch.specs.declared.record.Header.{Header}
 use Rattle.kp_batch.specs.declared.relative.RelativeRecord.{RelativeRecord}
-use Rattle.kp_batch.specs.Record.{attributes, bytes_or_null, header, headers, fields, fields_size, relative_record}
+use Rattle.kp_batch.specs.Record.{attributes, length_field, bytes_or_null, header, headers, fields, fields_size, relative_record}
 use Rattle.kp_batch.specs.declared.record.Record.{Record}
 use Rattle.kp_batch.specs.Spelling.{front, head, summary, summary_of, covered, front_of, spelling, HasFields, Spells, written, relative, relatives_from, base_timestamp, max_timestamp}
 use Rattle.kp_batch.proofs.RelativeLemmas.{HasMoment}
@@ -30,6 +30,11 @@ one_long (x ∷ hs) (suc k) h lt e =
 
 pub long_headers : (hs : List Header) → Any (λ h. 2147483647 < length ((header 0).spell h)) hs → 2147483647 < length ((headers 0).spell hs)
 long_headers hs any = omega (arith, one_long hs any.0 any.1 any.2 any.3, any.4, length-headers hs)
+
+pub no_headers_fit : (hs : List Header) → length hs ≡ 0 → (headers 0).Fits hs
+unfolding headers length_field
+no_headers_fit [] none = let len : FitsSigned w32 (pos 0) = record { sfits = omega arith } in (len, (refl, tt))
+no_headers_fit (h ∷ hs) none = absurd (omega arith)
 
 pub fields_spelled : (r : RelativeRecord) (o0 o1 o2 o3 o4 o5 o6 : List ℕ) → o1 ≡ o0 ++ 0 ∷ [] → o2 ≡ o1 ++ varlong.spell r.timestamp_delta → o3 ≡ o2 ++ varint.spell r.offset_delta
     → o4 ≡ o3 ++ (bytes_or_null 0).spell r.key → o5 ≡ o4 ++ (bytes_or_null 0).spell r.value → o6 ≡ o5 ++ (headers 0).spell r.headers → o6 ≡ o0 ++ (fields 0).spell r

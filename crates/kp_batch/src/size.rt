@@ -1,10 +1,10 @@
 //! The sizes of records and of batches, in bytes.
 
-ghost use Rattle.std.specs.Prelude.{◌≡◌, ℕ, ◌+◌, ◌≤◌, List, [], ◌∷◌, length, map, pos};
+ghost use Rattle.std.specs.Prelude.{◌≡◌, ℕ, ◌+◌, ◌*◌, ◌≤◌, List, [], ◌∷◌, length, map, pos};
 ghost use Rattle.std.specs.List.{flat_map};
 ghost use Rattle.kp_wire.specs.Varint.{varint};
 ghost use Rattle.kp_batch.specs.Record.{bytes_or_null, header, headers, fields_size, relative_record};
-ghost use Rattle.kp_batch.specs.Spelling.{relative_by, measured, size_of_batch};
+ghost use Rattle.kp_batch.specs.Spelling.{relative_by, measured, up_to_limit, size_of_batch};
 
 use crate::as_record::AsRecord;
 use crate::record::{Header, Record};
@@ -12,6 +12,9 @@ use kp_wire::{Blob, varint_len, varlong_len};
 
 /// The greatest size of a batch, and so of a record: the greatest int32.
 pub const SIZE_LIMIT: u64 = 2147483647;
+
+/// The least size above the limit.
+const TOO_LARGE: u64 = SIZE_LIMIT + 1;
 
 /// The size of what stands before a batch's records.
 pub(crate) const HEAD_SIZE: u64 = 61;
@@ -25,20 +28,23 @@ pub(crate) fn add_sizes(a: u64, b: u64) -> u64
     if sum > SIZE_LIMIT { u64::MAX } else { sum }
 }
 
-/// The size of so many bytes with their length before them.
-#[tactic(auto, unfolding(crate::specs::Spelling::measured))]
+/// The size of so many bytes with their length before them, or a size above the limit where it is above.
+#[inline]
 fn sized_len(len: usize) -> u64
-    ensures { result ≡ measured (length (varint.spell (pos len)) + len) }
+    ensures told { up_to_limit result ≡ up_to_limit (length (varint.spell (pos len)) + len) }
+    ensures fits { result ≤ SIZE_LIMIT + 5 }
 {
     if len as u64 > SIZE_LIMIT {
-        return u64::MAX;
+        return TOO_LARGE;
     }
-    add_sizes(varint_len(len as i32), len as u64)
+    varint_len(len as i32) + len as u64
 }
 
-#[tactic(auto, unfolding(crate::specs::Record::bytes_or_null, crate::specs::Record::length_field, crate::specs::Spelling::measured))]
+#[inline]
+#[tactic(auto, unfolding(crate::specs::Record::bytes_or_null, crate::specs::Record::length_field))]
 fn nullable_size(bytes: &Option<Blob>) -> u64
-    ensures { result ≡ measured (length ((bytes_or_null 0).spell bytes.now)) }
+    ensures told { up_to_limit result ≡ up_to_limit (length ((bytes_or_null 0).spell bytes.now)) }
+    ensures fits { result ≤ SIZE_LIMIT + 5 }
 {
     match bytes {
         None => varint_len(-1),
@@ -47,34 +53,49 @@ fn nullable_size(bytes: &Option<Blob>) -> u64
 }
 
 fn header_size(h: &Header) -> u64
-    ensures { result ≡ measured (length ((header 0).spell h.now)) }
+    ensures told { up_to_limit result ≡ up_to_limit (length ((header 0).spell h.now)) }
+    ensures fits { result ≤ 2 * (SIZE_LIMIT + 5) }
 {
-    add_sizes(sized_len(h.key.len()), nullable_size(&h.value))
+    sized_len(h.key.len()) + nullable_size(&h.value)
 }
 
-fn headers_size(hs: &[Header]) -> u64
-    ensures { result ≡ measured (length ((headers 0).spell hs.now)) }
+#[inline(never)]
+fn some_headers_size(hs: &[Header]) -> u64
+    ensures { result ≡ up_to_limit (length ((headers 0).spell hs.now)) }
 {
     if hs.len() as u64 > SIZE_LIMIT {
-        return u64::MAX;
+        return TOO_LARGE;
     }
     let mut size = varint_len(hs.len() as i32);
     for h in hs {
-        size = add_sizes(size, header_size(h));
+        size = (size + header_size(h)).min(TOO_LARGE);
     }
     size
 }
 
-/// The size of what stands behind a record's length.
-pub(crate) fn record_fields_size(body: &Record, timestamp_delta: i64, offset_delta: i32) -> u64
-    ensures { result ≡ measured (fields_size (relative_by timestamp_delta offset_delta body.now)) }
+/// As `some_headers_size`, at once where there is no header, as in most records.
+#[inline]
+fn headers_size(hs: &[Header]) -> u64
+    ensures told { up_to_limit result ≡ up_to_limit (length ((headers 0).spell hs.now)) }
+    ensures fits { result ≤ SIZE_LIMIT + 5 }
 {
-    let before = 1 + varlong_len(timestamp_delta) + varint_len(offset_delta);
-    let key_and_value = add_sizes(nullable_size(&body.key), nullable_size(&body.value));
-    add_sizes(
-        before,
-        add_sizes(key_and_value, headers_size(body.headers.as_slice())),
-    )
+    if hs.is_empty() {
+        varint_len(0)
+    } else {
+        some_headers_size(hs)
+    }
+}
+
+/// The size of what stands behind a record's length, or a size above the limit where it is above.
+#[inline]
+pub(crate) fn record_fields_size(body: &Record, timestamp_delta: i64, offset_delta: i32) -> u64
+    ensures { up_to_limit result ≡ up_to_limit (fields_size (relative_by timestamp_delta offset_delta body.now)) }
+{
+    1 + varlong_len(timestamp_delta)
+        + varint_len(offset_delta)
+        + nullable_size(&body.key)
+        + nullable_size(&body.value)
+        + headers_size(body.headers.as_slice())
 }
 
 /// The size of a record in a batch, where its timestamp and its offset are so much above those of the batch;

@@ -81,9 +81,9 @@ impl WriteField for Header {
     }
 }
 
-/// Appends the headers behind their count. An `Err` may leave a part.
+#[inline(never)]
 #[tactic(auto, using(crate::proofs::SizeLemmas::size_laws), unfolding(crate::specs::Record::headers, crate::specs::Record::length_field))]
-fn put_headers(out: &mut Vec<u8>, hs: &[Header]) -> Result<(), WriteError>
+fn put_some_headers(out: &mut Vec<u8>, hs: &[Header]) -> Result<(), WriteError>
     ensures spelled { OnOk result (out.new.items ≡ out.old.items ++ (headers 0).spell hs.now) }
     ensures fits { OnOk result ((headers 0).Fits hs.now) }
     ensures long_only { IsErrOf result WriteError.BadLength → SIZE_LIMIT < length ((headers 0).spell hs.now) }
@@ -96,7 +96,22 @@ fn put_headers(out: &mut Vec<u8>, hs: &[Header]) -> Result<(), WriteError>
     Ok(())
 }
 
+/// Appends the headers behind their count, at once where there are none, as in most records. An `Err` may leave a part.
+#[inline]
+fn put_headers(out: &mut Vec<u8>, hs: &[Header]) -> Result<(), WriteError>
+    ensures spelled { OnOk result (out.new.items ≡ out.old.items ++ (headers 0).spell hs.now) }
+    ensures fits { OnOk result ((headers 0).Fits hs.now) }
+    ensures long_only { IsErrOf result WriteError.BadLength → SIZE_LIMIT < length ((headers 0).spell hs.now) }
+{
+    if !hs.is_empty() {
+        return put_some_headers(out, hs);
+    }
+    put_varint(out, 0)?;
+    Ok(())
+}
+
 /// Appends what stands behind a record's length. An `Err` may leave a part.
+#[inline]
 #[tactic(auto, using(crate::proofs::SizeLemmas::size_laws), unfolding(crate::specs::Record::fields, crate::specs::Record::attributes))]
 fn put_fields(
     out: &mut Vec<u8>,
@@ -119,6 +134,7 @@ fn put_fields(
 }
 
 /// Appends a record. An `Err` may leave a part.
+#[inline]
 #[tactic(auto, using(crate::proofs::SizeLemmas::size_laws), unfolding(crate::specs::Record::relative_record))]
 fn put_record(
     out: &mut Vec<u8>,
