@@ -19,6 +19,13 @@ const TOO_LARGE: u64 = SIZE_LIMIT + 1;
 /// The size of what stands before a batch's records.
 pub(crate) const HEAD_SIZE: u64 = 61;
 
+/// The most that a header takes beside its key and its value: the lengths of both.
+const HEADER_ROOM: usize = 5 + 5;
+
+/// The most that a record takes beside its key, its value and its headers: its length, the attributes, the timestamp
+/// and the offset, the lengths of the key and the value, and the count of headers.
+const RECORD_ROOM: usize = 5 + 1 + 10 + 5 + 5 + 5 + 5;
+
 /// The sum of two sizes, each as it is or, once it is above the limit, the greatest number.
 #[tactic(auto, unfolding(crate::specs::Spelling::measured))]
 pub(crate) fn add_sizes(a: u64, b: u64) -> u64
@@ -142,4 +149,43 @@ pub fn batch_size<T: AsRecord>(records: &[T]) -> u64
     ensures fits { result ≤ SIZE_LIMIT → size_of_batch (map T.record records.now) ≤ SIZE_LIMIT }
 {
     measure(records)
+}
+
+fn len_of(bytes: &Option<Blob>) -> usize {
+    match bytes {
+        None => 0,
+        Some(bytes) => bytes.len(),
+    }
+}
+
+fn header_room(h: &Header) -> usize {
+    HEADER_ROOM
+        .saturating_add(h.key.len())
+        .saturating_add(len_of(&h.value))
+}
+
+#[inline]
+fn headers_room(hs: &[Header]) -> usize {
+    let mut room = 0usize;
+    for h in hs {
+        room = room.saturating_add(header_room(h));
+    }
+    room
+}
+
+#[inline]
+fn record_room(body: &Record) -> usize {
+    RECORD_ROOM
+        .saturating_add(len_of(&body.key))
+        .saturating_add(len_of(&body.value))
+        .saturating_add(headers_room(body.headers.as_slice()))
+}
+
+/// Room enough for the batch of these records. It is told with no look at the numbers in them, so it's more than they take.
+pub(crate) fn room_for<T: AsRecord>(records: &[T]) -> usize {
+    let mut room = HEAD_SIZE as usize;
+    for item in records {
+        room = room.saturating_add(record_room(item.as_record()));
+    }
+    room
 }

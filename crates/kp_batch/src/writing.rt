@@ -1,17 +1,19 @@
 //! A batch into bytes.
 
-ghost use Rattle.std.specs.Prelude.{◌≡◌, ℕ, ◌+◌, ◌<◌, ◌≤◌, ◌++◌, ◌^◌, pos, length, map, take, drop, max, IfOk, OnOk, IsErrOf};
+ghost use Rattle.std.specs.Prelude.{◌≡◌, ℕ, ◌+◌, ◌<◌, ◌≤◌, ◌++◌, ◌^◌, ◌-◌, List, pos, length, map, take, drop, max, IfOk, OnOk, IsErrOf};
 ghost use Rattle.std.specs.Int.{w32, to_be_bytes};
 ghost use Rattle.std.specs.List.{flat_map, AllByRecursion};
 ghost use Rattle.kp_wire.specs.Checksum.{crc};
+ghost use Rattle.kp_wire.specs.Codec.{int};
 ghost use Rattle.kp_wire.specs.Varint.{varint};
+ghost use Rattle.kp_batch.specs.declared.summary.Front.{Front};
 ghost use Rattle.kp_batch.specs.Record.{bytes_or_null, header, headers, fields, fields_size, relative_record};
 ghost use Rattle.kp_batch.specs.Spelling.{front, head, summary, relative_by, relatives_from, max_timestamp, size_of_batch, covered, HasFields, written, Spells};
 
 use crate::as_record::AsRecord;
 use crate::batch::BatchHead;
 use crate::record::{Header, Record, Timestamp};
-use crate::size::{SIZE_LIMIT, batch_size, record_fields_size};
+use crate::size::{SIZE_LIMIT, record_fields_size, room_for};
 use crate::summary::{Front, Summary};
 use kp_wire::{
     Blob, WriteError, WriteField, crc32c, put_all, put_i8, put_i16, put_i32, put_i64, put_u32,
@@ -19,8 +21,11 @@ use kp_wire::{
 };
 use std::alloc::{AllocError, Global};
 
-/// The bytes of a batch up to its length, which the length doesn't count.
-const LENGTH_END: u64 = 12;
+/// Where a batch's length stands.
+const LENGTH_AT: usize = 8;
+
+/// Where begins what the length counts.
+const LENGTH_END: usize = 12;
 
 /// The magic byte that is written.
 const MAGIC: i8 = 2;
@@ -223,14 +228,36 @@ fn put_summary(out: &mut Vec<u8>, s: &Summary) -> Result<(), AllocError>
     Ok(())
 }
 
+/// Puts the length into its place.
+fn put_length(bytes: &mut [u8])
+    requires long { 21 ≤ length bytes.old }
+    requires fits { length bytes.old ≤ SIZE_LIMIT }
+    ensures { bytes.new ≡ take 8 bytes.old ++ (int w32).spell (pos (length bytes.old - 12)) ++ drop 12 bytes.old }
+{
+    let length = (bytes.len() - LENGTH_END) as i32;
+    bytes[LENGTH_AT..LENGTH_END].copy_from_slice(&length.to_be_bytes());
+}
+
 /// Puts the checksum of what it covers into its place.
-fn seal(bytes: &mut [u8])
+fn put_checksum(bytes: &mut [u8])
     requires { 21 ≤ length bytes.old }
-    ensures sealed { bytes.new ≡ take 17 bytes.old ++ to_be_bytes w32 (crc (drop 21 bytes.old)) ++ drop 21 bytes.old }
+    ensures put { bytes.new ≡ take 17 bytes.old ++ to_be_bytes w32 (crc (drop 21 bytes.old)) ++ drop 21 bytes.old }
     ensures fits { crc (drop 21 bytes.old) < 2 ^ 32 }
 {
     let checksum = crc32c(&bytes[COVERED_AT..]);
     bytes[CHECKSUM_AT..COVERED_AT].copy_from_slice(&checksum.to_be_bytes());
+}
+
+/// Puts the length and the checksum of a whole batch into their places.
+fn seal(bytes: &mut [u8])
+    requires long { 21 ≤ length bytes.old }
+    requires fits { length bytes.old ≤ SIZE_LIMIT }
+    ensures sealed { (f : Front) (rest : List ℕ) → bytes.old ≡ front.spell f ++ rest
+        → bytes.new ≡ front.spell (record f { batch_length = pos (9 + length rest); checksum = crc rest }) ++ rest }
+    ensures fits { (f : Front) (rest : List ℕ) → bytes.old ≡ front.spell f ++ rest → crc rest < 2 ^ 32 }
+{
+    put_length(bytes);
+    put_checksum(bytes);
 }
 
 /// Appends what the checksum covers: the fields behind it, and the records. An `Err` may leave a part.
@@ -271,11 +298,10 @@ pub fn write_batch<T: AsRecord>(
     requires fits { size_of_batch (map T.record records.now) ≤ SIZE_LIMIT }
     ensures { IfOk result (λ bytes. Spells bytes.items (written h (map T.record records.now))) }
 {
-    let size = batch_size(records);
-    let mut out = Vec::with_capacity(alloc, size as usize)?;
+    let mut out = Vec::with_capacity(alloc, room_for(records))?;
     let front = Front {
         base_offset: 0,
-        batch_length: (size - LENGTH_END) as i32,
+        batch_length: 0,
         leader_epoch: -1,
         magic: MAGIC,
         checksum: 0,
