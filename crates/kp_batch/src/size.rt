@@ -94,7 +94,7 @@ fn headers_size(hs: &[Header]) -> u64
 }
 
 /// The size of what stands behind a record's length, or a size above the limit where it is above.
-#[inline]
+#[inline(always)]
 pub(crate) fn record_fields_size(body: &Record, timestamp_delta: i64, offset_delta: i32) -> u64
     ensures { up_to_limit result ≡ up_to_limit (fields_size (relative_by timestamp_delta offset_delta body.now)) }
 {

@@ -37,7 +37,7 @@ const CHECKSUM_AT: usize = 17;
 const COVERED_AT: usize = 21;
 
 /// Appends the bytes behind their length. An `Err` may leave a part.
-#[inline]
+#[inline(always)]
 #[tactic(auto, unfolding(crate::specs::Record::bytes_or_null, crate::specs::Record::length_field))]
 fn put_sized(out: &mut Vec<u8>, bytes: &[u8]) -> Result<(), WriteError>
     ensures spelled { OnOk result (out.new.items ≡ out.old.items ++ (varint.spell (pos (length bytes.now)) ++ bytes.now)) }
@@ -53,7 +53,7 @@ fn put_sized(out: &mut Vec<u8>, bytes: &[u8]) -> Result<(), WriteError>
 }
 
 /// Appends the bytes behind their length, or the length -1 where there are none. An `Err` may leave a part.
-#[inline]
+#[inline(always)]
 #[tactic(auto, unfolding(crate::specs::Record::bytes_or_null, crate::specs::Record::length_field))]
 fn put_nullable(out: &mut Vec<u8>, bytes: &Option<Blob>) -> Result<(), WriteError>
     ensures spelled { OnOk result (out.new.items ≡ out.old.items ++ (bytes_or_null 0).spell bytes.now) }
