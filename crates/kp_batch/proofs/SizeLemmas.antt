@@ -1,11 +1,12 @@
 -- Sizes of fields, of records and of batches.
-use Rattle.std.proofs.Common.{◌≡◌, ℕ, suc, ◌+◌, ◌<◌, ◌≤◌, List, [], ◌∷◌, ◌++◌, length, get_or, drop, drop-cons, pos, Some, refl, sym, ap, ◌∙◌, add-one, arith}
+use Rattle.std.proofs.Common.{◌≡◌, ℕ, zero, suc, ◌+◌, ◌-◌, ◌/◌, ◌<◌, ◌≤◌, List, [], ◌∷◌, ◌++◌, length, get_or, drop, drop-cons, ℤ, pos, negsuc, Some, None, inl, inr, refl, sym, ap, ◌∙◌, add-one, arith}
 use Rattle.std.specs.List.{flat_map}
+use Rattle.std.proofs.lemmas.Bool.{cases_lt}
 use Rattle.std.proofs.lemmas.Bool.Decides.{nat_tests}
 use Rattle.std.proofs.lemmas.List.{length-append, drop_all, append-nil, nil_from_length}
 use Rattle.std.proofs.lemmas.List.Concat.{flat_map-cons}
-use Rattle.kp_wire.specs.Varint.{varint, varlong, zigzag}
-use Rattle.kp_wire.proofs.VarintLemmas.{groups_some}
+use Rattle.kp_wire.specs.Varint.{varint, varlong, zigzag, groups}
+use Rattle.kp_wire.proofs.VarintLemmas.{groups_some, length-groups_none, length-groups_last, length-groups_more}
 use Rattle.kp_batch.specs.declared.record.Header.{Header}
 use Rattle.kp_batch.specs.declared.record.Record.{Record}
 use Rattle.kp_batch.specs.declared.relative.RelativeRecord.{RelativeRecord}
@@ -33,6 +34,24 @@ small_measured n m e h = grind (arith, nat_tests)
 pub large_measured : (n m : ℕ) → n ≡ measured m → 2147483647 < n → (n ≡ 18446744073709551615) × (2147483647 < m)
 unfolding measured
 large_measured n m e h = (grind (arith, nat_tests), grind (arith, nat_tests))
+
+-- ---- the most that a number takes
+
+pub groups_few : (more n : ℕ) → length (groups more n) ≤ more + 1
+groups_few zero n = omega (arith, length-groups_none 0 n refl)
+groups_few (suc more) n =
+    let one : suc more - 1 ≡ more = omega arith in
+    let rest = groups_few more (n / 128) in
+    elim (cases_lt n 128) [
+      | inl lt ↦ omega (arith, length-groups_last (suc more) n lt)
+      | inr ge ↦ omega (arith, rest, length-groups_more (suc more) n (omega arith) ge, ap (λ (k : ℕ). length (groups k (n / 128))) one)
+    ]
+
+pub varint_few : (z : ℤ) → length (varint.spell z) ≤ 5
+varint_few z = groups_few 4 (zigzag z)
+
+pub varlong_few : (z : ℤ) → length (varlong.spell z) ≤ 10
+varlong_few z = groups_few 9 (zigzag z)
 
 -- ---- sizes that are told up to the limit
 
@@ -71,6 +90,15 @@ no_headers hs none = rw (nil_from_length hs none) (append-nil (varint.spell (pos
 
 pub length-no_headers : (hs : List Header) → length hs ≡ 0 → length ((headers 0).spell hs) ≡ length (varint.spell (pos 0))
 length-no_headers hs none = ap length (no_headers hs none)
+
+pub room_for_some : (s : List ℕ) → length ((bytes_or_null 0).spell (Some s)) ≤ length s + 5
+room_for_some s = omega (arith, length-some s, varint_few (pos (length s)))
+
+pub room_for_none : length ((bytes_or_null 0).spell None) ≤ 5
+unfolding bytes_or_null length_field
+room_for_none = varint_few (negsuc 0)
+
+pub ruleset room_laws = (room_for_some, room_for_none)
 
 pub fields_size-parts : (r : RelativeRecord) → fields_size r ≡ 1 + length (varlong.spell r.timestamp_delta) + length (varint.spell r.offset_delta) + ((length ((bytes_or_null 0).spell r.key) + length ((bytes_or_null 0).spell r.value)) + length ((headers 0).spell r.headers))
 unfolding fields attributes

@@ -1,6 +1,6 @@
 //! The sizes of records and of batches, in bytes.
 
-ghost use Rattle.std.specs.Prelude.{◌≡◌, ℕ, ◌+◌, ◌*◌, ◌≤◌, List, [], ◌∷◌, length, map, pos};
+ghost use Rattle.std.specs.Prelude.{◌≡◌, ℕ, ◌+◌, ◌*◌, ◌≤◌, List, [], ◌∷◌, length, map, pos, ℤ};
 ghost use Rattle.std.specs.List.{flat_map};
 ghost use Rattle.kp_wire.specs.Varint.{varint};
 ghost use Rattle.kp_batch.specs.Record.{bytes_or_null, header, headers, fields_size, relative_record};
@@ -66,6 +66,7 @@ fn header_size(h: &Header) -> u64
     sized_len(h.key.len()) + nullable_size(&h.value)
 }
 
+/// The size of the headers with their count before them, or the least size above the limit where it is above.
 #[inline(never)]
 fn some_headers_size(hs: &[Header]) -> u64
     ensures { result ≡ up_to_limit (length ((headers 0).spell hs.now)) }
@@ -151,21 +152,29 @@ pub fn batch_size<T: AsRecord>(records: &[T]) -> u64
     measure(records)
 }
 
-fn len_of(bytes: &Option<Blob>) -> usize {
+/// The length of the bytes, 0 where there are none.
+#[tactic(auto, using(crate::proofs::SizeLemmas::room_laws), unfolding(crate::specs::Record::bytes_or_null, crate::specs::Record::length_field))]
+fn len_of(bytes: &Option<Blob>) -> usize
+    ensures { length ((bytes_or_null 0).spell bytes.now) ≤ result + 5 }
+{
     match bytes {
         None => 0,
         Some(bytes) => bytes.len(),
     }
 }
 
-fn header_room(h: &Header) -> usize {
+fn header_room(h: &Header) -> usize
+    ensures { up_to_limit (length ((header 0).spell h.now)) ≤ result }
+{
     HEADER_ROOM
         .saturating_add(h.key.len())
         .saturating_add(len_of(&h.value))
 }
 
 #[inline]
-fn headers_room(hs: &[Header]) -> usize {
+fn headers_room(hs: &[Header]) -> usize
+    ensures { up_to_limit (length ((headers 0).spell hs.now)) ≤ result + 5 }
+{
     let mut room = 0usize;
     for h in hs {
         room = room.saturating_add(header_room(h));
@@ -173,16 +182,22 @@ fn headers_room(hs: &[Header]) -> usize {
     room
 }
 
+/// Room for the record, whatever its timestamp and its offset in the batch.
 #[inline]
-fn record_room(body: &Record) -> usize {
+fn record_room(body: &Record) -> usize
+    ensures { (timestamp_delta offset_delta : ℤ)
+        → up_to_limit (length (relative_record.spell (relative_by timestamp_delta offset_delta body.now))) ≤ result }
+{
     RECORD_ROOM
         .saturating_add(len_of(&body.key))
         .saturating_add(len_of(&body.value))
         .saturating_add(headers_room(body.headers.as_slice()))
 }
 
-/// Room enough for the batch of these records. It is told with no look at the numbers in them, so it's more than they take.
-pub(crate) fn room_for<T: AsRecord>(records: &[T]) -> usize {
+/// Room enough for the batch of these records, and mostly more: each number is counted at its longest.
+pub(crate) fn room_for<T: AsRecord>(records: &[T]) -> usize
+    ensures { up_to_limit (size_of_batch (map T.record records.now)) ≤ result }
+{
     let mut room = HEAD_SIZE as usize;
     for item in records {
         room = room.saturating_add(record_room(item.as_record()));

@@ -86,6 +86,7 @@ impl WriteField for Header {
     }
 }
 
+/// Appends the headers behind their count. An `Err` may leave a part.
 #[inline(never)]
 #[tactic(auto, using(crate::proofs::SizeLemmas::size_laws), unfolding(crate::specs::Record::headers, crate::specs::Record::length_field))]
 fn put_some_headers(out: &mut Vec<u8>, hs: &[Header]) -> Result<(), WriteError>
@@ -101,7 +102,7 @@ fn put_some_headers(out: &mut Vec<u8>, hs: &[Header]) -> Result<(), WriteError>
     Ok(())
 }
 
-/// Appends the headers behind their count, at once where there are none, as in most records. An `Err` may leave a part.
+/// As `put_some_headers`, at once where there is no header, as in most records.
 #[inline]
 fn put_headers(out: &mut Vec<u8>, hs: &[Header]) -> Result<(), WriteError>
     ensures spelled { OnOk result (out.new.items ≡ out.old.items ++ (headers 0).spell hs.now) }
