@@ -1,4 +1,4 @@
-use Rattle.std.proofs.Common.{map, arith}
+use Rattle.std.proofs.Common.{arith}
 use Rattle.kp_batch.proofs.SizeLemmas.{small_measured}
 use Rattle.kp_batch.proofs.size.batch_size.Goals as goal
 

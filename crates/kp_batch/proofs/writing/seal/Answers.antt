@@ -1,4 +1,4 @@
-use Rattle.std.proofs.Common.{◌≡◌, ◌∙◌, ◌+◌, ◌-◌, ◌++◌, length, take, drop, ap, sym, subst, ℕ, ℤ, List, pos, arith}
+use Rattle.std.proofs.Common.{◌≡◌, ◌∙◌, ◌+◌, ◌-◌, ◌++◌, length, take, drop, ap, ℕ, List, pos, arith}
 use Rattle.std.specs.Int.{w32}
 use Rattle.kp_wire.specs.Codec.{int}
 use Rattle.kp_wire.specs.Checksum.{crc}

@@ -1,6 +1,5 @@
-use Rattle.std.proofs.Common.{map, ◌≡◌, ◌∙◌, ◌+◌, ◌-◌, ◌++◌, length, take, drop, [], ap, sym, subst, refl, pos, List, ℕ, arith}
-use Rattle.kp_wire.specs.Checksum.{crc}
-use Rattle.kp_batch.specs.Spelling.{front, Spells, written, covered, base_timestamp, size_of_batch}
+use Rattle.std.proofs.Common.{map, ◌≡◌, ◌∙◌, ◌+◌, ◌++◌, length, take, drop, [], ap, sym, subst, refl, List, ℕ, arith}
+use Rattle.kp_batch.specs.Spelling.{front, Spells, written, covered, base_timestamp}
 use Rattle.kp_batch.proofs.SizeLemmas.{size_of_batch-is, many_records}
 use Rattle.kp_batch.proofs.ListedLemmas.{as_many}
 use Rattle.kp_batch.proofs.BatchLemmas.{length-covered}
