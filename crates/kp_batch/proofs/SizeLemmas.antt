@@ -1,16 +1,17 @@
 -- Sizes of fields, of records and of batches.
-use Rattle.std.proofs.Common.{◌≡◌, ℕ, suc, ◌+◌, ◌<◌, ◌≤◌, List, [], ◌∷◌, ◌++◌, length, get_or, drop, drop-cons, pos, Some, refl, sym, ap, ◌∙◌, add-one, arith}
+use Rattle.std.proofs.Common.{◌≡◌, ℕ, zero, suc, ◌+◌, ◌-◌, ◌/◌, ◌<◌, ◌≤◌, List, [], ◌∷◌, ◌++◌, length, get_or, drop, drop-cons, ℤ, pos, negsuc, Some, None, inl, inr, refl, sym, ap, ◌∙◌, add-one, arith}
 use Rattle.std.specs.List.{flat_map}
+use Rattle.std.proofs.lemmas.Bool.{cases_lt}
 use Rattle.std.proofs.lemmas.Bool.Decides.{nat_tests}
-use Rattle.std.proofs.lemmas.List.{length-append, drop_all}
+use Rattle.std.proofs.lemmas.List.{length-append, drop_all, append-nil, nil_from_length}
 use Rattle.std.proofs.lemmas.List.Concat.{flat_map-cons}
-use Rattle.kp_wire.specs.Varint.{varint, varlong, zigzag}
-use Rattle.kp_wire.proofs.VarintLemmas.{groups_some}
+use Rattle.kp_wire.specs.Varint.{varint, varlong, zigzag, groups}
+use Rattle.kp_wire.proofs.VarintLemmas.{groups_some, length-groups_none, length-groups_last, length-groups_more}
 use Rattle.kp_batch.specs.declared.record.Header.{Header}
 use Rattle.kp_batch.specs.declared.record.Record.{Record}
 use Rattle.kp_batch.specs.declared.relative.RelativeRecord.{RelativeRecord}
 use Rattle.kp_batch.specs.Record.{attributes, length_field, bytes_or_null, text, header, headers, fields, fields_size, relative_record}
-use Rattle.kp_batch.specs.Spelling.{relative, relatives_from, base_timestamp, measured, size_of_batch}
+use Rattle.kp_batch.specs.Spelling.{relative, relatives_from, base_timestamp, measured, up_to_limit, size_of_batch}
 
 -- the bytes of the records from place k on
 abbrev pub bytes_from : ℕ → ℕ → List Record → ℕ
@@ -34,6 +35,35 @@ pub large_measured : (n m : ℕ) → n ≡ measured m → 2147483647 < n → (n 
 unfolding measured
 large_measured n m e h = (grind (arith, nat_tests), grind (arith, nat_tests))
 
+-- ---- the most that a number takes
+
+pub groups_few : (more n : ℕ) → length (groups more n) ≤ more + 1
+groups_few zero n = omega (arith, length-groups_none 0 n refl)
+groups_few (suc more) n =
+    let one : suc more - 1 ≡ more = omega arith in
+    let rest = groups_few more (n / 128) in
+    elim (cases_lt n 128) [
+      | inl lt ↦ omega (arith, length-groups_last (suc more) n lt)
+      | inr ge ↦ omega (arith, rest, length-groups_more (suc more) n (omega arith) ge, ap (λ (k : ℕ). length (groups k (n / 128))) one)
+    ]
+
+pub varint_few : (z : ℤ) → length (varint.spell z) ≤ 5
+varint_few z = groups_few 4 (zigzag z)
+
+pub varlong_few : (z : ℤ) → length (varlong.spell z) ≤ 10
+varlong_few z = groups_few 9 (zigzag z)
+
+-- ---- sizes that are told up to the limit
+
+pub told_small : (n m : ℕ) → up_to_limit n ≡ up_to_limit m → n ≤ 2147483647 → n ≡ m
+told_small n m e h = omega arith
+
+pub told_large : (n m : ℕ) → up_to_limit n ≡ up_to_limit m → 2147483647 < n → 2147483647 < m
+told_large n m e h = omega arith
+
+pub told_sum : (a b m n : ℕ) → up_to_limit a ≡ up_to_limit m → up_to_limit b ≡ up_to_limit n → up_to_limit (a + b) ≡ up_to_limit (m + n)
+told_sum a b m n e f = omega arith
+
 pub size_of_batch-is : (rs : List Record) → size_of_batch rs ≡ 61 + bytes_from (base_timestamp rs) 0 rs
 unfolding size_of_batch
 size_of_batch-is rs = refl
@@ -53,6 +83,22 @@ length-header h =
 pub length-headers : (hs : List Header) → length ((headers 0).spell hs) ≡ length (varint.spell (pos (length hs))) + length (flat_map (header 0).spell hs)
 unfolding headers length_field
 length-headers hs = length-append (varint.spell (pos (length hs))) (flat_map (header 0).spell hs)
+
+pub no_headers : (hs : List Header) → length hs ≡ 0 → (headers 0).spell hs ≡ varint.spell (pos 0)
+unfolding headers length_field
+no_headers hs none = rw (nil_from_length hs none) (append-nil (varint.spell (pos 0)))
+
+pub length-no_headers : (hs : List Header) → length hs ≡ 0 → length ((headers 0).spell hs) ≡ length (varint.spell (pos 0))
+length-no_headers hs none = ap length (no_headers hs none)
+
+pub room_for_some : (s : List ℕ) → length ((bytes_or_null 0).spell (Some s)) ≤ length s + 5
+room_for_some s = omega (arith, length-some s, varint_few (pos (length s)))
+
+pub room_for_none : length ((bytes_or_null 0).spell None) ≤ 5
+unfolding bytes_or_null length_field
+room_for_none = varint_few (negsuc 0)
+
+pub ruleset room_laws = (room_for_some, room_for_none)
 
 pub fields_size-parts : (r : RelativeRecord) → fields_size r ≡ 1 + length (varlong.spell r.timestamp_delta) + length (varint.spell r.offset_delta) + ((length ((bytes_or_null 0).spell r.key) + length ((bytes_or_null 0).spell r.value)) + length ((headers 0).spell r.headers))
 unfolding fields attributes

@@ -4,18 +4,18 @@ use Rattle.std.specs.Prelude.{FitsSigned, Any, ◌-ℤ◌}
 use Rattle.std.proofs.lemmas.Int.{ints}
 use Rattle.std.specs.Int.{w8, w16, w32, w64, to_be_bytes}
 use Rattle.kp_wire.specs.Checksum.{crc}
-use Rattle.kp_batch.proofs.BatchLemmas.{front_with}
+use Rattle.kp_batch.proofs.BatchLemmas.{length-front}
 use Rattle.kp_wire.specs.Codec.{int, number}
 use Rattle.kp_batch.specs.declared.batch.BatchHead.{BatchHead}
 use Rattle.kp_batch.specs.declared.summary.Front.{Front}
 use Rattle.kp_batch.specs.declared.summary.Summary.{Summary}
 use Rattle.std.specs.List.{flat_map, AllByRecursion}
-use Rattle.std.proofs.lemmas.List.{length-append, length-take, length-drop, take_at}
+use Rattle.std.proofs.lemmas.List.{length-append, take_at}
 use Rattle.std.proofs.lemmas.List.Concat.{flat_map-cons}
 use Rattle.kp_wire.specs.Varint.{varint, varlong}
 use Rattle.kp_batch.specs.declared.record.Header.{Header}
 use Rattle.kp_batch.specs.declared.relative.RelativeRecord.{RelativeRecord}
-use Rattle.kp_batch.specs.Record.{attributes, bytes_or_null, header, headers, fields, fields_size, relative_record}
+use Rattle.kp_batch.specs.Record.{attributes, length_field, bytes_or_null, header, headers, fields, fields_size, relative_record}
 use Rattle.kp_batch.specs.declared.record.Record.{Record}
 use Rattle.kp_batch.specs.Spelling.{front, head, summary, summary_of, covered, front_of, spelling, HasFields, Spells, written, relative, relatives_from, base_timestamp, max_timestamp}
 use Rattle.kp_batch.proofs.RelativeLemmas.{HasMoment}
@@ -30,6 +30,11 @@ one_long (x ∷ hs) (suc k) h lt e =
 
 pub long_headers : (hs : List Header) → Any (λ h. 2147483647 < length ((header 0).spell h)) hs → 2147483647 < length ((headers 0).spell hs)
 long_headers hs any = omega (arith, one_long hs any.0 any.1 any.2 any.3, any.4, length-headers hs)
+
+pub no_headers_fit : (hs : List Header) → length hs ≡ 0 → (headers 0).Fits hs
+unfolding headers length_field
+no_headers_fit [] none = let len : FitsSigned w32 (pos 0) = record { sfits = omega arith } in (len, (refl, tt))
+no_headers_fit (h ∷ hs) none = absurd (omega arith)
 
 pub fields_spelled : (r : RelativeRecord) (o0 o1 o2 o3 o4 o5 o6 : List ℕ) → o1 ≡ o0 ++ 0 ∷ [] → o2 ≡ o1 ++ varlong.spell r.timestamp_delta → o3 ≡ o2 ++ varint.spell r.offset_delta
     → o4 ≡ o3 ++ (bytes_or_null 0).spell r.key → o5 ≡ o4 ++ (bytes_or_null 0).spell r.value → o6 ≡ o5 ++ (headers 0).spell r.headers → o6 ≡ o0 ++ (fields 0).spell r
@@ -103,54 +108,46 @@ covered_spelled h rs o0 o1 o2 e1 e2 = rw (e2, e1) (append_assoc o0 (summary.spel
 
 -- ---- the batch
 
-unfoldable pub unsealed : ℤ → Front
-unsealed len = record { base_offset = pos 0; batch_length = len; leader_epoch = negsuc 0; magic = pos 2; checksum = 0 }
-
-abbrev pub sealed_with : ℕ → List ℕ → List ℕ
-sealed_with c bytes = take 17 bytes ++ to_be_bytes w32 c ++ drop 21 bytes
+-- the length in its place
+pub length_put : (f : Front) (n : ℤ) (rest bytes : List ℕ) → bytes ≡ front.spell f ++ rest → take 8 bytes ++ (int w32).spell n ++ drop 12 bytes ≡ front.spell (record f { batch_length = n }) ++ rest
+unfolding front
+length_put f n rest bytes e = rw e refl
 
 -- the checksum in its place
-sealed_front : (len : ℤ) (c : ℕ) (cov : List ℕ) → sealed_with c (front.spell (unsealed len) ++ cov) ≡ front.spell (front_with (pos 0) len (negsuc 0) (pos 2) c) ++ cov
-unfolding front unsealed
-sealed_front len c cov = refl
+pub checksum_put : (f : Front) (c : ℕ) (rest bytes : List ℕ) → bytes ≡ front.spell f ++ rest → take 17 bytes ++ to_be_bytes w32 c ++ drop 21 bytes ≡ front.spell (record f { checksum = c }) ++ rest
+unfolding front
+checksum_put f c rest bytes e = rw e refl
 
-behind_front : (len : ℤ) (cov : List ℕ) → drop 21 (front.spell (unsealed len) ++ cov) ≡ cov
-unfolding front unsealed
-behind_front len cov = refl
+pub behind_front : (f : Front) (rest : List ℕ) → drop 21 (front.spell f ++ rest) ≡ rest
+unfolding front
+behind_front f rest = refl
+
+pub length-before : (f : Front) (rest : List ℕ) → length (front.spell f ++ rest) ≡ 21 + length rest
+length-before f rest = length-append (front.spell f) rest ∙ ap (λ (n : ℕ). n + length rest) (length-front f)
+
+abbrev pub sealed : Front → List ℕ → Front
+sealed f rest = record f { batch_length = pos (9 + length rest); checksum = crc rest }
+
+-- what a writer puts before the length and the checksum are known
+unfoldable pub unsealed : Front
+unsealed = record { base_offset = pos 0; batch_length = pos 0; leader_epoch = negsuc 0; magic = pos 2; checksum = 0 }
 
 front_fits : (h : BatchHead) (rs : List Record) → 9 + length (covered h rs) < 2 ^ 31 → crc (covered h rs) < 2 ^ 32 → front.Fits (front_of (written h rs))
 unfolding front front_of
 front_fits h rs small sum = (record { sfits = omega arith }, (record { sfits = small }, (record { sfits = omega arith }, (record { sfits = omega arith }, sum))))
 
-front_is_of : (h : BatchHead) (rs : List Record) → front_with (pos 0) (pos (9 + length (covered h rs))) (negsuc 0) (pos 2) (crc (covered h rs)) ≡ front_of (written h rs)
-unfolding front_of
-front_is_of h rs = refl
+sealed_is_of : (h : BatchHead) (rs : List Record) → sealed unsealed (covered h rs) ≡ front_of (written h rs)
+unfolding front_of unsealed
+sealed_is_of h rs = refl
 
-pub batch_spelled : (h : BatchHead) (rs : List Record) (len : ℤ) (before after : List ℕ) → len ≡ pos (9 + length (covered h rs)) → 9 + length (covered h rs) < 2 ^ 31 → before ≡ front.spell (unsealed len) ++ covered h rs
-    → HasFields h rs → crc (drop 21 before) < 2 ^ 32 → after ≡ sealed_with (crc (drop 21 before)) before → Spells after (written h rs)
+pub batch_spelled : (h : BatchHead) (rs : List Record) (bytes : List ℕ) → 9 + length (covered h rs) < 2 ^ 31 → HasFields h rs → crc (covered h rs) < 2 ^ 32
+    → bytes ≡ front.spell (sealed unsealed (covered h rs)) ++ covered h rs → Spells bytes (written h rs)
 unfolding spelling
-batch_spelled h rs len before after len-is small before-is fits sum sealed =
-    let cov = covered h rs in
-    let behind : drop 21 before ≡ cov = ap (drop 21) before-is ∙ behind_front len cov in
-    let checksum : crc (drop 21 before) ≡ crc cov = ap crc behind in
-    record {
-      is_batch = record { front = front_fits h rs small (omega (arith, checksum)); fields = fits };
-      is_spelling =
-          sealed ∙ ap (sealed_with (crc (drop 21 before))) before-is ∙ sealed_front len (crc (drop 21 before)) cov
-          ∙ ap (λ (x : ℕ). front.spell (front_with (pos 0) len (negsuc 0) (pos 2) x) ++ cov) checksum
-          ∙ ap (λ (x : ℤ). front.spell (front_with (pos 0) x (negsuc 0) (pos 2) (crc cov)) ++ cov) len-is
-          ∙ ap (λ (x : Front). front.spell x ++ cov) (front_is_of h rs);
-    }
-
-length-sealed : (c : ℕ) (bytes : List ℕ) → 21 ≤ length bytes → length (sealed_with c bytes) ≡ length bytes
-length-sealed c bytes long =
-    let four : length (to_be_bytes w32 c) ≡ 4 = refl in
-    let front-part : length (take 17 bytes ++ to_be_bytes w32 c) ≡ length (take 17 bytes) + 4 = length-append (take 17 bytes) (to_be_bytes w32 c) in
-    let total : length (take 17 bytes ++ to_be_bytes w32 c) + length (drop 21 bytes) ≡ length bytes = omega (arith, front-part, length-take 17 bytes, length-drop 21 bytes) in
-    length-append (take 17 bytes ++ to_be_bytes w32 c) (drop 21 bytes) ∙ total
+batch_spelled h rs bytes small fits sum is = record {
+  is_batch = record { front = front_fits h rs small sum; fields = fits };
+  is_spelling = is ∙ ap (λ (f : Front). front.spell f ++ covered h rs) (sealed_is_of h rs);
+}
 
 -- all of the bytes went through the slice that was sealed
-pub sealed_whole : (n c : ℕ) (bytes new : List ℕ) → 21 ≤ length bytes → n ≡ length bytes → new ≡ sealed_with c bytes → take n (new ++ drop (length new) bytes) ≡ sealed_with c bytes
-sealed_whole n c bytes new long len is =
-    let same : length new ≡ n = ap length is ∙ length-sealed c bytes long ∙ sym len in
-    take_at new (drop (length new) bytes) n same ∙ is
+pub sealed_whole : (n : ℕ) (bytes new : List ℕ) → n ≡ length new → take n (new ++ drop (length new) bytes) ≡ new
+sealed_whole n bytes new len = take_at new (drop (length new) bytes) n (sym len)

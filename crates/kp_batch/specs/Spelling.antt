@@ -1,5 +1,5 @@
 -- The one spelling of a batch.
-use Rattle.std.specs.Prelude.{◌≡◌, ℕ, suc, ◌+◌, ◌-◌, ◌<◌, ◌^◌, max, List, [], ◌∷◌, ◌++◌, length, ℤ, pos, negsuc, ◌-ℤ◌, nat_le, if◌then◌else◌}
+use Rattle.std.specs.Prelude.{◌≡◌, ℕ, suc, ◌+◌, ◌-◌, ◌<◌, ◌^◌, min, max, List, [], ◌∷◌, ◌++◌, length, ℤ, pos, negsuc, ◌-ℤ◌, nat_le, if◌then◌else◌}
 use Rattle.std.specs.List.{flat_map, AllByRecursion}
 use Rattle.std.specs.Int.{w8, w16, w32, w64}
 use Rattle.kp_wire.specs.Codec.{Codec, int, number, pair, made}
@@ -114,6 +114,10 @@ written h rs = record { base_offset = pos 0; leader_epoch = negsuc 0; head = h; 
 -- the size, or the greatest number of 64 bits once it is above the limit
 unfoldable pub measured : ℕ → ℕ
 measured n = if nat_le n SIZE_LIMIT then n else 2 ^ 64 - 1
+
+-- the size, or the least above the limit
+abbrev pub up_to_limit : ℕ → ℕ
+up_to_limit n = min n (SIZE_LIMIT + 1)
 
 -- the fields before the records have 61 bytes
 unfoldable pub size_of_batch : List Record → ℕ

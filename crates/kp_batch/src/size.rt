@@ -1,10 +1,10 @@
 //! The sizes of records and of batches, in bytes.
 
-ghost use Rattle.std.specs.Prelude.{◌≡◌, ℕ, ◌+◌, ◌≤◌, List, [], ◌∷◌, length, map, pos};
+ghost use Rattle.std.specs.Prelude.{◌≡◌, ℕ, ◌+◌, ◌*◌, ◌≤◌, List, [], ◌∷◌, length, map, pos, ℤ};
 ghost use Rattle.std.specs.List.{flat_map};
 ghost use Rattle.kp_wire.specs.Varint.{varint};
 ghost use Rattle.kp_batch.specs.Record.{bytes_or_null, header, headers, fields_size, relative_record};
-ghost use Rattle.kp_batch.specs.Spelling.{relative_by, measured, size_of_batch};
+ghost use Rattle.kp_batch.specs.Spelling.{relative_by, measured, up_to_limit, size_of_batch};
 
 use crate::as_record::AsRecord;
 use crate::record::{Header, Record};
@@ -13,8 +13,18 @@ use kp_wire::{Blob, varint_len, varlong_len};
 /// The greatest size of a batch, and so of a record: the greatest int32.
 pub const SIZE_LIMIT: u64 = 2147483647;
 
+/// The least size above the limit.
+const TOO_LARGE: u64 = SIZE_LIMIT + 1;
+
 /// The size of what stands before a batch's records.
 pub(crate) const HEAD_SIZE: u64 = 61;
+
+/// The most that a header takes beside its key and its value: the lengths of both.
+const HEADER_ROOM: usize = 5 + 5;
+
+/// The most that a record takes beside its key, its value and its headers: its length, the attributes, the timestamp
+/// and the offset, the lengths of the key and the value, and the count of headers.
+const RECORD_ROOM: usize = 5 + 1 + 10 + 5 + 5 + 5 + 5;
 
 /// The sum of two sizes, each as it is or, once it is above the limit, the greatest number.
 #[tactic(auto, unfolding(crate::specs::Spelling::measured))]
@@ -25,20 +35,23 @@ pub(crate) fn add_sizes(a: u64, b: u64) -> u64
     if sum > SIZE_LIMIT { u64::MAX } else { sum }
 }
 
-/// The size of so many bytes with their length before them.
-#[tactic(auto, unfolding(crate::specs::Spelling::measured))]
+/// The size of so many bytes with their length before them, or a size above the limit where it is above.
+#[inline]
 fn sized_len(len: usize) -> u64
-    ensures { result ≡ measured (length (varint.spell (pos len)) + len) }
+    ensures told { up_to_limit result ≡ up_to_limit (length (varint.spell (pos len)) + len) }
+    ensures fits { result ≤ SIZE_LIMIT + 5 }
 {
     if len as u64 > SIZE_LIMIT {
-        return u64::MAX;
+        return TOO_LARGE;
     }
-    add_sizes(varint_len(len as i32), len as u64)
+    varint_len(len as i32) + len as u64
 }
 
-#[tactic(auto, unfolding(crate::specs::Record::bytes_or_null, crate::specs::Record::length_field, crate::specs::Spelling::measured))]
+#[inline]
+#[tactic(auto, unfolding(crate::specs::Record::bytes_or_null, crate::specs::Record::length_field))]
 fn nullable_size(bytes: &Option<Blob>) -> u64
-    ensures { result ≡ measured (length ((bytes_or_null 0).spell bytes.now)) }
+    ensures told { up_to_limit result ≡ up_to_limit (length ((bytes_or_null 0).spell bytes.now)) }
+    ensures fits { result ≤ SIZE_LIMIT + 5 }
 {
     match bytes {
         None => varint_len(-1),
@@ -47,34 +60,50 @@ fn nullable_size(bytes: &Option<Blob>) -> u64
 }
 
 fn header_size(h: &Header) -> u64
-    ensures { result ≡ measured (length ((header 0).spell h.now)) }
+    ensures told { up_to_limit result ≡ up_to_limit (length ((header 0).spell h.now)) }
+    ensures fits { result ≤ 2 * (SIZE_LIMIT + 5) }
 {
-    add_sizes(sized_len(h.key.len()), nullable_size(&h.value))
+    sized_len(h.key.len()) + nullable_size(&h.value)
 }
 
-fn headers_size(hs: &[Header]) -> u64
-    ensures { result ≡ measured (length ((headers 0).spell hs.now)) }
+/// The size of the headers with their count before them, or the least size above the limit where it is above.
+#[inline(never)]
+fn some_headers_size(hs: &[Header]) -> u64
+    ensures { result ≡ up_to_limit (length ((headers 0).spell hs.now)) }
 {
     if hs.len() as u64 > SIZE_LIMIT {
-        return u64::MAX;
+        return TOO_LARGE;
     }
     let mut size = varint_len(hs.len() as i32);
     for h in hs {
-        size = add_sizes(size, header_size(h));
+        size = (size + header_size(h)).min(TOO_LARGE);
     }
     size
 }
 
-/// The size of what stands behind a record's length.
-pub(crate) fn record_fields_size(body: &Record, timestamp_delta: i64, offset_delta: i32) -> u64
-    ensures { result ≡ measured (fields_size (relative_by timestamp_delta offset_delta body.now)) }
+/// As `some_headers_size`, at once where there is no header, as in most records.
+#[inline]
+fn headers_size(hs: &[Header]) -> u64
+    ensures told { up_to_limit result ≡ up_to_limit (length ((headers 0).spell hs.now)) }
+    ensures fits { result ≤ SIZE_LIMIT + 5 }
 {
-    let before = 1 + varlong_len(timestamp_delta) + varint_len(offset_delta);
-    let key_and_value = add_sizes(nullable_size(&body.key), nullable_size(&body.value));
-    add_sizes(
-        before,
-        add_sizes(key_and_value, headers_size(body.headers.as_slice())),
-    )
+    if hs.is_empty() {
+        varint_len(0)
+    } else {
+        some_headers_size(hs)
+    }
+}
+
+/// The size of what stands behind a record's length, or a size above the limit where it is above.
+#[inline(always)]
+pub(crate) fn record_fields_size(body: &Record, timestamp_delta: i64, offset_delta: i32) -> u64
+    ensures { up_to_limit result ≡ up_to_limit (fields_size (relative_by timestamp_delta offset_delta body.now)) }
+{
+    1 + varlong_len(timestamp_delta)
+        + varint_len(offset_delta)
+        + nullable_size(&body.key)
+        + nullable_size(&body.value)
+        + headers_size(body.headers.as_slice())
 }
 
 /// The size of a record in a batch, where its timestamp and its offset are so much above those of the batch;
@@ -121,4 +150,57 @@ pub fn batch_size<T: AsRecord>(records: &[T]) -> u64
     ensures fits { result ≤ SIZE_LIMIT → size_of_batch (map T.record records.now) ≤ SIZE_LIMIT }
 {
     measure(records)
+}
+
+/// The length of the bytes, 0 where there are none.
+#[tactic(auto, using(crate::proofs::SizeLemmas::room_laws), unfolding(crate::specs::Record::bytes_or_null, crate::specs::Record::length_field))]
+fn len_of(bytes: &Option<Blob>) -> usize
+    ensures { length ((bytes_or_null 0).spell bytes.now) ≤ result + 5 }
+{
+    match bytes {
+        None => 0,
+        Some(bytes) => bytes.len(),
+    }
+}
+
+fn header_room(h: &Header) -> usize
+    ensures { up_to_limit (length ((header 0).spell h.now)) ≤ result }
+{
+    HEADER_ROOM
+        .saturating_add(h.key.len())
+        .saturating_add(len_of(&h.value))
+}
+
+#[inline]
+fn headers_room(hs: &[Header]) -> usize
+    ensures { up_to_limit (length ((headers 0).spell hs.now)) ≤ result + 5 }
+{
+    let mut room = 0usize;
+    for h in hs {
+        room = room.saturating_add(header_room(h));
+    }
+    room
+}
+
+/// Room for the record, whatever its timestamp and its offset in the batch.
+#[inline]
+fn record_room(body: &Record) -> usize
+    ensures { (timestamp_delta offset_delta : ℤ)
+        → up_to_limit (length (relative_record.spell (relative_by timestamp_delta offset_delta body.now))) ≤ result }
+{
+    RECORD_ROOM
+        .saturating_add(len_of(&body.key))
+        .saturating_add(len_of(&body.value))
+        .saturating_add(headers_room(body.headers.as_slice()))
+}
+
+/// Room enough for the batch of these records, and mostly more: each number is counted at its longest.
+pub(crate) fn room_for<T: AsRecord>(records: &[T]) -> usize
+    ensures { up_to_limit (size_of_batch (map T.record records.now)) ≤ result }
+{
+    let mut room = HEAD_SIZE as usize;
+    for item in records {
+        room = room.saturating_add(record_room(item.as_record()));
+    }
+    room
 }

@@ -1,16 +1,19 @@
 //! A batch into bytes.
 
-ghost use Rattle.std.specs.Prelude.{◌≡◌, ℕ, ◌+◌, ◌<◌, ◌≤◌, ◌++◌, ◌^◌, length, map, take, drop, max, IfOk, OnOk, IsErrOf};
+ghost use Rattle.std.specs.Prelude.{◌≡◌, ℕ, ◌+◌, ◌<◌, ◌≤◌, ◌++◌, ◌^◌, ◌-◌, List, pos, length, map, take, drop, max, IfOk, OnOk, IsErrOf};
 ghost use Rattle.std.specs.Int.{w32, to_be_bytes};
 ghost use Rattle.std.specs.List.{flat_map, AllByRecursion};
 ghost use Rattle.kp_wire.specs.Checksum.{crc};
+ghost use Rattle.kp_wire.specs.Codec.{int};
+ghost use Rattle.kp_wire.specs.Varint.{varint};
+ghost use Rattle.kp_batch.specs.declared.summary.Front.{Front};
 ghost use Rattle.kp_batch.specs.Record.{bytes_or_null, header, headers, fields, fields_size, relative_record};
 ghost use Rattle.kp_batch.specs.Spelling.{front, head, summary, relative_by, relatives_from, max_timestamp, size_of_batch, covered, HasFields, written, Spells};
 
 use crate::as_record::AsRecord;
 use crate::batch::BatchHead;
 use crate::record::{Header, Record, Timestamp};
-use crate::size::{SIZE_LIMIT, batch_size, record_fields_size};
+use crate::size::{SIZE_LIMIT, record_fields_size, room_for};
 use crate::summary::{Front, Summary};
 use kp_wire::{
     Blob, WriteError, WriteField, crc32c, put_all, put_i8, put_i16, put_i32, put_i64, put_u32,
@@ -18,8 +21,11 @@ use kp_wire::{
 };
 use std::alloc::{AllocError, Global};
 
-/// The bytes of a batch up to its length, which the length doesn't count.
-const LENGTH_END: u64 = 12;
+/// Where a batch's length stands.
+const LENGTH_AT: usize = 8;
+
+/// Where begins what the length counts.
+const LENGTH_END: usize = 12;
 
 /// The magic byte that is written.
 const MAGIC: i8 = 2;
@@ -30,7 +36,24 @@ const CHECKSUM_AT: usize = 17;
 /// Where begins what the checksum covers.
 const COVERED_AT: usize = 21;
 
+/// Appends the bytes behind their length. An `Err` may leave a part.
+#[inline(always)]
+#[tactic(auto, unfolding(crate::specs::Record::bytes_or_null, crate::specs::Record::length_field))]
+fn put_sized(out: &mut Vec<u8>, bytes: &[u8]) -> Result<(), WriteError>
+    ensures spelled { OnOk result (out.new.items ≡ out.old.items ++ (varint.spell (pos (length bytes.now)) ++ bytes.now)) }
+    ensures fits { OnOk result (length bytes.now ≤ SIZE_LIMIT) }
+    ensures long_only { IsErrOf result WriteError.BadLength → SIZE_LIMIT < length bytes.now }
+{
+    if bytes.len() as u64 > SIZE_LIMIT {
+        return Err(WriteError::BadLength);
+    }
+    put_varint(out, bytes.len() as i32)?;
+    out.extend_from_slice(bytes)?;
+    Ok(())
+}
+
 /// Appends the bytes behind their length, or the length -1 where there are none. An `Err` may leave a part.
+#[inline(always)]
 #[tactic(auto, unfolding(crate::specs::Record::bytes_or_null, crate::specs::Record::length_field))]
 fn put_nullable(out: &mut Vec<u8>, bytes: &Option<Blob>) -> Result<(), WriteError>
     ensures spelled { OnOk result (out.new.items ≡ out.old.items ++ (bytes_or_null 0).spell bytes.now) }
@@ -39,13 +62,7 @@ fn put_nullable(out: &mut Vec<u8>, bytes: &Option<Blob>) -> Result<(), WriteErro
 {
     match bytes {
         None => put_varint(out, -1)?,
-        Some(bytes) => {
-            if bytes.len() as u64 > SIZE_LIMIT {
-                return Err(WriteError::BadLength);
-            }
-            put_varint(out, bytes.len() as i32)?;
-            out.extend_from_slice(bytes.as_slice())?;
-        }
+        Some(bytes) => put_sized(out, bytes.as_slice())?,
     }
     Ok(())
 }
@@ -63,20 +80,16 @@ impl WriteField for Header {
 
     #[tactic(auto, using(crate::proofs::SizeLemmas::size_laws), unfolding(crate::specs::Record::header, crate::specs::Record::text, crate::specs::Record::length_field))]
     fn put(&self, out: &mut Vec<u8>) -> Result<(), WriteError> {
-        let key = self.key.as_str();
-        if key.len() as u64 > SIZE_LIMIT {
-            return Err(WriteError::BadLength);
-        }
-        put_varint(out, key.len() as i32)?;
-        out.extend_from_slice(key.as_bytes())?;
+        put_sized(out, self.key.as_str().as_bytes())?;
         put_nullable(out, &self.value)?;
         Ok(())
     }
 }
 
 /// Appends the headers behind their count. An `Err` may leave a part.
+#[inline(never)]
 #[tactic(auto, using(crate::proofs::SizeLemmas::size_laws), unfolding(crate::specs::Record::headers, crate::specs::Record::length_field))]
-fn put_headers(out: &mut Vec<u8>, hs: &[Header]) -> Result<(), WriteError>
+fn put_some_headers(out: &mut Vec<u8>, hs: &[Header]) -> Result<(), WriteError>
     ensures spelled { OnOk result (out.new.items ≡ out.old.items ++ (headers 0).spell hs.now) }
     ensures fits { OnOk result ((headers 0).Fits hs.now) }
     ensures long_only { IsErrOf result WriteError.BadLength → SIZE_LIMIT < length ((headers 0).spell hs.now) }
@@ -89,7 +102,22 @@ fn put_headers(out: &mut Vec<u8>, hs: &[Header]) -> Result<(), WriteError>
     Ok(())
 }
 
+/// As `put_some_headers`, at once where there is no header, as in most records.
+#[inline]
+fn put_headers(out: &mut Vec<u8>, hs: &[Header]) -> Result<(), WriteError>
+    ensures spelled { OnOk result (out.new.items ≡ out.old.items ++ (headers 0).spell hs.now) }
+    ensures fits { OnOk result ((headers 0).Fits hs.now) }
+    ensures long_only { IsErrOf result WriteError.BadLength → SIZE_LIMIT < length ((headers 0).spell hs.now) }
+{
+    if !hs.is_empty() {
+        return put_some_headers(out, hs);
+    }
+    put_varint(out, 0)?;
+    Ok(())
+}
+
 /// Appends what stands behind a record's length. An `Err` may leave a part.
+#[inline]
 #[tactic(auto, using(crate::proofs::SizeLemmas::size_laws), unfolding(crate::specs::Record::fields, crate::specs::Record::attributes))]
 fn put_fields(
     out: &mut Vec<u8>,
@@ -112,6 +140,7 @@ fn put_fields(
 }
 
 /// Appends a record. An `Err` may leave a part.
+#[inline]
 #[tactic(auto, using(crate::proofs::SizeLemmas::size_laws), unfolding(crate::specs::Record::relative_record))]
 fn put_record(
     out: &mut Vec<u8>,
@@ -200,14 +229,36 @@ fn put_summary(out: &mut Vec<u8>, s: &Summary) -> Result<(), AllocError>
     Ok(())
 }
 
+/// Puts the length into its place.
+fn put_length(bytes: &mut [u8])
+    requires long { 21 ≤ length bytes.old }
+    requires fits { length bytes.old ≤ SIZE_LIMIT }
+    ensures { bytes.new ≡ take 8 bytes.old ++ (int w32).spell (pos (length bytes.old - 12)) ++ drop 12 bytes.old }
+{
+    let length = (bytes.len() - LENGTH_END) as i32;
+    bytes[LENGTH_AT..LENGTH_END].copy_from_slice(&length.to_be_bytes());
+}
+
 /// Puts the checksum of what it covers into its place.
-fn seal(bytes: &mut [u8])
+fn put_checksum(bytes: &mut [u8])
     requires { 21 ≤ length bytes.old }
-    ensures sealed { bytes.new ≡ take 17 bytes.old ++ to_be_bytes w32 (crc (drop 21 bytes.old)) ++ drop 21 bytes.old }
+    ensures put { bytes.new ≡ take 17 bytes.old ++ to_be_bytes w32 (crc (drop 21 bytes.old)) ++ drop 21 bytes.old }
     ensures fits { crc (drop 21 bytes.old) < 2 ^ 32 }
 {
     let checksum = crc32c(&bytes[COVERED_AT..]);
     bytes[CHECKSUM_AT..COVERED_AT].copy_from_slice(&checksum.to_be_bytes());
+}
+
+/// Puts the length and the checksum of a whole batch into their places.
+fn seal(bytes: &mut [u8])
+    requires long { 21 ≤ length bytes.old }
+    requires fits { length bytes.old ≤ SIZE_LIMIT }
+    ensures sealed { (f : Front) (rest : List ℕ) → bytes.old ≡ front.spell f ++ rest
+        → bytes.new ≡ front.spell (record f { batch_length = pos (9 + length rest); checksum = crc rest }) ++ rest }
+    ensures fits { (f : Front) (rest : List ℕ) → bytes.old ≡ front.spell f ++ rest → crc rest < 2 ^ 32 }
+{
+    put_length(bytes);
+    put_checksum(bytes);
 }
 
 /// Appends what the checksum covers: the fields behind it, and the records. An `Err` may leave a part.
@@ -248,11 +299,10 @@ pub fn write_batch<T: AsRecord>(
     requires fits { size_of_batch (map T.record records.now) ≤ SIZE_LIMIT }
     ensures { IfOk result (λ bytes. Spells bytes.items (written h (map T.record records.now))) }
 {
-    let size = batch_size(records);
-    let mut out = Vec::with_capacity(alloc, size as usize)?;
+    let mut out = Vec::with_capacity(alloc, room_for(records))?;
     let front = Front {
         base_offset: 0,
-        batch_length: (size - LENGTH_END) as i32,
+        batch_length: 0,
         leader_epoch: -1,
         magic: MAGIC,
         checksum: 0,

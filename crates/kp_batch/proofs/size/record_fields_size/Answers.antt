@@ -1,9 +1,9 @@
-use Rattle.std.proofs.Common.{◌∙◌, sym, ap, arith}
+use Rattle.std.proofs.Common.{arith}
 use Rattle.std.specs.Prelude.{FitsSigned}
 use Rattle.std.specs.Int.{w32, w64}
 use Rattle.std.proofs.lemmas.Int.{to_z-of_z}
-use Rattle.kp_batch.specs.Spelling.{measured, relative_by}
-use Rattle.kp_batch.proofs.SizeLemmas.{measured_small, fields_size-parts}
+use Rattle.kp_batch.specs.Spelling.{relative_by}
+use Rattle.kp_batch.proofs.SizeLemmas.{fields_size-parts}
 use Rattle.kp_batch.proofs.size.record_fields_size.Goals as goal
 
 pub returns : goal.returns
@@ -12,7 +12,5 @@ returns c =
     let offset : FitsSigned w32 c.args.offset_delta = c.ranges.offset_delta in
     let t = rw to_z-of_z at c.varlong_len.ensures.value in
     let i = rw to_z-of_z at c.varint_len.ensures.value in
-    let h = rw c.as_slice.ensures at c.headers_size.ensures in
-    c.add_sizes-2.ensures _ _ (sym (measured_small _ (omega (arith, c.varlong_len.ensures.few, c.varint_len.ensures.few))))
-    (c.add_sizes.ensures _ _ (c.add_sizes-key_and_value.ensures _ _ c.nullable_size.ensures c.nullable_size-2.ensures) h)
-    ∙ ap measured (omega (arith, t, i, fields_size-parts (relative_by c.args.timestamp_delta c.args.offset_delta c.args.body.now)))
+    let h = rw c.as_slice.ensures at c.headers_size.ensures.told in
+    omega (arith, t, i, h, c.nullable_size.ensures.told, c.nullable_size-2.ensures.told, fields_size-parts (relative_by c.args.timestamp_delta c.args.offset_delta c.args.body.now))

@@ -5,8 +5,8 @@ use mir.Val.{to_z}
 use Rattle.std.proofs.lemmas.Int.{to_z-of_z, ints}
 use Rattle.kp_wire.specs.Varint.{varint}
 use Rattle.kp_batch.specs.Record.{fields_size}
-use Rattle.kp_batch.specs.Spelling.{relative_by, measured}
-use Rattle.kp_batch.proofs.SizeLemmas.{small_measured, large_measured, length-relative_record}
+use Rattle.kp_batch.specs.Spelling.{relative_by, up_to_limit}
+use Rattle.kp_batch.proofs.SizeLemmas.{told_small, told_large, length-relative_record}
 use Rattle.kp_batch.proofs.WritingLemmas.{record_spelled, record_fits}
 use Rattle.kp_batch.proofs.writing.put_record.Goals as goal
 
@@ -15,17 +15,17 @@ returns-then-size-gt-SIZE_LIMIT-clause-long_only c = λ e.
     let delta : FitsSigned w64 c.args.timestamp_delta = c.ranges.timestamp_delta in
     let offset : FitsSigned w32 c.args.offset_delta = c.ranges.offset_delta in
     let r = relative_by c.args.timestamp_delta c.args.offset_delta c.args.body.now in
-    let size : c.record_fields_size-size.result ≡ measured (fields_size r) = rw (to_z-of_z, to_z-of_z) at c.record_fields_size-size.ensures in
-    let large = large_measured _ (fields_size r) size c.if-size-gt-SIZE_LIMIT.true in
-    omega (arith, large.1, length-relative_record r)
+    let size : up_to_limit c.record_fields_size-size.result ≡ up_to_limit (fields_size r) = rw (to_z-of_z, to_z-of_z) at c.record_fields_size-size.ensures in
+    let large = told_large _ (fields_size r) size c.if-size-gt-SIZE_LIMIT.true in
+    omega (arith, large, length-relative_record r)
 
 pub returns-clause-spelled : goal.returns-clause-spelled
 returns-clause-spelled c =
     let delta : FitsSigned w64 c.args.timestamp_delta = c.ranges.timestamp_delta in
     let offset : FitsSigned w32 c.args.offset_delta = c.ranges.offset_delta in
     let r = relative_by c.args.timestamp_delta c.args.offset_delta c.args.body.now in
-    let size : c.record_fields_size-size.result ≡ measured (fields_size r) = rw (to_z-of_z, to_z-of_z) at c.record_fields_size-size.ensures in
-    let small : c.record_fields_size-size.result ≡ fields_size r = small_measured _ (fields_size r) size c.if-size-gt-SIZE_LIMIT.false in
+    let size : up_to_limit c.record_fields_size-size.result ≡ up_to_limit (fields_size r) = rw (to_z-of_z, to_z-of_z) at c.record_fields_size-size.ensures in
+    let small : c.record_fields_size-size.result ≡ fields_size r = told_small _ (fields_size r) size c.if-size-gt-SIZE_LIMIT.false in
     let widened : to_z w32 c.record_fields_size-size.result ≡ pos (fields_size r) = omega (arith, ints, small) in
     let first : c.put_varint.new.out.items ≡ c.args.out.now.items ++ varint.spell (pos (fields_size r)) = c.in_ok-put_varint.ensures.ok ∙ ap (λ (z : ℤ). c.args.out.now.items ++ varint.spell z) widened in
     let second = rw (to_z-of_z, to_z-of_z) at c.in_ok-put_fields.ensures.spelled in
@@ -36,7 +36,7 @@ returns-clause-fits c =
     let delta : FitsSigned w64 c.args.timestamp_delta = c.ranges.timestamp_delta in
     let offset : FitsSigned w32 c.args.offset_delta = c.ranges.offset_delta in
     let r = relative_by c.args.timestamp_delta c.args.offset_delta c.args.body.now in
-    let size : c.record_fields_size-size.result ≡ measured (fields_size r) = rw (to_z-of_z, to_z-of_z) at c.record_fields_size-size.ensures in
-    let small : c.record_fields_size-size.result ≡ fields_size r = small_measured _ (fields_size r) size c.if-size-gt-SIZE_LIMIT.false in
+    let size : up_to_limit c.record_fields_size-size.result ≡ up_to_limit (fields_size r) = rw (to_z-of_z, to_z-of_z) at c.record_fields_size-size.ensures in
+    let small : c.record_fields_size-size.result ≡ fields_size r = told_small _ (fields_size r) size c.if-size-gt-SIZE_LIMIT.false in
     let fits = rw (to_z-of_z, to_z-of_z) at c.in_ok-put_fields.ensures.fits in
     record_fits r (omega arith) fits
