@@ -8,14 +8,14 @@ use crate::record::Record;
 /// What has a record in it.
 pub trait AsRecord {
     /// The record in it.
-    ghost record: { Self → RecordValue };
+    ghost body: { Self → RecordValue };
 
     fn as_record(&self) -> &Record
-        ensures { result.now ≡ «record» self.now };
+        ensures { result.now ≡ body self.now };
 }
 
 impl AsRecord for Record {
-    ghost record = { λ r. r };
+    ghost body = { λ r. r };
 
     fn as_record(&self) -> &Record {
         self

@@ -126,7 +126,7 @@ pub fn charge(body: &Record) -> u64
 }
 
 fn measure<T: AsRecord>(records: &[T]) -> u64
-    ensures { result ≡ measured (size_of_batch (map T.record records.now)) }
+    ensures { result ≡ measured (size_of_batch (map T.body records.now)) }
 {
     let base = match records {
         [] => return HEAD_SIZE,
@@ -146,8 +146,8 @@ fn measure<T: AsRecord>(records: &[T]) -> u64
 
 /// The size of the batch of these records; u64::MAX where it is above the limit.
 pub fn batch_size<T: AsRecord>(records: &[T]) -> u64
-    ensures value { result ≡ measured (size_of_batch (map T.record records.now)) }
-    ensures fits { result ≤ SIZE_LIMIT → size_of_batch (map T.record records.now) ≤ SIZE_LIMIT }
+    ensures value { result ≡ measured (size_of_batch (map T.body records.now)) }
+    ensures fits { result ≤ SIZE_LIMIT → size_of_batch (map T.body records.now) ≤ SIZE_LIMIT }
 {
     measure(records)
 }
@@ -196,7 +196,7 @@ fn record_room(body: &Record) -> usize
 
 /// Room enough for the batch of these records, and mostly more: each number is counted at its longest.
 pub(crate) fn room_for<T: AsRecord>(records: &[T]) -> usize
-    ensures { up_to_limit (size_of_batch (map T.record records.now)) ≤ result }
+    ensures { up_to_limit (size_of_batch (map T.body records.now)) ≤ result }
 {
     let mut room = HEAD_SIZE as usize;
     for item in records {

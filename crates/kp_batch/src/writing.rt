@@ -169,11 +169,11 @@ fn put_records<T: AsRecord>(
     records: &[T],
 ) -> Result<(), WriteError>
     requires { length records.now ≤ SIZE_LIMIT }
-    ensures spelled { OnOk result (out.new.items ≡ out.old.items ++ flat_map relative_record.spell (relatives_from base 0 (map T.record records.now))) }
-    ensures fits { OnOk result (AllByRecursion relative_record.Fits (relatives_from base 0 (map T.record records.now))) }
-    ensures moments { OnOk result (AllByRecursion (λ r. r.timestamp < 2 ^ 63) (map T.record records.now)) }
+    ensures spelled { OnOk result (out.new.items ≡ out.old.items ++ flat_map relative_record.spell (relatives_from base 0 (map T.body records.now))) }
+    ensures fits { OnOk result (AllByRecursion relative_record.Fits (relatives_from base 0 (map T.body records.now))) }
+    ensures moments { OnOk result (AllByRecursion (λ r. r.timestamp < 2 ^ 63) (map T.body records.now)) }
     ensures long_only { IsErrOf result WriteError.BadLength
-        → SIZE_LIMIT < length (flat_map relative_record.spell (relatives_from base 0 (map T.record records.now))) }
+        → SIZE_LIMIT < length (flat_map relative_record.spell (relatives_from base 0 (map T.body records.now))) }
 {
     for (k, item) in records.iter().enumerate() {
         let body = item.as_record();
@@ -185,7 +185,7 @@ fn put_records<T: AsRecord>(
 
 /// The latest of this moment and those of the records.
 fn latest_of<T: AsRecord>(first: Timestamp, records: &[T]) -> Timestamp
-    ensures { result ≡ max first (max_timestamp (map T.record records.now)) }
+    ensures { result ≡ max first (max_timestamp (map T.body records.now)) }
 {
     let mut latest = first;
     for item in records {
@@ -269,9 +269,9 @@ fn put_covered<T: AsRecord>(
 ) -> Result<(), WriteError>
     requires some { 0 < length records.now }
     requires few { length records.now ≤ SIZE_LIMIT }
-    ensures spelled { OnOk result (out.new.items ≡ out.old.items ++ covered h (map T.record records.now)) }
-    ensures fits { OnOk result (HasFields h (map T.record records.now)) }
-    ensures long_only { IsErrOf result WriteError.BadLength → SIZE_LIMIT < size_of_batch (map T.record records.now) }
+    ensures spelled { OnOk result (out.new.items ≡ out.old.items ++ covered h (map T.body records.now)) }
+    ensures fits { OnOk result (HasFields h (map T.body records.now)) }
+    ensures long_only { IsErrOf result WriteError.BadLength → SIZE_LIMIT < size_of_batch (map T.body records.now) }
 {
     let base = records[0].as_record().timestamp;
     let count = records.len() as i32;
@@ -296,8 +296,8 @@ pub fn write_batch<T: AsRecord>(
     records: &[T],
 ) -> Result<Vec<u8>, AllocError>
     requires some { 0 < length records.now }
-    requires fits { size_of_batch (map T.record records.now) ≤ SIZE_LIMIT }
-    ensures { IfOk result (λ bytes. Spells bytes.items (written h (map T.record records.now))) }
+    requires fits { size_of_batch (map T.body records.now) ≤ SIZE_LIMIT }
+    ensures { IfOk result (λ bytes. Spells bytes.items (written h (map T.body records.now))) }
 {
     let mut out = Vec::with_capacity(alloc, room_for(records))?;
     let front = Front {

@@ -9,7 +9,7 @@ use kp_batch::{
 };
 use kp_cli::{DONE, FAULT, kprod_with};
 use kp_log::{Answer, LogFault, PartitionLog};
-use kp_wire::{Blob, Seq, Text, put_varint, put_varlong};
+use kp_wire::{Blob, Seq, Text, put_nullable, put_string, put_varint, put_varlong};
 use std::alloc::{AllocError, Global};
 use std::io::{self, Read};
 use std::process::ExitCode;
@@ -124,6 +124,37 @@ fn varints(alloc: Global) -> Outcome {
     }
 }
 
+/// Two texts and null; what stood before them stays where memory is refused.
+fn texts(alloc: Global) -> Outcome {
+    let mut out = Vec::new(alloc);
+    let mut outcome = Outcome::Right;
+    if put_string(&mut out, "kp").is_err() {
+        if !out.is_empty() || put_string(&mut out, "kp").is_err() {
+            return Outcome::Wrong;
+        }
+        outcome = Outcome::Refused;
+    }
+    let longer = "a text that wants more room";
+    if put_nullable(&mut out, Some(longer)).is_err() {
+        if out.as_slice() != b"\0\x02kp".as_slice()
+            || put_nullable(&mut out, Some(longer)).is_err()
+        {
+            return Outcome::Wrong;
+        }
+        outcome = Outcome::Refused;
+    }
+    if put_nullable(&mut out, None).is_err() {
+        if out.len() != 33 || put_nullable(&mut out, None).is_err() {
+            return Outcome::Wrong;
+        }
+        outcome = Outcome::Refused;
+    }
+    let right = out.get(..6) == Some(b"\0\x02kp\0\x1b".as_slice())
+        && out.get(6..33) == Some(longer.as_bytes())
+        && out.get(33..) == Some([0xff, 0xff].as_slice());
+    if right { outcome } else { Outcome::Wrong }
+}
+
 fn is_right(batch: &Batch) -> bool {
     batch.head == HEAD
         && batch.records.len() == 2
@@ -218,9 +249,10 @@ fn pack<R: Files + AllocGlobal>(rt: &R) -> Outcome {
 /// All calls in turn, up to the first whose outcome isn't right.
 fn outcome_of<R: Files + AllocGlobal>(rt: &R) -> Outcome {
     let alloc = rt.alloc();
-    let first = varints(alloc);
-    if first != Outcome::Right {
-        return first;
+    for outcome in [varints(alloc), texts(alloc)] {
+        if outcome != Outcome::Right {
+            return outcome;
+        }
     }
     let Ok(records) = records_of(alloc) else {
         return Outcome::Refused;

@@ -41,7 +41,7 @@ fn batch_of(alloc: Global, records: &[Record]) -> Result<Vec<u8>, AllocError> {
 }
 
 /// The sum of so many checksums.
-pub fn checksums(alloc: Global, times: u32) -> Result<u64, AllocError> {
+pub(crate) fn checksums(alloc: Global, times: u32) -> Result<u64, AllocError> {
     let mut bytes = Vec::new(alloc);
     bytes.resize(CHECKED, b'c')?;
     let mut sum = 0u64;
@@ -55,7 +55,7 @@ pub fn checksums(alloc: Global, times: u32) -> Result<u64, AllocError> {
 }
 
 /// The bytes of so many batches.
-pub fn writes(alloc: Global, times: u32) -> Result<u64, AllocError> {
+pub(crate) fn writes(alloc: Global, times: u32) -> Result<u64, AllocError> {
     let records = records_of(alloc)?;
     if records.is_empty() || batch_size(&records) > SIZE_LIMIT {
         return Err(AllocError);
@@ -69,7 +69,7 @@ pub fn writes(alloc: Global, times: u32) -> Result<u64, AllocError> {
 
 /// The records of so many batches. What was read is kept, as a broker's log keeps it, and not dropped even at the
 /// end: so the cost is that of reading alone.
-pub fn reads(alloc: Global, times: u32) -> Result<u64, AllocError> {
+pub(crate) fn reads(alloc: Global, times: u32) -> Result<u64, AllocError> {
     let bytes = batch_of(alloc, &records_of(alloc)?)?;
     let mut log = Vec::new(alloc);
     let mut sum = 0u64;
@@ -84,7 +84,7 @@ pub fn reads(alloc: Global, times: u32) -> Result<u64, AllocError> {
 }
 
 /// The same, where each batch is dropped before the next is read.
-pub fn reads_and_drops(alloc: Global, times: u32) -> Result<u64, AllocError> {
+pub(crate) fn reads_and_drops(alloc: Global, times: u32) -> Result<u64, AllocError> {
     let bytes = batch_of(alloc, &records_of(alloc)?)?;
     let mut sum = 0u64;
     for _ in 0..times {

@@ -26,7 +26,7 @@ fn shift_byte(register: u32) -> u32 {
 }
 
 /// The CRC-32C of the bytes.
-pub fn crc32c_by_bits(bytes: &[u8]) -> u32 {
+pub(crate) fn crc32c_by_bits(bytes: &[u8]) -> u32 {
     let mut register = u32::MAX;
     for byte in bytes {
         register = shift_byte(register ^ u32::from(*byte));

@@ -10,7 +10,7 @@ use std::io::{self, BufWriter, Write};
 use std::rt::Files;
 
 /// The tally of the lines of both files.
-pub fn tally_of(alloc: Global, vectors: &[u8], batches: &[u8]) -> Result<Tally, AllocError> {
+pub(crate) fn tally_of(alloc: Global, vectors: &[u8], batches: &[u8]) -> Result<Tally, AllocError> {
     let mut tally = Tally::new(alloc);
     check_vectors(alloc, vectors, &mut tally)?;
     check_batches(alloc, batches, &mut tally)?;
@@ -28,7 +28,7 @@ fn print<R: Print + AllocGlobal>(rt: &R, tally: &Tally) -> io::Result<()> {
 }
 
 /// Prints the tally of the files in the folder where the program runs. Gives whether each line agrees.
-pub fn run<R: Files + Print + AllocGlobal>(rt: &R) -> Result<bool, Failure> {
+pub(crate) fn run<R: Files + Print + AllocGlobal>(rt: &R) -> Result<bool, Failure> {
     let vectors = contents(rt, vectors::FILE)?;
     let batches = contents(rt, batches::FILE)?;
     let tally = tally_of(rt.alloc(), &vectors, &batches)?;

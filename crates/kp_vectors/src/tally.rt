@@ -32,7 +32,7 @@ impl Kind {
     }
 
     /// The kind of a vector that begins with this word.
-    pub fn of_vector(word: &str) -> Kind {
+    pub(crate) fn of_vector(word: &str) -> Kind {
         match word {
             "varint" => Kind::Varint,
             "varlong" => Kind::Varlong,
@@ -99,7 +99,7 @@ pub struct Tally {
 }
 
 impl Tally {
-    pub fn new(alloc: Global) -> Self {
+    pub(crate) fn new(alloc: Global) -> Self {
         Tally {
             counts: [
                 Count::none_of(Kind::Varint),
@@ -115,13 +115,13 @@ impl Tally {
     }
 
     /// Whether each line agrees.
-    pub fn agrees(&self) -> bool {
+    pub(crate) fn agrees(&self) -> bool {
         self.disagreements.is_empty()
     }
 
     /// Counts a line of this kind and what was found of it. Memory that was refused is passed on, and the line
     /// is then not counted.
-    pub fn add(
+    pub(crate) fn add(
         &mut self,
         place: Place,
         kind: Kind,

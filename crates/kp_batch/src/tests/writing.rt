@@ -10,7 +10,7 @@ struct Pair {
 }
 
 impl AsRecord for Pair {
-    ghost record = { λ pair. pair.sent };
+    ghost body = { λ pair. pair.sent };
 
     fn as_record(&self) -> &Record {
         &self.sent

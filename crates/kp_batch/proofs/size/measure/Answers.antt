@@ -13,14 +13,14 @@ use Rattle.kp_batch.proofs.size.measure.Goals as goal
 pub returns-in-empty : goal.returns-in-empty
 unfolding size_of_batch
 returns-in-empty g c =
-    let records = map g.T.AsRecord.record c.args.records.now in
-    let none : records ≡ [] = nil_from_length records (omega (arith, as_many g.T.AsRecord.record c.args.records.now)) in
+    let records = map g.T.AsRecord.body c.args.records.now in
+    let none : records ≡ [] = nil_from_length records (omega (arith, as_many g.T.AsRecord.body c.args.records.now)) in
     rw none (sym (measured_small 61 (omega arith)))
 
 pub returns-then-size-gt-SIZE_LIMIT : goal.returns-then-size-gt-SIZE_LIMIT
 returns-then-size-gt-SIZE_LIMIT g c =
     let large = large_measured _ _ c.loop-k.invariant.so_far c.if-size-gt-SIZE_LIMIT.true in
-    sym (measured_large _ (omega (arith, large.1, c.loop-k.invariant.left, size_of_batch-is (map g.T.AsRecord.record c.args.records.now))))
+    sym (measured_large _ (omega (arith, large.1, c.loop-k.invariant.left, size_of_batch-is (map g.T.AsRecord.body c.args.records.now))))
 
 pub loop-k-init : goal.loop-k-init
 loop-k-init g c = record { left = omega arith; so_far = sym (measured_small _ (omega arith)) ∙ ap measured (omega arith) }
@@ -30,7 +30,7 @@ overflow_cast-k g c = let small = small_measured _ _ c.loop-k.invariant.so_far c
 
 pub loop-k-preserved : goal.loop-k-preserved
 loop-k-preserved g c =
-    let record_in = g.T.AsRecord.record in
+    let record_in = g.T.AsRecord.body in
     let items = c.args.records.now in
     let records = map record_in items in
     let many = as_many record_in items in
@@ -55,6 +55,6 @@ loop-k-preserved g c =
 
 pub returns : goal.returns
 returns g c =
-    let records = map g.T.AsRecord.record c.args.records.now in
-    let none = bytes_from-none (base_timestamp records) c.loop-k.k records (omega (arith, as_many g.T.AsRecord.record c.args.records.now)) in
+    let records = map g.T.AsRecord.body c.args.records.now in
+    let none = bytes_from-none (base_timestamp records) c.loop-k.k records (omega (arith, as_many g.T.AsRecord.body c.args.records.now)) in
     c.loop-k.invariant.so_far ∙ ap measured (omega (arith, none, size_of_batch-is records))

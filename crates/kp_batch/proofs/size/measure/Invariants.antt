@@ -5,7 +5,7 @@ use Rattle.kp_batch.proofs.size.measure.Given as goal
 
 abbrev pub invariant-loop-k : goal.invariant-loop-k
 invariant-loop-k g l =
-    let records = map g.T.AsRecord.record l.records in
+    let records = map g.T.AsRecord.body l.records in
     record {
       left : l.k + bytes_from (base_timestamp records) l.k (drop l.k records) ≤ bytes_from (base_timestamp records) 0 records;
       so_far : l.size ≡ measured (61 + (bytes_from (base_timestamp records) 0 records - bytes_from (base_timestamp records) l.k (drop l.k records)));

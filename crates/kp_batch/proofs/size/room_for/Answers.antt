@@ -10,7 +10,7 @@ loop-item-init g c = record { left = omega arith; so_far = omega arith }
 
 pub loop-item-preserved : goal.loop-item-preserved
 loop-item-preserved g c =
-    let record_in = g.T.AsRecord.record in
+    let record_in = g.T.AsRecord.body in
     let items = c.args.records.now in
     let records = map record_in items in
     let base = base_timestamp records in
@@ -26,6 +26,6 @@ loop-item-preserved g c =
 
 pub returns : goal.returns
 returns g c =
-    let records = map g.T.AsRecord.record c.args.records.now in
-    let none = bytes_from-none (base_timestamp records) c.loop-item.item-index records (omega (arith, as_many g.T.AsRecord.record c.args.records.now)) in
+    let records = map g.T.AsRecord.body c.args.records.now in
+    let none = bytes_from-none (base_timestamp records) c.loop-item.item-index records (omega (arith, as_many g.T.AsRecord.body c.args.records.now)) in
     omega (arith, c.loop-item.invariant.so_far, none, size_of_batch-is records)

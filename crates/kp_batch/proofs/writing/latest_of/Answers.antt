@@ -7,7 +7,7 @@ use Rattle.kp_batch.proofs.writing.latest_of.Goals as goal
 
 pub loop-item-preserved : goal.loop-item-preserved
 loop-item-preserved g c =
-    let record_in = g.T.AsRecord.record in
+    let record_in = g.T.AsRecord.body in
     let items = c.args.records.now in
     let body = c.as_record-body.result.now in
     let is = record_here record_in items c.loop-item.item-index c.item-item.result body c.loop-item-test.true c.item-item.is c.as_record-body.ensures in

@@ -4,4 +4,4 @@ use Rattle.kp_batch.proofs.writing.latest_of.Given as goal
 
 abbrev pub invariant-loop-item : goal.invariant-loop-item
 invariant-loop-item g l =
-    max l.latest (max_timestamp (drop l.item-index (map g.T.AsRecord.record l.records))) ≡ max l.initial.latest (max_timestamp (map g.T.AsRecord.record l.records))
+    max l.latest (max_timestamp (drop l.item-index (map g.T.AsRecord.body l.records))) ≡ max l.initial.latest (max_timestamp (map g.T.AsRecord.body l.records))

@@ -13,18 +13,18 @@ use Rattle.kp_batch.proofs.writing.put_covered.Goals as goal
 pub returns-in_err-put_records-clause-long_only : goal.returns-in_err-put_records-clause-long_only
 returns-in_err-put_records-clause-long_only g c = λ e.
     let p = err_from_is_err_and c.from_residual-in_err-put_records.result c.from_residual-in_err-put_records.ensures.1 in
-    let first = first_timestamp g.T.AsRecord.record c.args.records.now _ _ c.requires.some c.index-records-0.is c.as_record.ensures in
+    let first = first_timestamp g.T.AsRecord.body c.args.records.now _ _ c.requires.some c.index-records-0.is c.as_record.ensures in
     let long = rw first at (c.in_err-put_records.ensures.long_only (rw (p.1, p.2) at e)) in
-    omega (arith, long, size_of_batch-is (map g.T.AsRecord.record c.args.records.now))
+    omega (arith, long, size_of_batch-is (map g.T.AsRecord.body c.args.records.now))
 
 pub returns-clause-spelled : goal.returns-clause-spelled
 returns-clause-spelled g c =
     let items = c.args.records.now in
-    let rs = map g.T.AsRecord.record items in
-    let many = as_many g.T.AsRecord.record items in
+    let rs = map g.T.AsRecord.body items in
+    let many = as_many g.T.AsRecord.body items in
     let some : 0 < length rs = omega (arith, many, c.requires.some) in
     let few : length rs ≤ 2147483647 = omega (arith, many, c.requires.few) in
-    let first = first_timestamp g.T.AsRecord.record items _ _ c.requires.some c.index-records-0.is c.as_record.ensures in
+    let first = first_timestamp g.T.AsRecord.body items _ _ c.requires.some c.index-records-0.is c.as_record.ensures in
     let latest = latest_timestamp rs in
     let last-is : to_z w32 (of_z w32 (to_z w32 (length items) -ℤ pos 1)) ≡ pos (length rs) -ℤ pos 1 = omega (arith, ints, many, some, few) in
     let base-is : to_z w64 (of_z w64 c.millis.result) ≡ pos (base_timestamp rs) = omega (arith, ints, c.millis.ensures.value, c.millis.ensures.fits, first) in
@@ -36,11 +36,11 @@ returns-clause-spelled g c =
 pub returns-clause-fits : goal.returns-clause-fits
 returns-clause-fits g c =
     let items = c.args.records.now in
-    let rs = map g.T.AsRecord.record items in
-    let many = as_many g.T.AsRecord.record items in
+    let rs = map g.T.AsRecord.body items in
+    let many = as_many g.T.AsRecord.body items in
     let some : 0 < length rs = omega (arith, many, c.requires.some) in
     let few : length rs ≤ 2147483647 = omega (arith, many, c.requires.few) in
-    let first = first_timestamp g.T.AsRecord.record items _ _ c.requires.some c.index-records-0.is c.as_record.ensures in
+    let first = first_timestamp g.T.AsRecord.body items _ _ c.requires.some c.index-records-0.is c.as_record.ensures in
     let latest = latest_timestamp rs in
     let id : FitsSigned w64 c.args.h.producer_id = search rules in
     let epoch : FitsSigned w16 c.args.h.epoch = search rules in

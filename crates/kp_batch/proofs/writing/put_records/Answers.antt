@@ -13,7 +13,7 @@ use Rattle.kp_batch.proofs.writing.put_records.Goals as goal
 
 pub loop-k-preserved : goal.loop-k-preserved
 loop-k-preserved g c =
-    let record_in = g.T.AsRecord.record in
+    let record_in = g.T.AsRecord.body in
     let items = c.args.records.now in
     let records = map record_in items in
     let base = c.args.base in
@@ -35,7 +35,7 @@ loop-k-preserved g c =
 
 pub returns-in_err-put_record-clause-long_only : goal.returns-in_err-put_record-clause-long_only
 returns-in_err-put_record-clause-long_only g c = λ e.
-    let record_in = g.T.AsRecord.record in
+    let record_in = g.T.AsRecord.body in
     let items = c.args.records.now in
     let records = map record_in items in
     let base = c.args.base in

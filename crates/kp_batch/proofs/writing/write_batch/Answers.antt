@@ -7,7 +7,7 @@ use Rattle.kp_batch.proofs.WritingLemmas.{unsealed, sealed, length-before, batch
 use Rattle.kp_batch.proofs.writing.write_batch.Goals as goal
 
 pub put_covered-requires-clause-few : goal.put_covered-requires-clause-few
-put_covered-requires-clause-few g c = omega (arith, c.requires.fits, size_of_batch-is (map g.T.AsRecord.record c.args.records.now), many_records (base_timestamp (map g.T.AsRecord.record c.args.records.now)) 0 (map g.T.AsRecord.record c.args.records.now), as_many g.T.AsRecord.record c.args.records.now)
+put_covered-requires-clause-few g c = omega (arith, c.requires.fits, size_of_batch-is (map g.T.AsRecord.body c.args.records.now), many_records (base_timestamp (map g.T.AsRecord.body c.args.records.now)) 0 (map g.T.AsRecord.body c.args.records.now), as_many g.T.AsRecord.body c.args.records.now)
 
 -- what stands before the seal
 before : (out front-bytes covered-bytes whole : List ℕ) (o1 : List ℕ) → out ≡ [] → o1 ≡ out ++ front-bytes → whole ≡ o1 ++ covered-bytes → whole ≡ front-bytes ++ covered-bytes
@@ -16,7 +16,7 @@ before out f cov whole o1 e0 e1 e2 = rw (e2, e1, e0) refl
 pub seal-requires : goal.seal-requires
 unfolding unsealed
 seal-requires g c =
-    let rs = map g.T.AsRecord.record c.args.records.now in
+    let rs = map g.T.AsRecord.body c.args.records.now in
     let cov = covered c.args.h rs in
     let whole : c.deref_mut.result.now ≡ front.spell unsealed ++ cov = c.deref_mut.ensures.value ∙ before _ (front.spell unsealed) cov _ _ c.in_ok-out.ensures.items c.in_ok-put_front.ensures c.in-Ok.ensures.spelled in
     let sum : length c.deref_mut.result.now ≡ 21 + length cov = ap length whole ∙ length-before unsealed cov in
@@ -29,7 +29,7 @@ pub returns-in-Ok : goal.returns-in-Ok
 unfolding unsealed
 returns-in-Ok g c =
     let h = c.args.h in
-    let rs = map g.T.AsRecord.record c.args.records.now in
+    let rs = map g.T.AsRecord.body c.args.records.now in
     let cov = covered h rs in
     let whole : c.deref_mut.result.now ≡ front.spell unsealed ++ cov = c.deref_mut.ensures.value ∙ before _ (front.spell unsealed) cov _ _ c.in_ok-out.ensures.items c.in_ok-put_front.ensures c.in-Ok.ensures.spelled in
     let items : c.put_covered.new.out.items ≡ c.deref_mut.result.now = sym c.deref_mut.ensures.value in
