@@ -19,12 +19,18 @@ const TOO_LARGE: u64 = SIZE_LIMIT + 1;
 /// The size of what stands before a batch's records.
 pub(crate) const HEAD_SIZE: u64 = 61;
 
-/// The most that a header takes beside its key and its value: the lengths of both.
-const HEADER_ROOM: usize = 5 + 5;
+/// The most bytes that a VARINT takes.
+const VARINT_ROOM: usize = 5;
 
-/// The most that a record takes beside its key, its value and its headers: its length, the attributes, the timestamp
-/// and the offset, the lengths of the key and the value, and the count of headers.
-const RECORD_ROOM: usize = 5 + 1 + 10 + 5 + 5 + 5 + 5;
+/// The most bytes that a VARLONG takes.
+const VARLONG_ROOM: usize = 10;
+
+/// The most that a header takes beside its key and its value: the lengths of both.
+const HEADER_ROOM: usize = 2 * VARINT_ROOM;
+
+/// The most that a record takes beside its key, its value and its headers: its attributes, the timestamp, and five
+/// VARINTs, which are its length, the offset, the lengths of the key and the value, and the count of headers.
+const RECORD_ROOM: usize = 1 + VARLONG_ROOM + 5 * VARINT_ROOM;
 
 /// The sum of two sizes, each as it is or, once it is above the limit, the greatest number.
 #[tactic(auto, unfolding(crate::specs::Spelling::measured))]
@@ -155,7 +161,7 @@ pub fn batch_size<T: AsRecord>(records: &[T]) -> u64
 /// The length of the bytes, 0 where there are none.
 #[tactic(auto, using(crate::proofs::SizeLemmas::room_laws), unfolding(crate::specs::Record::bytes_or_null, crate::specs::Record::length_field))]
 fn len_of(bytes: &Option<Blob>) -> usize
-    ensures { length ((bytes_or_null 0).spell bytes.now) ≤ result + 5 }
+    ensures { length ((bytes_or_null 0).spell bytes.now) ≤ VARINT_ROOM + result }
 {
     match bytes {
         None => 0,
@@ -173,7 +179,7 @@ fn header_room(h: &Header) -> usize
 
 #[inline]
 fn headers_room(hs: &[Header]) -> usize
-    ensures { up_to_limit (length ((headers 0).spell hs.now)) ≤ result + 5 }
+    ensures { up_to_limit (length ((headers 0).spell hs.now)) ≤ VARINT_ROOM + result }
 {
     let mut room = 0usize;
     for h in hs {

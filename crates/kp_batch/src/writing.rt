@@ -38,7 +38,6 @@ const COVERED_AT: usize = 21;
 
 /// Appends the bytes behind their length. An `Err` may leave a part.
 #[inline(always)]
-#[tactic(auto, unfolding(crate::specs::Record::bytes_or_null, crate::specs::Record::length_field))]
 fn put_sized(out: &mut Vec<u8>, bytes: &[u8]) -> Result<(), WriteError>
     ensures spelled { OnOk result (out.new.items ≡ out.old.items ++ (varint.spell (pos (length bytes.now)) ++ bytes.now)) }
     ensures fits { OnOk result (length bytes.now ≤ SIZE_LIMIT) }
