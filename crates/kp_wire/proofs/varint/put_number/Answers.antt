@@ -1,4 +1,4 @@
-use Rattle.std.proofs.Common.{◌≡◌, ◌∙◌, ◌++◌, ◌∷◌, [], ◌+◌, ◌/◌, ◌%◌, List, ℕ, ap, sym, append_assoc, arith}
+use Rattle.std.proofs.Common.{◌∙◌, ◌++◌, ◌∷◌, [], ◌+◌, ◌/◌, ◌%◌, List, ℕ, ap, sym, append_assoc, arith}
 use Rattle.kp_wire.proofs.VarintLemmas.{two_groups}
 use Rattle.kp_wire.proofs.varint.put_number.Goals as goal
 
