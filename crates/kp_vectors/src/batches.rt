@@ -155,7 +155,11 @@ fn check_line(alloc: Global, line: &[u8]) -> Result<(), LineFault> {
 }
 
 /// Adds the file's lines to the tally.
-pub(crate) fn check_batches(alloc: Global, file: &[u8], tally: &mut Tally) -> Result<(), AllocError> {
+pub(crate) fn check_batches(
+    alloc: Global,
+    file: &[u8],
+    tally: &mut Tally,
+) -> Result<(), AllocError> {
     for (k, line) in file.split_inclusive(|byte| *byte == b'\n').enumerate() {
         let place = Place {
             file: FILE,

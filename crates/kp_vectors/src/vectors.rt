@@ -122,7 +122,11 @@ fn check_line(alloc: Global, line: &[u8]) -> (Kind, Result<(), LineFault>) {
 }
 
 /// Adds the file's lines to the tally, those but that begin with `#`.
-pub(crate) fn check_vectors(alloc: Global, file: &[u8], tally: &mut Tally) -> Result<(), AllocError> {
+pub(crate) fn check_vectors(
+    alloc: Global,
+    file: &[u8],
+    tally: &mut Tally,
+) -> Result<(), AllocError> {
     for (k, line) in file.split_inclusive(|byte| *byte == b'\n').enumerate() {
         let line = line.strip_suffix(b"\n").unwrap_or(line);
         if line.starts_with(b"#") {
