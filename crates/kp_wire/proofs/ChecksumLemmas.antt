@@ -12,10 +12,6 @@ use Rattle.std.proofs.lemmas.List.Concat.{flat_map-cons}
 use Rattle.kp_wire.specs.Checksum.{bits, number, inverted, plus, low_divisor, quotient, remainder, message, dividend, crc, times_divisor, Divides}
 use Rattle.kp_wire.specs.Register.{step, step_times, byte_step}
 
-pub steps_more : (n i s : ℕ) → i < n → step_times (n - i) s ≡ step_times (n - (i + 1)) (step s)
-unfolding step_times
-steps_more n i s h = let e : n - i ≡ suc (n - (i + 1)) = omega arith in rw e refl
-
 -- ---- one bit of a sum
 
 pub xor_low : (a b : ℕ) → bit_xor a b % 2 ≡ (a % 2 + b % 2) % 2
@@ -138,9 +134,6 @@ AreBytes bs = AllByRecursion (λ b. b < 256) bs
 pub are_bytes : (bs : List ℕ) → ((i : ℕ) → get_or bs i 0 < 256) → AreBytes bs
 are_bytes [] h = tt
 are_bytes (b ∷ bs) h = (h 0, are_bytes bs (λ i. h (suc i)))
-
-zeros : List ℕ
-zeros = replicate 32 0
 
 message_is_bits : (bytes : List ℕ) → AreBits (message bytes)
 unfolding message
