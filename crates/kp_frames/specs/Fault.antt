@@ -1,0 +1,30 @@
+-- The faults of a message, from those of its fields.
+use Rattle.std.specs.Prelude.{Result, Ok, Err, Bool, if◌then◌else◌}
+use Rattle.kp_wire.specs.declared.fault.WireFault.{WireFault}
+use Rattle.kp_wire.specs.declared.fault.WireFault.TheVariants as field
+use Rattle.kp_wire.specs.declared.fault.ReadError.{ReadError}
+use Rattle.kp_wire.specs.declared.fault.ReadError.TheVariants as read
+use Rattle.kp_frames.specs.declared.fault.FrameFault.{FrameFault}
+use Rattle.kp_frames.specs.declared.fault.FrameFault.TheVariants.{Short, Wire, OutOfMemory}
+
+-- an input that ends within a field is a short message; any other fault is the field's
+abbrev pub of_wire : WireFault → FrameFault
+of_wire field.Short = Short
+of_wire field.TooLarge = Wire field.TooLarge
+of_wire field.NotShortest = Wire field.NotShortest
+of_wire field.NotUtf8 = Wire field.NotUtf8
+of_wire field.BadLength = Wire field.BadLength
+of_wire field.BadByte = Wire field.BadByte
+
+abbrev pub of_read : ReadError → FrameFault
+of_read read.Memory = OutOfMemory
+of_read (read.Fault fault) = of_wire fault
+
+-- what reading fields gives, with the message's fault
+abbrev pub in_message : {A : Type 0} → Result A WireFault → Result A FrameFault
+in_message (Ok x) = Ok x
+in_message (Err fault) = Err (of_wire fault)
+
+-- Where the test holds, it is this fault, and nothing behind it is looked at.
+abbrev pub refuse : Bool → FrameFault → Result (Unit {0}) FrameFault
+refuse applies fault = if applies then Err fault else Ok tt

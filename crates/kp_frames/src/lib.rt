@@ -1,0 +1,9 @@
+//! Kafka's frames: six messages of a producer's connection, written and read, and a stream cut into frames (protocol
+//! guide, "Protocol Structure").
+#![tactic(auto)]
+
+mod fault;
+mod frame;
+
+pub use fault::FrameFault;
+pub use frame::CONTENT_LIMIT;
