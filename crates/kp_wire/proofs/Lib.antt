@@ -10,3 +10,4 @@ pub mod StringLemmas
 pub mod TextLemmas
 pub mod ManyLemmas
 pub mod HashLemmas
+pub mod FieldLemmas

@@ -5,3 +5,5 @@ pub mod Strings
 pub mod Checksum
 pub mod Register
 pub mod Hash
+pub mod Fields
+pub mod Sizes

@@ -4,9 +4,12 @@ ghost use Rattle.std.specs.Prelude.{◌≡◌, ◌++◌, length, OnOk, OnErr};
 ghost use Rattle.std.specs.Int.{w8, w16, w32, w64};
 ghost use Rattle.kp_wire.specs.Reading.{IsRead};
 ghost use Rattle.kp_wire.specs.Codec.{number, int};
+ghost use Rattle.kp_wire.specs.Fields.{int16, int32, int64};
 
-use crate::fault::WireFault;
-use std::alloc::AllocError;
+use crate::codec::ReadField;
+use crate::fault::{ReadError, WireFault};
+use crate::measured::MeasuredField;
+use std::alloc::{AllocError, Global};
 
 /// The int8 at the front.
 pub fn read_i8(bytes: &[u8]) -> Result<(i8, &[u8]), WireFault>
@@ -111,4 +114,57 @@ pub fn put_u32(out: &mut Vec<u8>, n: u32) -> Result<(), AllocError>
 {
     let uint32 = n.to_be_bytes();
     out.extend_from_slice(&uint32)
+}
+
+/// How many bytes an int16 has.
+#[inline]
+pub fn size_of_i16(n: i16) -> u64
+    ensures fits { int16.Fits n }
+    ensures size { result ≡ length (int16.spell n) }
+{
+    n.to_be_bytes().len() as u64
+}
+
+/// How many bytes an int32 has.
+#[inline]
+pub fn size_of_i32(n: i32) -> u64
+    ensures fits { int32.Fits n }
+    ensures size { result ≡ length (int32.spell n) }
+{
+    n.to_be_bytes().len() as u64
+}
+
+/// How many bytes an int64 has.
+#[inline]
+pub fn size_of_i64(n: i64) -> u64
+    ensures fits { int64.Fits n }
+    ensures size { result ≡ length (int64.spell n) }
+{
+    n.to_be_bytes().len() as u64
+}
+
+impl ReadField for i32 {
+    ghost use Rattle.kp_wire.specs.Fields.{int32};
+
+    ghost reads = { λ after. int32.read };
+
+    fn read(_alloc: Global, bytes: &[u8], _after: usize) -> Result<(Self, &[u8]), ReadError> {
+        Ok(read_i32(bytes)?)
+    }
+}
+
+impl MeasuredField for i32 {
+    ghost use Rattle.kp_wire.specs.Fields.{int32};
+
+    ghost spells = { int32.spell };
+
+    ghost fits = { int32.Fits };
+
+    fn size(&self) -> Option<u64> {
+        Some(size_of_i32(*self))
+    }
+
+    fn put(&self, out: &mut Vec<u8>) -> Result<(), AllocError> {
+        put_i32(out, *self)
+    }
 }

@@ -5,9 +5,14 @@ ghost use Rattle.kp_wire.specs.Reading.{IsRead, Took};
 ghost use Rattle.kp_wire.specs.Codec.{by_length, by_nullable_length, utf8};
 ghost use Rattle.kp_wire.specs.Strings.{string, nullable_string};
 
+mod owned;
+
 use crate::fault::WireFault;
 use crate::field::read_utf8;
 use crate::number::{put_i16, read_i16};
+pub use owned::{
+    put_nullable_text, put_text, read_nullable_text, read_text, size_of_nullable_text, size_of_text,
+};
 use std::alloc::AllocError;
 
 /// How many bytes a text's length takes.
@@ -17,7 +22,7 @@ const LENGTH_SIZE: usize = 2;
 const NULL: i16 = -1;
 
 #[tactic(auto, unfolding(crate::specs::Codec::by_length))]
-fn read_text(bytes: &[u8], len: i16) -> Result<(&str, &[u8]), WireFault>
+fn read_string_by(bytes: &[u8], len: i16) -> Result<(&str, &[u8]), WireFault>
     ensures { IsRead (λ x. (x.0.now, x.1.now)) result (by_length (λ n. (utf8 n).read) len bytes.now) }
 {
     if len < 0 {
@@ -27,7 +32,7 @@ fn read_text(bytes: &[u8], len: i16) -> Result<(&str, &[u8]), WireFault>
 }
 
 #[tactic(auto, unfolding(crate::specs::Codec::by_nullable_length))]
-fn read_text_or_null(bytes: &[u8], len: i16) -> Result<(Option<&str>, &[u8]), WireFault>
+fn read_nullable_by(bytes: &[u8], len: i16) -> Result<(Option<&str>, &[u8]), WireFault>
     ensures { IsRead (λ x. (option_map (λ s. s.now) x.0, x.1.now)) result (by_nullable_length (λ n. (utf8 n).read) len bytes.now) }
 {
     if len < NULL {
@@ -45,7 +50,7 @@ pub fn read_string(bytes: &[u8]) -> Result<(&str, &[u8]), WireFault>
     ensures { IsRead (λ x. (x.0.now, x.1.now)) result (string.read bytes.now) }
 {
     let (len, rest) = read_i16(bytes)?;
-    read_text(rest, len)
+    read_string_by(rest, len)
 }
 
 /// The NULLABLE_STRING at the front, None where it is null, and the bytes behind it.
@@ -53,7 +58,7 @@ pub fn read_nullable(bytes: &[u8]) -> Result<(Option<&str>, &[u8]), WireFault>
     ensures { IsRead (λ x. (option_map (λ s. s.now) x.0, x.1.now)) result (nullable_string.read bytes.now) }
 {
     let (len, rest) = read_i16(bytes)?;
-    read_text_or_null(rest, len)
+    read_nullable_by(rest, len)
 }
 
 /// Appends the STRING. An `Err` leaves `out` as it was.
