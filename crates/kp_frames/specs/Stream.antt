@@ -1,6 +1,6 @@
 -- A stream of bytes as frames: an int32 size, and so many bytes, the frame's content.
 use Rattle.std.specs.Prelude.{◌≡◌, ℕ, zero, suc, ◌≤◌, List, [], ◌∷◌, ◌++◌, length, take, ℤ, pos, Result, Ok, Err, Bool, true, false, ◌||◌, int_lt, nat_abs, if◌then◌else◌, IsErr}
-use Rattle.std.specs.List.{flat_map, concat, AllByRecursion}
+use Rattle.std.specs.List.{flat_map, AllByRecursion}
 use Rattle.std.specs.Int.{w32}
 use Rattle.kp_wire.specs.Reading.{◌>>=◌}
 use Rattle.kp_wire.specs.Codec.{Codec, int, sized, plain, read_bytes}

@@ -2,8 +2,19 @@
 //! guide, "Protocol Structure").
 #![tactic(auto)]
 
+mod api;
 mod fault;
 mod frame;
+mod metadata;
+mod produce;
+mod producer_id;
 
+pub use api::Api;
 pub use fault::FrameFault;
 pub use frame::CONTENT_LIMIT;
+pub use metadata::{Broker, MetadataRequest, MetadataResponse, PartitionMetadata, TopicMetadata};
+pub use produce::{
+    PartitionProduceData, PartitionProduceResponse, ProduceRequest, ProduceResponse,
+    TopicProduceData, TopicProduceResponse,
+};
+pub use producer_id::{InitProducerIdRequest, InitProducerIdResponse};

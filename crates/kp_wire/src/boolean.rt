@@ -1,6 +1,6 @@
 //! BOOLEAN, a byte that is 0 or 1 (protocol guide, "Protocol Primitive Types").
 
-ghost use Rattle.std.specs.Prelude.{◌≡◌, ◌++◌, OnOk, OnErr};
+ghost use Rattle.std.specs.Prelude.{◌≡◌, ◌++◌, length, OnOk, OnErr};
 ghost use Rattle.kp_wire.specs.Reading.{IsRead};
 ghost use Rattle.kp_wire.specs.Fields.{boolean, read_boolean};
 
@@ -27,4 +27,11 @@ pub fn put_bool(out: &mut Vec<u8>, value: bool) -> Result<(), AllocError>
 {
     let byte = if value { 1u8 } else { 0u8 };
     out.extend_from_slice(&[byte])
+}
+
+/// How many bytes a BOOLEAN has.
+pub fn size_of_bool(_value: bool) -> u64
+    ensures { result ≡ length (boolean.spell _value) }
+{
+    1
 }

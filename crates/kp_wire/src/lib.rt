@@ -23,7 +23,7 @@ pub use array::{
     size_of_nullable_array,
 };
 pub use blob::Blob;
-pub use boolean::{put_bool, read_bool};
+pub use boolean::{put_bool, read_bool, size_of_bool};
 pub use checksum::crc32c;
 pub use codec::{ReadField, WriteField, put_all, read_into, read_many};
 pub use fault::{ReadError, WireFault, WriteError};

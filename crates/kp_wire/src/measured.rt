@@ -28,7 +28,7 @@ pub trait MeasuredField {
 /// The sum of two sizes, or u64::MAX where it is more.
 #[inline]
 pub fn add_sizes(a: u64, b: u64) -> u64
-    ensures { (m n : ℕ) → a ≡ capped m → b ≡ capped n → result ≡ capped (m + n) }
+    ensures { result ≡ capped (a + b) }
 {
     a.saturating_add(b)
 }

@@ -6,7 +6,5 @@ use Rattle.kp_wire.proofs.array.size_of_array.Goals as goal
 pub returns : goal.returns
 unfolding spell_array FitsArray
 returns g c =
-    let items = c.args.items.now in
     let part = rw c.as_slice.ensures at c.in_ok-sizes_of.ensures in
-    let sum = c.add_sizes.ensures 4 (length (flat_map g.T.MeasuredField.spells items)) refl part.1 in
-    ((omega (arith, c.len.ensures, c.if-len-gt-COUNT_LIMIT.false), part.0), omega (arith, sum))
+    ((omega (arith, c.len.ensures, c.if-len-gt-COUNT_LIMIT.false), part.0), omega (arith, part.1, c.add_sizes.ensures))
