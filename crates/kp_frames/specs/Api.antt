@@ -17,8 +17,8 @@ version_of Metadata = pos 1
 version_of InitProducerId = pos 0
 
 -- the api that has this key
-unfoldable pub api_of : ℤ → Result Api FrameFault
-api_of key =
+unfoldable pub api_with : ℤ → Result Api FrameFault
+api_with key =
     if int_eq key (pos 0) then Ok Produce
     else if int_eq key (pos 3) then Ok Metadata
     else if int_eq key (pos 22) then Ok InitProducerId

@@ -1,11 +1,11 @@
 -- The faults of a message, from those of its fields.
-use Rattle.std.specs.Prelude.{Result, Ok, Err, Bool, if◌then◌else◌}
+use Rattle.std.specs.Prelude.{◌≡◌, ℕ, List, [], ◌∷◌, Result, Ok, Err, Bool, if◌then◌else◌}
 use Rattle.kp_wire.specs.declared.fault.WireFault.{WireFault}
 use Rattle.kp_wire.specs.declared.fault.WireFault.TheVariants as field
 use Rattle.kp_wire.specs.declared.fault.ReadError.{ReadError}
 use Rattle.kp_wire.specs.declared.fault.ReadError.TheVariants as read
 use Rattle.kp_frames.specs.declared.fault.FrameFault.{FrameFault}
-use Rattle.kp_frames.specs.declared.fault.FrameFault.TheVariants.{Short, Wire, OutOfMemory}
+use Rattle.kp_frames.specs.declared.fault.FrameFault.TheVariants.{Short, Trailing, Wire, OutOfMemory}
 
 -- an input that ends within a field is a short message; any other fault is the field's
 abbrev pub of_wire : WireFault → FrameFault
@@ -28,3 +28,20 @@ in_message (Err fault) = Err (of_wire fault)
 -- Where the test holds, it is this fault, and nothing behind it is looked at.
 abbrev pub refuse : Bool → FrameFault → Result (Unit {0}) FrameFault
 refuse applies fault = if applies then Err fault else Ok tt
+
+-- The message, where nothing stands behind it.
+abbrev pub whole : {A : Type 0} → A → List ℕ → Result A FrameFault
+whole x [] = Ok x
+whole x (b ∷ rest) = Err Trailing
+
+-- ---- what a function gave
+
+-- The fault is that of reading, or memory was refused where reading had begun.
+abbrev pub Refuses : {Y : Type 0} → Type 0 → FrameFault → Result Y FrameFault → Type 0
+Refuses begun OutOfMemory read = begun
+Refuses begun fault read = read ≡ Err fault
+
+-- What a reader gave, seen by view, is what reading gives; or memory was refused where reading had begun.
+abbrev pub Answers : {X Y : Type 0} → Type 0 → (X → Y) → Result X FrameFault → Result Y FrameFault → Type 0
+Answers begun view (Ok x) read = read ≡ Ok (view x)
+Answers begun view (Err fault) read = Refuses begun fault read

@@ -3,4 +3,7 @@ pub mod Api
 pub mod Produce
 pub mod ProducerId
 pub mod Metadata
+pub mod Request
+pub mod Response
 pub mod Stream
+pub mod Writing

@@ -1,7 +1,7 @@
 //! The apis that a producer speaks, each in one version (protocol guide, "Api Keys").
 
 ghost use Rattle.std.specs.Prelude.{◌≡◌};
-ghost use Rattle.kp_frames.specs.Api.{key_of, version_of, api_of};
+ghost use Rattle.kp_frames.specs.Api.{key_of, version_of, api_with};
 
 use crate::fault::FrameFault;
 
@@ -40,9 +40,9 @@ impl Api {
     }
 
     /// The api with this key; else UnknownApi.
-    #[tactic(auto, unfolding(crate::specs::Api::api_of))]
+    #[tactic(auto, unfolding(crate::specs::Api::api_with))]
     pub fn from_key(key: i16) -> Result<Api, FrameFault>
-        ensures { result ≡ api_of key }
+        ensures { result ≡ api_with key }
     {
         match key {
             0 => Ok(Api::Produce),

@@ -8,6 +8,8 @@ mod frame;
 mod metadata;
 mod produce;
 mod producer_id;
+mod request;
+mod response;
 
 pub use api::Api;
 pub use fault::FrameFault;
@@ -18,3 +20,5 @@ pub use produce::{
     TopicProduceData, TopicProduceResponse,
 };
 pub use producer_id::{InitProducerIdRequest, InitProducerIdResponse};
+pub use request::{Request, RequestBody, read_request, write_request};
+pub use response::{Response, ResponseBody, read_response, write_response};
