@@ -1,1 +1,5 @@
 pub mod PuttingLemmas
+pub mod FaultLemmas
+pub mod MessageLemmas
+pub mod RequestLemmas
+pub mod ResponseLemmas

@@ -1,6 +1,6 @@
 -- A request's content: the key and the version of its api, the correlation id, the client's name, and the body (protocol
 -- guide, "Request Header v1").
-use Rattle.std.specs.Prelude.{◌≡◌, ℕ, List, ◌++◌, ℤ, Result, Ok, Err, Bool, not}
+use Rattle.std.specs.Prelude.{◌≡◌, ℕ, List, ◌++◌, Result, Ok, not}
 use Rattle.std.specs.Ordering.{int_eq}
 use Rattle.kp_wire.specs.Reading.{Read, ◌>>=◌}
 use Rattle.kp_wire.specs.Codec.{Codec, pair, made}

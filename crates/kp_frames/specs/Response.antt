@@ -1,6 +1,6 @@
 -- A response's content: the correlation id of its request, and the body of its api (protocol guide, "Response Header
 -- v0").
-use Rattle.std.specs.Prelude.{◌≡◌, ℕ, List, Result, Ok, Err}
+use Rattle.std.specs.Prelude.{◌≡◌, ℕ, List, Result, Ok}
 use Rattle.kp_wire.specs.Reading.{Read, ◌>>=◌}
 use Rattle.kp_wire.specs.Codec.{Codec, pair, made}
 use Rattle.kp_wire.specs.Fields.{int32}

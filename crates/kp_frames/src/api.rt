@@ -1,6 +1,6 @@
 //! The apis that a producer speaks, each in one version (protocol guide, "Api Keys").
 
-ghost use Rattle.std.specs.Prelude.{◌≡◌};
+ghost use Rattle.std.specs.Prelude.{◌≡◌, IfErr};
 ghost use Rattle.kp_frames.specs.Api.{key_of, version_of, api_with};
 
 use crate::fault::FrameFault;
@@ -39,10 +39,11 @@ impl Api {
         }
     }
 
-    /// The api with this key; else UnknownApi.
+    /// The api with this key.
     #[tactic(auto, unfolding(crate::specs::Api::api_with))]
     pub fn from_key(key: i16) -> Result<Api, FrameFault>
-        ensures { result ≡ api_with key }
+        ensures value { result ≡ api_with key }
+        ensures unknown { IfErr result (λ fault. fault ≡ FrameFault.UnknownApi) }
     {
         match key {
             0 => Ok(Api::Produce),

@@ -5,6 +5,7 @@
 mod api;
 mod fault;
 mod frame;
+pub mod laws;
 mod metadata;
 mod produce;
 mod producer_id;

@@ -1,6 +1,6 @@
 //! Requests: what stands before a body, and the body of an api (protocol guide, "Request Header v1").
 
-ghost use Rattle.std.specs.Prelude.{◌≡◌, List, ℕ, IfOk, IsOk, MatchResult, length};
+ghost use Rattle.std.specs.Prelude.{◌≡◌, List, ℕ, IfOk, IsOk, IsErrOf, MatchResult, length};
 ghost use Rattle.kp_wire.specs.Reading.{IsRead, Gives};
 ghost use Rattle.kp_frames.specs.declared.request.Request.{Request as RequestValue};
 ghost use Rattle.kp_frames.specs.Fault.{Answers};
@@ -114,7 +114,8 @@ pub fn write_request(alloc: Global, request: &Request) -> Result<Vec<u8>, FrameF
 /// The api that a request names, in the version that is spoken, and the bytes behind it.
 #[tactic(auto, unfolding(crate::specs::Request::announced))]
 fn read_announced(bytes: &[u8]) -> Result<(Api, &[u8]), FrameFault>
-    ensures { IsRead (λ x. (x.0, x.1.now)) result (announced bytes.now) }
+    ensures exact { IsRead (λ x. (x.0, x.1.now)) result (announced bytes.now) }
+    ensures no_memory { IsErrOf result FrameFault.OutOfMemory → ⊥ }
 {
     let (key, rest) = read_i16(bytes)?;
     let api = Api::from_key(key)?;

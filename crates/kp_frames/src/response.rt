@@ -118,29 +118,21 @@ fn read_body(alloc: Global, api: Api, bytes: &[u8]) -> Result<(ResponseBody, &[u
     }
 }
 
-/// The response behind its correlation id.
-#[tactic(auto, unfolding(crate::specs::Response::answer))]
-fn read_answer(alloc: Global, api: Api, bytes: &[u8]) -> Result<(Response, &[u8]), ReadError>
-    ensures { Gives (λ x. (x.0, x.1.now)) result ((answer api).read bytes.now) }
+#[tactic(auto, unfolding(crate::specs::Response::response_at, crate::specs::Response::answer))]
+fn read_whole(alloc: Global, api: Api, bytes: &[u8]) -> Result<Response, FrameFault>
+    ensures { Answers (IsOk (int32.read bytes.now)) (λ r. r) result (response_at api bytes.now) }
 {
     let (correlation, rest) = read_i32(bytes)?;
     let (body, rest) = read_body(alloc, api, rest)?;
-    Ok((Response { correlation, body }, rest))
-}
-
-#[tactic(auto, unfolding(crate::specs::Response::response_at))]
-fn read_whole(alloc: Global, api: Api, bytes: &[u8]) -> Result<Response, FrameFault>
-    ensures { Answers (Unit {0}) (λ r. r) result (response_at api bytes.now) }
-{
-    let (response, rest) = read_answer(alloc, api, bytes)?;
     if !rest.is_empty() {
         return Err(FrameFault::Trailing);
     }
-    Ok(response)
+    Ok(Response { correlation, body })
 }
 
 /// The response, to a request of this api, that is a frame's content, all of it; else the first fault from left
-/// to right, Trailing last. Where a growth was refused, it is OutOfMemory.
+/// to right, Trailing last. Where a growth was refused, it is OutOfMemory, which comes only behind the correlation
+/// id.
 pub fn read_response(alloc: Global, api: Api, bytes: &[u8]) -> Result<Response, FrameFault>
     // What is read is spelled so.
     ensures found { IfOk result (Spells api bytes.now) }
@@ -150,7 +142,7 @@ pub fn read_response(alloc: Global, api: Api, bytes: &[u8]) -> Result<Response, 
         → MatchResult result (λ x. x ≡ r) (λ fault. fault ≡ FrameFault.OutOfMemory) }
 
     // Which fault it is.
-    ensures exact { Answers (Unit {0}) (λ r. r) result (response_at api bytes.now) }
+    ensures exact { Answers (IsOk (int32.read bytes.now)) (λ r. r) result (response_at api bytes.now) }
 {
     read_whole(alloc, api, bytes)
 }

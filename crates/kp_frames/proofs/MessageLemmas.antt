@@ -1,0 +1,70 @@
+-- Messages are read as they are written.
+use Rattle.std.proofs.Common.{refl}
+use Rattle.kp_wire.specs.Fields.{int32}
+use Rattle.kp_wire.specs.Strings.{string}
+use Rattle.kp_wire.proofs.CodecLemmas.{IsExact, pair_exact, made_exact}
+use Rattle.kp_wire.proofs.StringLemmas.{string_exact, nullable_string_exact}
+use Rattle.kp_wire.proofs.FieldLemmas.{int16_exact, int32_exact, int64_exact, boolean_exact, records_exact, array_of_exact, nullable_array_of_exact}
+use Rattle.kp_frames.specs.Produce.{partition_data, topic_data, produce_request, partition_response, topic_response, produce_response}
+use Rattle.kp_frames.specs.Metadata.{metadata_request, broker, partition_metadata, topic_metadata, metadata_response}
+use Rattle.kp_frames.specs.ProducerId.{init_producer_id_request, init_producer_id_response}
+
+-- ---- Produce
+
+partition_data_exact : IsExact 0 partition_data
+unfolding partition_data
+partition_data_exact = made_exact 0 _ _ _ (λ _. refl) (λ _. refl) (pair_exact 0 _ _ int32_exact records_exact)
+
+topic_data_exact : IsExact 0 topic_data
+unfolding topic_data
+topic_data_exact = made_exact 0 _ _ _ (λ _. refl) (λ _. refl) (pair_exact 0 _ _ string_exact (array_of_exact _ partition_data_exact))
+
+pub produce_request_exact : IsExact 0 produce_request
+unfolding produce_request
+produce_request_exact = made_exact 0 _ _ _ (λ _. refl) (λ _. refl) (pair_exact 0 _ _ nullable_string_exact (pair_exact 0 _ _ int16_exact (pair_exact 0 _ _ int32_exact (array_of_exact _ topic_data_exact))))
+
+partition_response_exact : IsExact 0 partition_response
+unfolding partition_response
+partition_response_exact = made_exact 0 _ _ _ (λ _. refl) (λ _. refl) (pair_exact 0 _ _ int32_exact (pair_exact 0 _ _ int16_exact (pair_exact 0 _ _ int64_exact int64_exact)))
+
+topic_response_exact : IsExact 0 topic_response
+unfolding topic_response
+topic_response_exact = made_exact 0 _ _ _ (λ _. refl) (λ _. refl) (pair_exact 0 _ _ string_exact (array_of_exact _ partition_response_exact))
+
+pub produce_response_exact : IsExact 0 produce_response
+unfolding produce_response
+produce_response_exact = made_exact 0 _ _ _ (λ _. refl) (λ _. refl) (pair_exact 0 _ _ (array_of_exact _ topic_response_exact) int32_exact)
+
+-- ---- Metadata
+
+pub metadata_request_exact : IsExact 0 metadata_request
+unfolding metadata_request
+metadata_request_exact = made_exact 0 _ _ _ (λ _. refl) (λ _. refl) (nullable_array_of_exact string string_exact)
+
+broker_exact : IsExact 0 broker
+unfolding broker
+broker_exact = made_exact 0 _ _ _ (λ _. refl) (λ _. refl) (pair_exact 0 _ _ int32_exact (pair_exact 0 _ _ string_exact (pair_exact 0 _ _ int32_exact nullable_string_exact)))
+
+partition_metadata_exact : IsExact 0 partition_metadata
+unfolding partition_metadata
+partition_metadata_exact =
+    let ids = array_of_exact int32 int32_exact in
+    made_exact 0 _ _ _ (λ _. refl) (λ _. refl) (pair_exact 0 _ _ int16_exact (pair_exact 0 _ _ int32_exact (pair_exact 0 _ _ int32_exact (pair_exact 0 _ _ ids ids))))
+
+topic_metadata_exact : IsExact 0 topic_metadata
+unfolding topic_metadata
+topic_metadata_exact = made_exact 0 _ _ _ (λ _. refl) (λ _. refl) (pair_exact 0 _ _ int16_exact (pair_exact 0 _ _ string_exact (pair_exact 0 _ _ boolean_exact (array_of_exact _ partition_metadata_exact))))
+
+pub metadata_response_exact : IsExact 0 metadata_response
+unfolding metadata_response
+metadata_response_exact = made_exact 0 _ _ _ (λ _. refl) (λ _. refl) (pair_exact 0 _ _ (array_of_exact _ broker_exact) (pair_exact 0 _ _ int32_exact (array_of_exact _ topic_metadata_exact)))
+
+-- ---- InitProducerId
+
+pub init_producer_id_request_exact : IsExact 0 init_producer_id_request
+unfolding init_producer_id_request
+init_producer_id_request_exact = made_exact 0 _ _ _ (λ _. refl) (λ _. refl) (pair_exact 0 _ _ nullable_string_exact int32_exact)
+
+pub init_producer_id_response_exact : IsExact 0 init_producer_id_response
+unfolding init_producer_id_response
+init_producer_id_response_exact = made_exact 0 _ _ _ (λ _. refl) (λ _. refl) (pair_exact 0 _ _ int32_exact (pair_exact 0 _ _ int16_exact (pair_exact 0 _ _ int64_exact int16_exact)))

@@ -1,0 +1,169 @@
+-- Requests are read as they are written.
+use Rattle.std.proofs.Common.{◌≡◌, ℕ, Bool, true, false, cond, not, List, [], ◌++◌, ℤ, pos, Ok, Err, refl, sym, ap, subst, ◌∙◌, append_assoc, arith}
+use Rattle.std.specs.Prelude.{FitsSigned}
+use Rattle.std.specs.Int.{w16}
+use Rattle.std.specs.Ordering.{int_eq}
+use Rattle.std.proofs.lemmas.Bool.Decides.{Decides-int_eq}
+use Rattle.std.proofs.lemmas.List.{append-nil}
+use Rattle.kp_wire.specs.Fields.{int16}
+use Rattle.kp_wire.proofs.ReadLemmas.{IsBytes, Takes, Takes-then}
+use Rattle.kp_wire.proofs.CodecLemmas.{IsExact, pair_exact, made_exact, one_spelling}
+use Rattle.kp_wire.proofs.StringLemmas.{nullable_string_exact}
+use Rattle.kp_wire.proofs.FieldLemmas.{int16_exact, int32_exact}
+use Rattle.kp_frames.specs.declared.api.Api.{Api}
+use Rattle.kp_frames.specs.declared.api.Api.TheVariants as api
+use Rattle.kp_frames.specs.declared.request.Request.{Request}
+use Rattle.kp_frames.specs.declared.request.RequestBody.{RequestBody}
+use Rattle.kp_frames.specs.declared.request.RequestBody.TheVariants.{Produce, Metadata, InitProducerId}
+use Rattle.kp_frames.specs.declared.fault.FrameFault.TheVariants.{UnknownApi, UnknownVersion}
+use Rattle.kp_frames.specs.Api.{key_of, version_of, api_with}
+use Rattle.kp_frames.specs.Produce.{produce_request}
+use Rattle.kp_frames.specs.Metadata.{metadata_request}
+use Rattle.kp_frames.specs.ProducerId.{init_producer_id_request}
+use Rattle.kp_frames.specs.Request.{api_of, FitsBody, spell_body, read_body, body, known, FitsRequest, spelling, Spells, announced, request_at}
+use Rattle.kp_frames.proofs.MessageLemmas.{produce_request_exact, metadata_request_exact, init_producer_id_request_exact}
+use Rattle.kp_frames.proofs.FaultLemmas.{given, given_is, in_message_ok, refuse_ok, whole_ok, variant_takes}
+use Rattle.kp_wire.proofs.ReadLemmas.{bind_ok}
+
+-- ---- the body
+
+body_takes : (a : Api) (bytes : List ℕ) (x : RequestBody × List ℕ) → IsBytes bytes → read_body a bytes ≡ Ok x → Takes bytes (spell_body x.0) x.1 × ((api_of x.0 ≡ a) × FitsBody x.0)
+body_takes api.Produce bytes x fits e =
+    variant_takes produce_request Produce (λ b rest. Takes bytes (spell_body b) rest × ((api_of b ≡ api.Produce) × FitsBody b)) bytes x produce_request_exact fits (λ r rest t f. (t, (refl, f))) e
+body_takes api.Metadata bytes x fits e =
+    variant_takes metadata_request Metadata (λ b rest. Takes bytes (spell_body b) rest × ((api_of b ≡ api.Metadata) × FitsBody b)) bytes x metadata_request_exact fits (λ r rest t f. (t, (refl, f))) e
+body_takes api.InitProducerId bytes x fits e =
+    variant_takes init_producer_id_request InitProducerId (λ b rest. Takes bytes (spell_body b) rest × ((api_of b ≡ api.InitProducerId) × FitsBody b)) bytes x init_producer_id_request_exact fits (λ r rest t f. (t, (refl, f))) e
+
+body_again : (b : RequestBody) (rest : List ℕ) → FitsBody b → read_body (api_of b) (spell_body b ++ rest) ≡ Ok (b, rest)
+body_again (Produce r) rest fits = rw (produce_request_exact.again r rest fits (omega arith)) refl
+body_again (Metadata r) rest fits = rw (metadata_request_exact.again r rest fits (omega arith)) refl
+body_again (InitProducerId r) rest fits = rw (init_producer_id_request_exact.again r rest fits (omega arith)) refl
+
+body_exact : (a : Api) → IsExact 0 (body a)
+unfolding body
+body_exact a = record {
+  takes = body_takes a;
+  again = λ b rest fits behind.
+      let R : Api → Type 0 = λ k. read_body k (spell_body b ++ rest) ≡ Ok (b, rest) in
+      subst R fits.0 (body_again b rest fits.1);
+}
+
+known_exact : (a : Api) → IsExact 0 (known a)
+unfolding known
+known_exact a = made_exact 0 _ _ _ (λ _. refl) (λ _. refl) (pair_exact 0 _ _ int32_exact (pair_exact 0 _ _ nullable_string_exact (body_exact a)))
+
+-- the body is one of the api
+is_of : (a : Api) (r : Request) → (known a).Fits r → api_of r.body ≡ a
+unfolding known body
+is_of a r fits = fits.1.1.0
+
+-- ---- the api and its version
+
+equal : (m n : ℤ) → int_eq m n ≡ true → m ≡ n
+equal m n e = (Decides-int_eq m n).0 e
+
+api_is : (key : ℤ) (a : Api) → api_with key ≡ Ok a → key ≡ key_of a
+unfolding api_with
+api_is key a e = by_produce (int_eq key (pos 0)) refl e
+  where
+    by_init : (b : Bool) → int_eq key (pos 22) ≡ b → cond b (Ok api.InitProducerId) (Err UnknownApi) ≡ given a → key ≡ key_of a
+    by_init true is e = equal key (pos 22) is ∙ ap key_of (given_is api.InitProducerId a e)
+    by_init false is e = absurd cc
+
+    by_metadata : (b : Bool) → int_eq key (pos 3) ≡ b → cond b (Ok api.Metadata) (cond (int_eq key (pos 22)) (Ok api.InitProducerId) (Err UnknownApi)) ≡ given a → key ≡ key_of a
+    by_metadata true is e = equal key (pos 3) is ∙ ap key_of (given_is api.Metadata a e)
+    by_metadata false is e = by_init (int_eq key (pos 22)) refl e
+
+    by_produce : (b : Bool) → int_eq key (pos 0) ≡ b → cond b (Ok api.Produce) (cond (int_eq key (pos 3)) (Ok api.Metadata) (cond (int_eq key (pos 22)) (Ok api.InitProducerId) (Err UnknownApi))) ≡ given a → key ≡ key_of a
+    by_produce true is e = equal key (pos 0) is ∙ ap key_of (given_is api.Produce a e)
+    by_produce false is e = by_metadata (int_eq key (pos 3)) refl e
+
+api_again : (a : Api) → api_with (key_of a) ≡ Ok a
+unfolding api_with
+api_again api.Produce = refl
+api_again api.Metadata = refl
+api_again api.InitProducerId = refl
+
+key_fits : (a : Api) → FitsSigned w16 (key_of a)
+key_fits api.Produce = omega arith
+key_fits api.Metadata = omega arith
+key_fits api.InitProducerId = omega arith
+
+version_fits : (a : Api) → FitsSigned w16 (version_of a)
+version_fits api.Produce = omega arith
+version_fits api.Metadata = omega arith
+version_fits api.InitProducerId = omega arith
+
+abbrev announcement : Api → List ℕ
+announcement a = int16.spell (key_of a) ++ int16.spell (version_of a)
+
+is_true : (b : Bool) → not b ≡ false → b ≡ true
+is_true true e = refl
+is_true false e = absurd cc
+
+announced_takes : (bytes : List ℕ) (x : Api × List ℕ) → IsBytes bytes → announced bytes ≡ Ok x → Takes bytes (announcement x.0) x.1
+unfolding announced
+announced_takes bytes x fits e =
+    let key = in_message_ok (int16.read bytes) _ x e in
+    let a = bind_ok (api_with key.0.0) _ x key.2 in
+    let version = in_message_ok (int16.read key.0.1) _ x a.2 in
+    let known = refuse_ok (not (int_eq version.0.0 (version_of a.0))) UnknownVersion _ x version.2 in
+    let t = (int16_exact.takes bytes key.0 fits key.1).0 in
+    let u = (int16_exact.takes key.0.1 version.0 t.rest_fits version.1).0 in
+    let same : version.0.0 ≡ version_of a.0 = equal _ _ (is_true _ known.0) in
+    let T : ℤ → ℤ → Type 0 = λ k v. Takes bytes (int16.spell k ++ int16.spell v) version.0.1 in
+    let R : Api × List ℕ → Type 0 = λ y. Takes bytes (announcement y.0) y.1 in
+    let both = subst (λ (v : ℤ). T (key_of a.0) v) same (subst (λ (k : ℤ). T k version.0.0) (api_is key.0.0 a.0 a.1) (Takes-then bytes (int16.spell key.0.0) key.0.1 (int16.spell version.0.0) version.0.1 t u)) in
+    subst R (given_is (a.0, version.0.1) x known.1) both
+
+announced_again : (a : Api) (rest : List ℕ) → announced (int16.spell (key_of a) ++ (int16.spell (version_of a) ++ rest)) ≡ Ok (a, rest)
+unfolding announced
+announced_again a rest =
+    let same : int_eq (version_of a) (version_of a) ≡ true = (Decides-int_eq (version_of a) (version_of a)).1 refl in
+    rw (int16_exact.again (key_of a) (int16.spell (version_of a) ++ rest) (key_fits a) (omega arith), api_again a, int16_exact.again (version_of a) rest (version_fits a) (omega arith), same) refl
+
+-- ---- the request
+
+pub request_found : (bytes : List ℕ) (r : Request) → IsBytes bytes → request_at bytes ≡ Ok r → Spells bytes r
+unfolding request_at FitsRequest spelling
+request_found bytes r fits e =
+    let a = bind_ok (announced bytes) _ r e in
+    let m = in_message_ok ((known a.0.0).read a.0.1) _ r a.2 in
+    let w = whole_ok m.0.0 m.0.1 r m.2 in
+    let t = announced_takes bytes a.0 fits a.1 in
+    let u = (known_exact a.0.0).takes a.0.1 m.0 t.rest_fits m.1 in
+    let same : api_of m.0.0.body ≡ a.0.0 = is_of a.0.0 m.0.0 u.1 in
+    let parts : bytes ≡ announcement a.0.0 ++ (known a.0.0).spell m.0.0 =
+    t.parts ∙ ap (λ (s : List ℕ). announcement a.0.0 ++ s) (u.0.parts ∙ ap (λ (s : List ℕ). (known a.0.0).spell m.0.0 ++ s) w.0 ∙ append-nil ((known a.0.0).spell m.0.0)) in
+    let P : Api → Type 0 = λ k. (known k).Fits m.0.0 × (bytes ≡ int16.spell (key_of k) ++ (int16.spell (version_of k) ++ (known k).spell m.0.0)) in
+    let both : P (api_of m.0.0.body) = subst P (sym same) (u.1, parts ∙ append_assoc (int16.spell (key_of a.0.0)) (int16.spell (version_of a.0.0)) ((known a.0.0).spell m.0.0)) in
+    subst (Spells bytes) w.1 (record { fits = both.0; is_spelling = both.1 })
+
+-- behind the announcement stands the request
+spelled_behind : (r : Request) (rest : List ℕ) → spelling r ++ rest ≡ int16.spell (key_of (api_of r.body)) ++ (int16.spell (version_of (api_of r.body)) ++ ((known (api_of r.body)).spell r ++ rest))
+unfolding spelling
+spelled_behind r rest =
+    let a = api_of r.body in
+    append_assoc (int16.spell (key_of a)) (int16.spell (version_of a) ++ (known a).spell r) rest
+    ∙ ap (λ (s : List ℕ). int16.spell (key_of a) ++ s) (append_assoc (int16.spell (version_of a)) ((known a).spell r) rest)
+
+pub request_only : (bytes : List ℕ) (r : Request) → Spells bytes r → request_at bytes ≡ Ok r
+unfolding request_at FitsRequest
+request_only bytes r p =
+    let a = api_of r.body in
+    let all : bytes ≡ int16.spell (key_of a) ++ (int16.spell (version_of a) ++ ((known a).spell r ++ [])) = p.is_spelling ∙ sym (append-nil (spelling r)) ∙ spelled_behind r [] in
+    ap request_at all ∙ rw (announced_again a ((known a).spell r ++ []), (known_exact a).again r [] p.fits (omega arith)) refl
+
+pub request_one_spelling : (a b : Request) (x y rest : List ℕ) → Spells x a → Spells y b → y ≡ x ++ rest → (a ≡ b) × (rest ≡ [])
+unfolding FitsRequest
+request_one_spelling a b x y rest p q e =
+    let j = api_of a.body in
+    let k = api_of b.body in
+    let front : y ≡ int16.spell (key_of j) ++ (int16.spell (version_of j) ++ ((known j).spell a ++ rest)) = e ∙ ap (λ (s : List ℕ). s ++ rest) p.is_spelling ∙ spelled_behind a rest in
+    let back : y ≡ int16.spell (key_of k) ++ (int16.spell (version_of k) ++ ((known k).spell b ++ [])) = q.is_spelling ∙ sym (append-nil (spelling b)) ∙ spelled_behind b [] in
+    let both = given_is (j, (known j).spell a ++ rest) (k, (known k).spell b ++ []) (sym (announced_again j ((known j).spell a ++ rest)) ∙ ap announced (sym front ∙ back) ∙ announced_again k ((known k).spell b ++ [])) in
+    let same : j ≡ k = ap (λ (z : Api × List ℕ). z.0) both in
+    let P : Api → Type 0 = λ i. (known i).Fits b × ((known j).spell a ++ rest ≡ (known i).spell b ++ []) in
+    let there : P j = subst P (sym same) (q.fits, ap (λ (z : Api × List ℕ). z.1) both) in
+    one_spelling (known j) (known_exact j) a b rest [] p.fits there.0 there.1

@@ -1,0 +1,84 @@
+-- Responses are read as they are written.
+use Rattle.std.proofs.Common.{◌≡◌, ℕ, List, [], ◌++◌, Ok, refl, sym, ap, subst, ◌∙◌, arith}
+use Rattle.std.proofs.lemmas.List.{append-nil}
+use Rattle.kp_wire.proofs.ReadLemmas.{IsBytes, Takes}
+use Rattle.kp_wire.proofs.CodecLemmas.{IsExact, pair_exact, made_exact, one_spelling}
+use Rattle.kp_wire.proofs.FieldLemmas.{int32_exact}
+use Rattle.kp_frames.specs.declared.api.Api.{Api}
+use Rattle.kp_frames.specs.declared.api.Api.TheVariants as api
+use Rattle.kp_frames.specs.declared.response.Response.{Response}
+use Rattle.kp_frames.specs.declared.response.ResponseBody.{ResponseBody}
+use Rattle.kp_frames.specs.declared.response.ResponseBody.TheVariants.{Produce, Metadata, InitProducerId}
+use Rattle.kp_frames.specs.Produce.{produce_response}
+use Rattle.kp_frames.specs.Metadata.{metadata_response}
+use Rattle.kp_frames.specs.ProducerId.{init_producer_id_response}
+use Rattle.kp_frames.specs.Response.{api_of, FitsBody, spell_body, read_body, body, answer, FitsResponse, spelling, Spells, response_at}
+use Rattle.kp_frames.proofs.MessageLemmas.{produce_response_exact, metadata_response_exact, init_producer_id_response_exact}
+use Rattle.kp_frames.proofs.FaultLemmas.{in_message_ok, whole_ok, variant_takes}
+
+-- ---- the body
+
+body_takes : (a : Api) (bytes : List ℕ) (x : ResponseBody × List ℕ) → IsBytes bytes → read_body a bytes ≡ Ok x → Takes bytes (spell_body x.0) x.1 × ((api_of x.0 ≡ a) × FitsBody x.0)
+body_takes api.Produce bytes x fits e =
+    variant_takes produce_response Produce (λ b rest. Takes bytes (spell_body b) rest × ((api_of b ≡ api.Produce) × FitsBody b)) bytes x produce_response_exact fits (λ r rest t f. (t, (refl, f))) e
+body_takes api.Metadata bytes x fits e =
+    variant_takes metadata_response Metadata (λ b rest. Takes bytes (spell_body b) rest × ((api_of b ≡ api.Metadata) × FitsBody b)) bytes x metadata_response_exact fits (λ r rest t f. (t, (refl, f))) e
+body_takes api.InitProducerId bytes x fits e =
+    variant_takes init_producer_id_response InitProducerId (λ b rest. Takes bytes (spell_body b) rest × ((api_of b ≡ api.InitProducerId) × FitsBody b)) bytes x init_producer_id_response_exact fits (λ r rest t f. (t, (refl, f))) e
+
+body_again : (b : ResponseBody) (rest : List ℕ) → FitsBody b → read_body (api_of b) (spell_body b ++ rest) ≡ Ok (b, rest)
+body_again (Produce r) rest fits = rw (produce_response_exact.again r rest fits (omega arith)) refl
+body_again (Metadata r) rest fits = rw (metadata_response_exact.again r rest fits (omega arith)) refl
+body_again (InitProducerId r) rest fits = rw (init_producer_id_response_exact.again r rest fits (omega arith)) refl
+
+body_exact : (a : Api) → IsExact 0 (body a)
+unfolding body
+body_exact a = record {
+  takes = body_takes a;
+  again = λ b rest fits behind.
+      let R : Api → Type 0 = λ k. read_body k (spell_body b ++ rest) ≡ Ok (b, rest) in
+      subst R fits.0 (body_again b rest fits.1);
+}
+
+answer_exact : (a : Api) → IsExact 0 (answer a)
+unfolding answer
+answer_exact a = made_exact 0 _ _ _ (λ _. refl) (λ _. refl) (pair_exact 0 _ _ int32_exact (body_exact a))
+
+-- ---- the response
+
+-- the body is one of the api
+is_of : (a : Api) (r : Response) → (answer a).Fits r → api_of r.body ≡ a
+unfolding answer body
+is_of a r fits = fits.1.0
+
+-- the response as one of this api
+of_api : (a : Api) (bytes : List ℕ) (r : Response) → Spells a bytes r → (answer a).Fits r × (bytes ≡ (answer a).spell r)
+unfolding FitsResponse spelling
+of_api a bytes r p =
+    let P : Api → Type 0 = λ k. (answer k).Fits r × (bytes ≡ (answer k).spell r) in
+    subst P p.is_of (p.fits, p.is_spelling)
+
+pub response_found : (a : Api) (bytes : List ℕ) (r : Response) → IsBytes bytes → response_at a bytes ≡ Ok r → Spells a bytes r
+unfolding response_at FitsResponse spelling
+response_found a bytes r fits e =
+    let m = in_message_ok ((answer a).read bytes) _ r e in
+    let w = whole_ok m.0.0 m.0.1 r m.2 in
+    let t = (answer_exact a).takes bytes m.0 fits m.1 in
+    let same : api_of m.0.0.body ≡ a = is_of a m.0.0 t.1 in
+    let parts : bytes ≡ (answer a).spell m.0.0 = t.0.parts ∙ ap (λ (s : List ℕ). (answer a).spell m.0.0 ++ s) w.0 ∙ append-nil ((answer a).spell m.0.0) in
+    let P : Api → Type 0 = λ k. (answer k).Fits m.0.0 × (bytes ≡ (answer k).spell m.0.0) in
+    let both : P (api_of m.0.0.body) = subst P (sym same) (t.1, parts) in
+    subst (Spells a bytes) w.1 (record { is_of = same; fits = both.0; is_spelling = both.1 })
+
+pub response_only : (a : Api) (bytes : List ℕ) (r : Response) → Spells a bytes r → response_at a bytes ≡ Ok r
+unfolding response_at
+response_only a bytes r p =
+    let q = of_api a bytes r p in
+    let all : bytes ≡ (answer a).spell r ++ [] = q.1 ∙ sym (append-nil ((answer a).spell r)) in
+    ap (response_at a) all ∙ rw ((answer_exact a).again r [] q.0 (omega arith)) refl
+
+pub response_one_spelling : (k : Api) (a b : Response) (x y rest : List ℕ) → Spells k x a → Spells k y b → y ≡ x ++ rest → (a ≡ b) × (rest ≡ [])
+response_one_spelling k a b x y rest p q e =
+    let f = of_api k x a p in
+    let g = of_api k y b q in
+    one_spelling (answer k) (answer_exact k) a b rest [] f.0 g.0 (ap (λ (s : List ℕ). s ++ rest) (sym f.1) ∙ sym e ∙ g.1 ∙ sym (append-nil ((answer k).spell b)))
