@@ -1,10 +1,10 @@
+mod fields;
 mod hash;
+mod string;
 
 use super::*;
 use std::alloc::Global;
 use std::test::Fail;
-
-mod string;
 
 /// RFC 3720, appendix B.4, and the check value of the CRC catalogues.
 #[test]

@@ -1,5 +1,4 @@
-use Rattle.std.proofs.Common.{arith, length, refl}
-use Rattle.std.specs.List.{flat_map}
+use Rattle.std.proofs.Common.{arith}
 use Rattle.kp_wire.specs.Fields.{spell_array, FitsArray}
 use Rattle.kp_wire.proofs.array.size_of_array.Goals as goal
 
