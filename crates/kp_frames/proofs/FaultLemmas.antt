@@ -1,14 +1,19 @@
 -- Steps of reading a message that did not fail.
 use Rattle.std.proofs.Common.{◌≡◌, ℕ, Bool, true, false, List, [], ◌∷◌, Result, Ok, Err, refl, sym, subst, ◌∙◌}
-use Rattle.std.specs.Prelude.{IfOk, MatchResult}
+use Rattle.std.specs.Prelude.{IfOk, IfErr, MatchResult}
 use Rattle.kp_wire.specs.declared.fault.WireFault.{WireFault}
+use Rattle.kp_wire.specs.declared.fault.WireFault.TheVariants as field
+use Rattle.kp_wire.specs.Fields.{IsFieldFault}
 use Rattle.kp_wire.specs.Reading.{◌>>=◌}
 use Rattle.kp_wire.specs.Codec.{Codec}
 use Rattle.kp_wire.proofs.ReadLemmas.{IsBytes, Takes, bind_ok, ok_is}
 use Rattle.kp_wire.proofs.CodecLemmas.{IsExact}
 use Rattle.kp_frames.specs.declared.fault.FrameFault.{FrameFault}
 use Rattle.kp_frames.specs.declared.fault.FrameFault.TheVariants.{Short, Trailing, UnknownApi, UnknownVersion, Wire, TooLarge, OutOfMemory, Mismatch}
-use Rattle.kp_frames.specs.Fault.{in_message, refuse, whole, Answers, Refuses}
+use Rattle.kp_frames.specs.Fault.{of_wire, in_message, refuse, whole, Answers, Refuses, IsContentFault}
+
+abbrev pub wrong : {A : Type 0} → FrameFault → Result A FrameFault
+wrong fault = Err fault
 
 abbrev pub given : {A : Type 0} → A → Result A FrameFault
 given x = Ok x
@@ -59,3 +64,49 @@ refused_only begun Mismatch read x r e = absurd (no_fault Mismatch x (sym r ∙ 
 pub answered_only : {X : Type 0} (begun : Type 0) (x : X) (result read : Result X FrameFault) → Answers begun (λ x. x) result read → read ≡ Ok x → MatchResult result (λ y. y ≡ x) (λ fault. fault ≡ OutOfMemory)
 answered_only begun x (Ok y) read a e = given_is y x (sym a ∙ e)
 answered_only begun x (Err fault) read a e = refused_only begun fault read x a e
+
+-- ---- which faults come
+
+error_is : {A : Type 0} (f g : FrameFault) → wrong {A = A} f ≡ wrong g → f ≡ g
+error_is f g e = cc
+
+pub is_error : {A : Type 0} (P : FrameFault → Type 0) (f g : FrameFault) → P f → wrong {A = A} f ≡ wrong g → P g
+is_error P f g h e = subst P (error_is f g e) h
+
+-- a field's fault as the message's
+carried : (P : FrameFault → Type 0) → ((f : FrameFault) → IsContentFault f → P f) → (w : WireFault) → IsFieldFault w → P (of_wire w)
+carried P content field.Short h = content Short tt
+carried P content field.TooLarge h = absurd h
+carried P content field.NotShortest h = absurd h
+carried P content field.NotUtf8 h = content (Wire field.NotUtf8) tt
+carried P content field.BadLength h = content (Wire field.BadLength) tt
+carried P content field.BadByte h = content (Wire field.BadByte) tt
+
+-- a step of reading fields, and what follows it
+pub in_message_err : {A B : Type 0} (P : FrameFault → Type 0) (r : Result A WireFault) (next : A → Result B FrameFault) (f : FrameFault)
+    → ((g : FrameFault) → IsContentFault g → P g) → ((w : WireFault) → r ≡ Err w → IsFieldFault w) → ((x : A) → next x ≡ Err f → P f) → (in_message r >>= next) ≡ Err f → P f
+in_message_err P (Ok x) next f content faults holds e = holds x e
+in_message_err P (Err w) next f content faults holds e = is_error P (of_wire w) f (carried P content w (faults w refl)) e
+
+pub refuse_err : {B : Type 0} (P : FrameFault → Type 0) (applies : Bool) (fault : FrameFault) (next : Unit {0} → Result B FrameFault) (f : FrameFault)
+    → P fault → (next tt ≡ Err f → P f) → (refuse applies fault >>= next) ≡ Err f → P f
+refuse_err P true fault next f here holds e = is_error P fault f here e
+refuse_err P false fault next f here holds e = holds e
+
+pub whole_err : {A : Type 0} (P : FrameFault → Type 0) (x : A) (rest : List ℕ) (f : FrameFault) → P Trailing → whole x rest ≡ Err f → P f
+whole_err P x [] f here e = absurd (no_fault f x (sym e))
+whole_err P x (b ∷ rest) f here e = is_error P Trailing f here e
+
+refused_fault : {X : Type 0} (P : FrameFault → Type 0) (begun : Type 0) (fault : FrameFault) (read : Result X FrameFault) → P OutOfMemory → ((f : FrameFault) → read ≡ Err f → P f) → Refuses begun fault read → P fault
+refused_fault P begun OutOfMemory read memory holds r = memory
+refused_fault P begun Short read memory holds r = holds Short r
+refused_fault P begun Trailing read memory holds r = holds Trailing r
+refused_fault P begun UnknownApi read memory holds r = holds UnknownApi r
+refused_fault P begun UnknownVersion read memory holds r = holds UnknownVersion r
+refused_fault P begun (Wire w) read memory holds r = holds (Wire w) r
+refused_fault P begun TooLarge read memory holds r = holds TooLarge r
+refused_fault P begun Mismatch read memory holds r = holds Mismatch r
+
+pub answered_fault : {X : Type 0} (P : FrameFault → Type 0) (begun : Type 0) (result read : Result X FrameFault) → P OutOfMemory → ((f : FrameFault) → read ≡ Err f → P f) → Answers begun (λ x. x) result read → IfErr result P
+answered_fault P begun (Ok x) read memory holds a = tt
+answered_fault P begun (Err fault) read memory holds a = refused_fault P begun fault read memory holds a

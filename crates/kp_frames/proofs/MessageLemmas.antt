@@ -1,10 +1,11 @@
 -- Messages are read as they are written.
-use Rattle.std.proofs.Common.{refl}
+use Rattle.std.proofs.Common.{◌≡◌, ℕ, List, refl}
 use Rattle.kp_wire.specs.Fields.{int32}
 use Rattle.kp_wire.specs.Strings.{string}
 use Rattle.kp_wire.proofs.CodecLemmas.{IsExact, pair_exact, made_exact}
 use Rattle.kp_wire.proofs.StringLemmas.{string_exact, nullable_string_exact}
 use Rattle.kp_wire.proofs.FieldLemmas.{int16_exact, int32_exact, int64_exact, boolean_exact, records_exact, array_of_exact, nullable_array_of_exact}
+use Rattle.kp_wire.proofs.FieldFaultLemmas.{HasFieldFaults, made_faults, pair_faults, int16_faults, int32_faults, int64_faults, string_faults, nullable_string_faults, boolean_faults, records_faults, array_faults, nullable_array_faults}
 use Rattle.kp_frames.specs.Produce.{partition_data, topic_data, produce_request, partition_response, topic_response, produce_response}
 use Rattle.kp_frames.specs.Metadata.{metadata_request, broker, partition_metadata, topic_metadata, metadata_response}
 use Rattle.kp_frames.specs.ProducerId.{init_producer_id_request, init_producer_id_response}
@@ -68,3 +69,57 @@ init_producer_id_request_exact = made_exact 0 _ _ _ (λ _. refl) (λ _. refl) (p
 pub init_producer_id_response_exact : IsExact 0 init_producer_id_response
 unfolding init_producer_id_response
 init_producer_id_response_exact = made_exact 0 _ _ _ (λ _. refl) (λ _. refl) (pair_exact 0 _ _ int32_exact (pair_exact 0 _ _ int16_exact (pair_exact 0 _ _ int64_exact int16_exact)))
+
+-- ---- which faults come
+
+partition_data_faults : HasFieldFaults partition_data.read
+unfolding partition_data
+partition_data_faults = made_faults _ _ (pair_faults int32_faults records_faults)
+
+topic_data_faults : HasFieldFaults topic_data.read
+unfolding topic_data
+topic_data_faults = made_faults _ _ (pair_faults string_faults (array_faults partition_data_faults))
+
+pub produce_request_faults : HasFieldFaults produce_request.read
+unfolding produce_request
+produce_request_faults = made_faults _ _ (pair_faults nullable_string_faults (pair_faults int16_faults (pair_faults int32_faults (array_faults topic_data_faults))))
+
+partition_response_faults : HasFieldFaults partition_response.read
+unfolding partition_response
+partition_response_faults = made_faults _ _ (pair_faults int32_faults (pair_faults int16_faults (pair_faults int64_faults int64_faults)))
+
+topic_response_faults : HasFieldFaults topic_response.read
+unfolding topic_response
+topic_response_faults = made_faults _ _ (pair_faults string_faults (array_faults partition_response_faults))
+
+pub produce_response_faults : HasFieldFaults produce_response.read
+unfolding produce_response
+produce_response_faults = made_faults _ _ (pair_faults (array_faults topic_response_faults) int32_faults)
+
+pub metadata_request_faults : HasFieldFaults metadata_request.read
+unfolding metadata_request
+metadata_request_faults = made_faults _ _ (nullable_array_faults string_faults)
+
+broker_faults : HasFieldFaults broker.read
+unfolding broker
+broker_faults = made_faults _ _ (pair_faults int32_faults (pair_faults string_faults (pair_faults int32_faults nullable_string_faults)))
+
+partition_metadata_faults : HasFieldFaults partition_metadata.read
+unfolding partition_metadata
+partition_metadata_faults = made_faults _ _ (pair_faults int16_faults (pair_faults int32_faults (pair_faults int32_faults (pair_faults (array_faults int32_faults) (array_faults int32_faults)))))
+
+topic_metadata_faults : HasFieldFaults topic_metadata.read
+unfolding topic_metadata
+topic_metadata_faults = made_faults _ _ (pair_faults int16_faults (pair_faults string_faults (pair_faults boolean_faults (array_faults partition_metadata_faults))))
+
+pub metadata_response_faults : HasFieldFaults metadata_response.read
+unfolding metadata_response
+metadata_response_faults = made_faults _ _ (pair_faults (array_faults broker_faults) (pair_faults int32_faults (array_faults topic_metadata_faults)))
+
+pub init_producer_id_request_faults : HasFieldFaults init_producer_id_request.read
+unfolding init_producer_id_request
+init_producer_id_request_faults = made_faults _ _ (pair_faults nullable_string_faults int32_faults)
+
+pub init_producer_id_response_faults : HasFieldFaults init_producer_id_response.read
+unfolding init_producer_id_response
+init_producer_id_response_faults = made_faults _ _ (pair_faults int32_faults (pair_faults int16_faults (pair_faults int64_faults int16_faults)))

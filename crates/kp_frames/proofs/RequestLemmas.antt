@@ -15,14 +15,17 @@ use Rattle.kp_frames.specs.declared.api.Api.TheVariants as api
 use Rattle.kp_frames.specs.declared.request.Request.{Request}
 use Rattle.kp_frames.specs.declared.request.RequestBody.{RequestBody}
 use Rattle.kp_frames.specs.declared.request.RequestBody.TheVariants.{Produce, Metadata, InitProducerId}
-use Rattle.kp_frames.specs.declared.fault.FrameFault.TheVariants.{UnknownApi, UnknownVersion}
+use Rattle.kp_frames.specs.declared.fault.FrameFault.TheVariants.{Short, Trailing, UnknownApi, UnknownVersion, Wire, TooLarge, OutOfMemory, Mismatch}
 use Rattle.kp_frames.specs.Api.{key_of, version_of, api_with}
 use Rattle.kp_frames.specs.Produce.{produce_request}
 use Rattle.kp_frames.specs.Metadata.{metadata_request}
 use Rattle.kp_frames.specs.ProducerId.{init_producer_id_request}
 use Rattle.kp_frames.specs.Request.{api_of, FitsBody, spell_body, read_body, body, known, FitsRequest, spelling, Spells, announced, request_at}
 use Rattle.kp_frames.proofs.MessageLemmas.{produce_request_exact, metadata_request_exact, init_producer_id_request_exact}
-use Rattle.kp_frames.proofs.FaultLemmas.{given, given_is, in_message_ok, refuse_ok, whole_ok, variant_takes}
+use Rattle.kp_frames.specs.Fault.{IsContentFault, IsRequestFault}
+use Rattle.kp_wire.proofs.FieldFaultLemmas.{HasFieldFaults, made_faults, pair_faults, bind_err, int16_faults, int32_faults, nullable_string_faults}
+use Rattle.kp_frames.proofs.MessageLemmas.{produce_request_faults, metadata_request_faults, init_producer_id_request_faults}
+use Rattle.kp_frames.proofs.FaultLemmas.{wrong, no_fault, is_error, in_message_err, refuse_err, whole_err, given, given_is, in_message_ok, refuse_ok, whole_ok, variant_takes}
 use Rattle.kp_wire.proofs.ReadLemmas.{bind_ok}
 
 -- ---- the body
@@ -167,3 +170,60 @@ request_one_spelling a b x y rest p q e =
     let P : Api → Type 0 = λ i. (known i).Fits b × ((known j).spell a ++ rest ≡ (known i).spell b ++ []) in
     let there : P j = subst P (sym same) (q.fits, ap (λ (z : Api × List ℕ). z.1) both) in
     one_spelling (known j) (known_exact j) a b rest [] p.fits there.0 there.1
+
+-- ---- which faults come
+
+body_faults : (a : Api) → HasFieldFaults (read_body a)
+body_faults api.Produce = made_faults produce_request.read Produce produce_request_faults
+body_faults api.Metadata = made_faults metadata_request.read Metadata metadata_request_faults
+body_faults api.InitProducerId = made_faults init_producer_id_request.read InitProducerId init_producer_id_request_faults
+
+known_faults : (a : Api) → HasFieldFaults (known a).read
+unfolding known body
+known_faults a = made_faults _ _ (pair_faults int32_faults (pair_faults nullable_string_faults (body_faults a)))
+
+of_content : (f : FrameFault) → IsContentFault f → IsRequestFault f
+of_content Short h = h
+of_content Trailing h = h
+of_content UnknownApi h = tt
+of_content UnknownVersion h = tt
+of_content (Wire w) h = h
+of_content TooLarge h = h
+of_content OutOfMemory h = h
+of_content Mismatch h = h
+
+api_fault : (key : ℤ) (f : FrameFault) → api_with key ≡ Err f → IsRequestFault f
+unfolding api_with
+api_fault key f e = by_produce (int_eq key (pos 0)) e
+  where
+    by_init : (b : Bool) → cond b (given api.InitProducerId) (Err UnknownApi) ≡ wrong f → IsRequestFault f
+    by_init true e = absurd (no_fault f api.InitProducerId (sym e))
+    by_init false e = is_error {A = Api} IsRequestFault UnknownApi f tt e
+    by_metadata : (b : Bool) → cond b (given api.Metadata) (cond (int_eq key (pos 22)) (Ok api.InitProducerId) (Err UnknownApi)) ≡ wrong f → IsRequestFault f
+    by_metadata true e = absurd (no_fault f api.Metadata (sym e))
+    by_metadata false e = by_init (int_eq key (pos 22)) e
+    by_produce : (b : Bool) → cond b (given api.Produce) (cond (int_eq key (pos 3)) (Ok api.Metadata) (cond (int_eq key (pos 22)) (Ok api.InitProducerId) (Err UnknownApi))) ≡ wrong f → IsRequestFault f
+    by_produce true e = absurd (no_fault f api.Produce (sym e))
+    by_produce false e = by_metadata (int_eq key (pos 3)) e
+
+announced_fault : (bytes : List ℕ) (f : FrameFault) → announced bytes ≡ Err f → IsRequestFault f
+unfolding announced
+announced_fault bytes f e =
+    in_message_err IsRequestFault (int16.read bytes) _ f of_content (int16_faults bytes)
+    (λ key e. elim (bind_err (api_with key.0) _ f e) [
+      | inl first ↦ api_fault key.0 f first
+      | inr second ↦
+          in_message_err IsRequestFault (int16.read key.1) _ f of_content (int16_faults key.1)
+          (λ version e. refuse_err IsRequestFault (not (int_eq version.0 (version_of second.0))) UnknownVersion _ f tt
+          (λ e. absurd (no_fault f (second.0, version.1) (sym e))) e) second.2
+    ]) e
+
+pub request_fault : (bytes : List ℕ) (f : FrameFault) → request_at bytes ≡ Err f → IsRequestFault f
+unfolding request_at
+request_fault bytes f e =
+    elim (bind_err (announced bytes) _ f e) [
+      | inl first ↦ announced_fault bytes f first
+      | inr second ↦
+          in_message_err IsRequestFault ((known second.0.0).read second.0.1) _ f of_content (known_faults second.0.0 second.0.1)
+          (λ r e. whole_err IsRequestFault r.0 r.1 f tt e) second.2
+    ]

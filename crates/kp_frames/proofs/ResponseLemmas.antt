@@ -1,5 +1,5 @@
 -- Responses are read as they are written.
-use Rattle.std.proofs.Common.{◌≡◌, ℕ, List, [], ◌++◌, Ok, refl, sym, ap, subst, ◌∙◌, arith}
+use Rattle.std.proofs.Common.{◌≡◌, ℕ, List, [], ◌++◌, Ok, Err, refl, sym, ap, subst, ◌∙◌, arith}
 use Rattle.std.proofs.lemmas.List.{append-nil}
 use Rattle.kp_wire.proofs.ReadLemmas.{IsBytes, Takes}
 use Rattle.kp_wire.proofs.CodecLemmas.{IsExact, pair_exact, made_exact, one_spelling}
@@ -14,7 +14,11 @@ use Rattle.kp_frames.specs.Metadata.{metadata_response}
 use Rattle.kp_frames.specs.ProducerId.{init_producer_id_response}
 use Rattle.kp_frames.specs.Response.{api_of, FitsBody, spell_body, read_body, body, answer, FitsResponse, spelling, Spells, response_at}
 use Rattle.kp_frames.proofs.MessageLemmas.{produce_response_exact, metadata_response_exact, init_producer_id_response_exact}
-use Rattle.kp_frames.proofs.FaultLemmas.{in_message_ok, whole_ok, variant_takes}
+use Rattle.kp_frames.specs.declared.fault.FrameFault.{FrameFault}
+use Rattle.kp_frames.specs.Fault.{IsContentFault}
+use Rattle.kp_wire.proofs.FieldFaultLemmas.{HasFieldFaults, made_faults, pair_faults, int32_faults}
+use Rattle.kp_frames.proofs.MessageLemmas.{produce_response_faults, metadata_response_faults, init_producer_id_response_faults}
+use Rattle.kp_frames.proofs.FaultLemmas.{in_message_err, whole_err, in_message_ok, whole_ok, variant_takes}
 
 -- ---- the body
 
@@ -82,3 +86,20 @@ response_one_spelling k a b x y rest p q e =
     let f = of_api k x a p in
     let g = of_api k y b q in
     one_spelling (answer k) (answer_exact k) a b rest [] f.0 g.0 (ap (λ (s : List ℕ). s ++ rest) (sym f.1) ∙ sym e ∙ g.1 ∙ sym (append-nil ((answer k).spell b)))
+
+-- ---- which faults come
+
+body_faults : (a : Api) → HasFieldFaults (read_body a)
+body_faults api.Produce = made_faults produce_response.read Produce produce_response_faults
+body_faults api.Metadata = made_faults metadata_response.read Metadata metadata_response_faults
+body_faults api.InitProducerId = made_faults init_producer_id_response.read InitProducerId init_producer_id_response_faults
+
+answer_faults : (a : Api) → HasFieldFaults (answer a).read
+unfolding answer body
+answer_faults a = made_faults _ _ (pair_faults int32_faults (body_faults a))
+
+pub response_fault : (a : Api) (bytes : List ℕ) (f : FrameFault) → response_at a bytes ≡ Err f → IsContentFault f
+unfolding response_at
+response_fault a bytes f e =
+    in_message_err IsContentFault ((answer a).read bytes) _ f (λ g h. h) (answer_faults a bytes)
+    (λ r e. whole_err IsContentFault r.0 r.1 f tt e) e

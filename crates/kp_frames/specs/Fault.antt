@@ -5,7 +5,7 @@ use Rattle.kp_wire.specs.declared.fault.WireFault.TheVariants as field
 use Rattle.kp_wire.specs.declared.fault.ReadError.{ReadError}
 use Rattle.kp_wire.specs.declared.fault.ReadError.TheVariants as read
 use Rattle.kp_frames.specs.declared.fault.FrameFault.{FrameFault}
-use Rattle.kp_frames.specs.declared.fault.FrameFault.TheVariants.{Short, Trailing, Wire, OutOfMemory}
+use Rattle.kp_frames.specs.declared.fault.FrameFault.TheVariants.{Short, Trailing, UnknownApi, UnknownVersion, Wire, TooLarge, OutOfMemory, Mismatch}
 
 -- an input that ends within a field is a short message; any other fault is the field's
 abbrev pub of_wire : WireFault → FrameFault
@@ -45,3 +45,31 @@ Refuses begun fault read = read ≡ Err fault
 abbrev pub Answers : {X Y : Type 0} → Type 0 → (X → Y) → Result X FrameFault → Result Y FrameFault → Type 0
 Answers begun view (Ok x) read = read ≡ Ok (view x)
 Answers begun view (Err fault) read = Refuses begun fault read
+
+-- ---- which faults come
+
+-- the faults of a field that a message's fault carries
+abbrev pub IsCarried : WireFault → Type 0
+IsCarried field.Short = ⊥
+IsCarried field.TooLarge = ⊥
+IsCarried field.NotShortest = ⊥
+IsCarried field.NotUtf8 = Unit {0}
+IsCarried field.BadLength = Unit {0}
+IsCarried field.BadByte = Unit {0}
+
+-- the faults of reading fields that are all of a content
+abbrev pub IsContentFault : FrameFault → Type 0
+IsContentFault Short = Unit {0}
+IsContentFault Trailing = Unit {0}
+IsContentFault UnknownApi = ⊥
+IsContentFault UnknownVersion = ⊥
+IsContentFault (Wire fault) = IsCarried fault
+IsContentFault TooLarge = ⊥
+IsContentFault OutOfMemory = Unit {0}
+IsContentFault Mismatch = ⊥
+
+-- the same, behind an api and its version
+abbrev pub IsRequestFault : FrameFault → Type 0
+IsRequestFault UnknownApi = Unit {0}
+IsRequestFault UnknownVersion = Unit {0}
+IsRequestFault fault = IsContentFault fault

@@ -1,9 +1,9 @@
 //! Requests: what stands before a body, and the body of an api (protocol guide, "Request Header v1").
 
-ghost use Rattle.std.specs.Prelude.{◌≡◌, List, ℕ, IfOk, IsOk, IsErrOf, MatchResult, length};
+ghost use Rattle.std.specs.Prelude.{◌≡◌, List, ℕ, IfOk, IfErr, IsOk, IsErrOf, MatchResult, length};
 ghost use Rattle.kp_wire.specs.Reading.{IsRead, Gives};
 ghost use Rattle.kp_frames.specs.declared.request.Request.{Request as RequestValue};
-ghost use Rattle.kp_frames.specs.Fault.{Answers};
+ghost use Rattle.kp_frames.specs.Fault.{Answers, IsRequestFault};
 ghost use Rattle.kp_frames.specs.Writing.{IsFrame};
 ghost use Rattle.kp_frames.specs.Request.{api_of, body, known, FitsRequest, spelling, Spells, announced, request_at};
 
@@ -184,6 +184,9 @@ pub fn read_request(alloc: Global, bytes: &[u8]) -> Result<Request, FrameFault>
     // What is spelled so is read, unless memory is refused.
     ensures only { (r : RequestValue) → Spells bytes.now r
         → MatchResult result (λ x. x ≡ r) (λ fault. fault ≡ FrameFault.OutOfMemory) }
+
+    // Which faults come.
+    ensures faults { IfErr result IsRequestFault }
 
     // Which fault it is.
     ensures exact { Answers (IsOk (announced bytes.now)) (λ r. r) result (request_at bytes.now) }

@@ -1,10 +1,10 @@
 //! Responses: the correlation id of a request, and the body of its api (protocol guide, "Response Header v0").
 
-ghost use Rattle.std.specs.Prelude.{◌≡◌, List, ℕ, IfOk, IsOk, MatchResult, length};
+ghost use Rattle.std.specs.Prelude.{◌≡◌, List, ℕ, IfOk, IfErr, IsOk, MatchResult, length};
 ghost use Rattle.kp_wire.specs.Reading.{Gives};
 ghost use Rattle.kp_wire.specs.Fields.{int32};
 ghost use Rattle.kp_frames.specs.declared.response.Response.{Response as ResponseValue};
-ghost use Rattle.kp_frames.specs.Fault.{Answers};
+ghost use Rattle.kp_frames.specs.Fault.{Answers, IsContentFault};
 ghost use Rattle.kp_frames.specs.Writing.{IsFrame};
 ghost use Rattle.kp_frames.specs.Response.{api_of, body, answer, FitsResponse, spelling, Spells, response_at};
 
@@ -140,6 +140,9 @@ pub fn read_response(alloc: Global, api: Api, bytes: &[u8]) -> Result<Response, 
     // What is spelled so is read, unless memory is refused.
     ensures only { (r : ResponseValue) → Spells api bytes.now r
         → MatchResult result (λ x. x ≡ r) (λ fault. fault ≡ FrameFault.OutOfMemory) }
+
+    // Which faults come.
+    ensures faults { IfErr result IsContentFault }
 
     // Which fault it is.
     ensures exact { Answers (IsOk (int32.read bytes.now)) (λ r. r) result (response_at api bytes.now) }

@@ -11,3 +11,4 @@ pub mod TextLemmas
 pub mod ManyLemmas
 pub mod HashLemmas
 pub mod FieldLemmas
+pub mod FieldFaultLemmas

@@ -2,9 +2,19 @@
 use Rattle.std.specs.Prelude.{ℕ, zero, suc, List, [], ◌∷◌, ◌++◌, length, ℤ, pos, negsuc, Option, Some, None, Ok, Err, Bool, true, false, if◌then◌else◌}
 use Rattle.std.specs.Int.{w16, w32, w64}
 use Rattle.std.specs.List.{flat_map, AllByRecursion}
-use Rattle.kp_wire.specs.declared.fault.WireFault.TheVariants.{Short, BadByte}
+use Rattle.kp_wire.specs.declared.fault.WireFault.{WireFault}
+use Rattle.kp_wire.specs.declared.fault.WireFault.TheVariants.{Short, TooLarge, NotShortest, NotUtf8, BadLength, BadByte}
 use Rattle.kp_wire.specs.Reading.{Read, ◌>>=◌}
 use Rattle.kp_wire.specs.Codec.{Codec, int, sized, plain, read_many, by_length, by_nullable_length}
+
+-- a fault that the fields below have
+abbrev pub IsFieldFault : WireFault → Type 0
+IsFieldFault Short = Unit {0}
+IsFieldFault TooLarge = ⊥
+IsFieldFault NotShortest = ⊥
+IsFieldFault NotUtf8 = Unit {0}
+IsFieldFault BadLength = Unit {0}
+IsFieldFault BadByte = Unit {0}
 
 abbrev pub int16 : Codec ℤ
 int16 = int w16
