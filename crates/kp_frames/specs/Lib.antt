@@ -1,2 +1,4 @@
 pub mod Fault
 pub mod Stream
+pub mod Life
+pub mod Held

@@ -4,6 +4,8 @@
 
 mod fault;
 mod frame;
+mod splitter;
 
 pub use fault::FrameFault;
 pub use frame::CONTENT_LIMIT;
+pub use splitter::Splitter;
