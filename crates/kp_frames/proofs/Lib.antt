@@ -1,2 +1,3 @@
 pub mod StreamLemmas
 pub mod HeldLemmas
+pub mod LawLemmas

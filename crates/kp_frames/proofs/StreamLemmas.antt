@@ -379,6 +379,12 @@ pub kept_open : (bytes : List ℕ) → is_faulty bytes ≡ false → kept bytes 
 unfolding kept
 kept_open bytes e = rw e refl
 
+kept_rest : (rest : List ℕ) → stream rest ≡ record { frames = []; rest = rest } → kept rest ≡ cond (is_faulty rest) (take 4 rest) rest
+unfolding kept
+kept_rest rest e =
+    let n : length rest - length (stream rest).rest + 4 ≡ 4 = omega (arith, ap (λ (s : Split). length s.rest) e) in
+    ap (λ (k : ℕ). cond (is_faulty rest) (take k rest) rest) n
+
 -- The bytes are these frames and the size of no frame, and what stands behind it.
 pub record Stops (bytes : List ℕ) (frames : List (List ℕ)) : Type 0 where
   pub front : List ℕ
@@ -491,6 +497,16 @@ keeps bytes =
             rest = ap (λ (t : List ℕ). (stream t).rest) same ∙ sym (rw e refl);
           }
     ]
+
+-- what is kept behind the frames
+pub kept_parts : (bytes : List ℕ) → kept bytes ≡ (parts_of bytes).front ++ cond (is_faulty bytes) (take 4 (stream bytes).rest) (stream bytes).rest
+kept_parts bytes =
+    let p = parts_of bytes in
+    let rest = (stream bytes).rest in
+    let alone = stays rest p.no_more in
+    let same : is_faulty rest ≡ is_faulty bytes = faulty_so rest bytes (ap (λ (s : Split). s.rest) alone) in
+    ap kept p.parts ∙ kept_behind p.front (stream bytes).frames rest p.passes ∙ ap (λ (t : List ℕ). p.front ++ t) (kept_rest rest alone)
+    ∙ ap (λ (b : Bool). p.front ++ cond b (take 4 rest) rest) same
 
 -- ---- pieces of a stream
 

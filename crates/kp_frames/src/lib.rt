@@ -4,6 +4,7 @@
 
 mod fault;
 mod frame;
+pub mod laws;
 mod splitter;
 
 pub use fault::FrameFault;
