@@ -10,3 +10,6 @@ mod splitter;
 pub use fault::FrameFault;
 pub use frame::CONTENT_LIMIT;
 pub use splitter::Splitter;
+
+#[cfg(test)]
+mod tests;
