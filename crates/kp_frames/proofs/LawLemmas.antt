@@ -1,13 +1,13 @@
 -- Laws of a stream's frames, over bytes.
-use Rattle.std.proofs.Common.{◌≡◌, ℕ, ◌<◌, ◌^◌, Bool, true, false, cond, List, [], ◌++◌, length, take, refl, sym, ap, ◌∙◌, inl, inr, append_assoc, arith}
+use Rattle.std.proofs.Common.{◌≡◌, ℕ, ◌<◌, ◌^◌, cond, List, [], ◌++◌, length, take, ap, ◌∙◌, inl, inr, arith}
 use Rattle.std.specs.Prelude.{All}
 use Rattle.std.specs.List.{flat_map}
 use Rattle.std.proofs.lemmas.Bool.{cases_lt}
-use Rattle.std.proofs.lemmas.List.{get_or_past, append-nil}
+use Rattle.std.proofs.lemmas.List.{get_or_past}
 use Rattle.kp_wire.proofs.ReadLemmas.{IsBytes}
-use Rattle.kp_frames.specs.Stream.{Split, Splits, frame, stream, is_faulty, kept}
+use Rattle.kp_frames.specs.Stream.{Splits, frame, stream, is_faulty, kept}
 use Rattle.kp_frames.specs.Life.{Event, Lives, Lived, taken}
-use Rattle.kp_frames.proofs.StreamLemmas.{is_split, lived, keeps, parts_of, kept_parts}
+use Rattle.kp_frames.proofs.StreamLemmas.{is_split, lived, parts_of, kept_parts}
 
 bytes_of : (bytes : List ℕ) → All (λ byte. byte < 2 ^ 8) bytes → IsBytes bytes
 bytes_of bytes all i =
