@@ -12,7 +12,9 @@ use Rattle.kp_frames.specs.declared.splitter.Tail.TheVariants.{Open, Stopped}
 use Rattle.kp_frames.specs.Stream.{Split, first, stream, is_faulty, kept}
 use Rattle.kp_frames.specs.Life.{Feeds, Next}
 use Rattle.kp_frames.specs.Held.{is_stopped, IsHeld}
-use Rattle.kp_frames.proofs.StreamLemmas.{fronted, front_len, passes_frame, first_then, stream_more, faulty_so, at_rest, rest_shorter, kept_behind, kept_open, kept_none, none_faulty, kept_kept, keeps, faulty_behind, stops_of, stopped}
+use Rattle.kp_frames.proofs.FirstLemmas.{fronted, front_len}
+use Rattle.kp_frames.proofs.StreamLemmas.{passes_frame, first_then, stream_more, faulty_so, at_rest}
+use Rattle.kp_frames.proofs.KeptLemmas.{rest_shorter, kept_behind, kept_open, kept_none, none_faulty, kept_kept, keeps, faulty_behind, stops_of, stopped}
 
 pub held_none : IsHeld [] 0 0 Open
 held_none = record {

@@ -7,7 +7,9 @@ use Rattle.std.proofs.lemmas.List.{get_or_past}
 use Rattle.kp_wire.proofs.ReadLemmas.{IsBytes}
 use Rattle.kp_frames.specs.Stream.{Splits, frame, stream, is_faulty, kept}
 use Rattle.kp_frames.specs.Life.{Event, Lives, Lived, taken}
-use Rattle.kp_frames.proofs.StreamLemmas.{is_split, lived, parts_of, kept_parts}
+use Rattle.kp_frames.proofs.StreamLemmas.{is_split, parts_of}
+use Rattle.kp_frames.proofs.KeptLemmas.{kept_parts}
+use Rattle.kp_frames.proofs.LifeLemmas.{lived}
 
 bytes_of : (bytes : List ℕ) → All (λ byte. byte < 2 ^ 8) bytes → IsBytes bytes
 bytes_of bytes all i =

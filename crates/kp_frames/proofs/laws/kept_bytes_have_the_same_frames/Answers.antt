@@ -1,5 +1,5 @@
 use Rattle.std.proofs.Common.{List, ℕ}
-use Rattle.kp_frames.proofs.StreamLemmas.{keeps}
+use Rattle.kp_frames.proofs.KeptLemmas.{keeps}
 use Rattle.kp_frames.proofs.laws.kept_bytes_have_the_same_frames.Goals as goal
 
 pub returns : goal.returns
