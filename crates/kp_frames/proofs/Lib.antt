@@ -3,3 +3,9 @@ pub mod FaultLemmas
 pub mod MessageLemmas
 pub mod RequestLemmas
 pub mod ResponseLemmas
+pub mod FirstLemmas
+pub mod StreamLemmas
+pub mod KeptLemmas
+pub mod LifeLemmas
+pub mod HeldLemmas
+pub mod LawLemmas

@@ -7,3 +7,5 @@ pub mod Request
 pub mod Response
 pub mod Stream
 pub mod Writing
+pub mod Life
+pub mod Held

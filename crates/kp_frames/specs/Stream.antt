@@ -1,5 +1,5 @@
 -- A stream of bytes as frames: an int32 size, and so many bytes, the frame's content.
-use Rattle.std.specs.Prelude.{◌≡◌, ℕ, zero, suc, ◌≤◌, List, [], ◌∷◌, ◌++◌, length, take, ℤ, pos, Result, Ok, Err, Bool, true, false, ◌||◌, int_lt, nat_abs, if◌then◌else◌, IsErr}
+use Rattle.std.specs.Prelude.{◌≡◌, ℕ, zero, suc, ◌+◌, ◌-◌, ◌≤◌, List, [], ◌∷◌, ◌++◌, length, take, ℤ, pos, Result, Ok, Err, Bool, true, false, ◌||◌, int_lt, nat_abs, if◌then◌else◌, IsErr}
 use Rattle.std.specs.List.{flat_map, AllByRecursion}
 use Rattle.std.specs.Int.{w32}
 use Rattle.kp_wire.specs.Reading.{◌>>=◌}
@@ -64,8 +64,6 @@ is_faulty bytes = is_faulty_rest (first (stream bytes).rest)
 
 -- ---- what is held of a stream
 
--- The size of no frame has 4 bytes; what stands behind it is not kept.
+-- Where the rest begins with the size of no frame, nothing is kept behind the 4 bytes of this size.
 unfoldable pub kept : List ℕ → List ℕ
-kept bytes =
-    let s = stream bytes in
-    flat_map frame.spell s.frames ++ (if is_faulty bytes then take 4 s.rest else s.rest)
+kept bytes = if is_faulty bytes then take (length bytes - length (stream bytes).rest + 4) bytes else bytes

@@ -11,7 +11,7 @@ use std::alloc::Global;
 pub const CONTENT_LIMIT: usize = 16_777_216;
 
 /// How many bytes a frame's size takes.
-pub(crate) const SIZE_LEN: usize = 4;
+pub(crate) const SIZE_LENGTH: usize = 4;
 
 /// The frame of a content. Its bytes are reserved once they are counted, and written once.
 #[tactic(auto, unfolding(crate::specs::Stream::frame))]
@@ -27,7 +27,7 @@ pub(crate) fn write_frame<T: MeasuredField>(
     if size > CONTENT_LIMIT as u64 {
         return Err(FrameFault::TooLarge);
     }
-    let mut out = Vec::with_capacity(alloc, SIZE_LEN + size as usize)?;
+    let mut out = Vec::with_capacity(alloc, SIZE_LENGTH + size as usize)?;
     put_i32(&mut out, size as i32)?;
     content.put(&mut out)?;
     Ok(out)

@@ -11,6 +11,7 @@ mod produce;
 mod producer_id;
 mod request;
 mod response;
+mod splitter;
 
 pub use api::Api;
 pub use fault::FrameFault;
@@ -23,3 +24,7 @@ pub use produce::{
 pub use producer_id::{InitProducerIdRequest, InitProducerIdResponse};
 pub use request::{Request, RequestBody, read_request, write_request};
 pub use response::{Response, ResponseBody, read_response, write_response};
+pub use splitter::Splitter;
+
+#[cfg(test)]
+mod tests;

@@ -1,0 +1,162 @@
+//! A stream of bytes cut into frames (protocol guide, "Protocol Structure": every request and response is
+//! size-delimited).
+
+ghost use Rattle.std.specs.Prelude.{◌≡◌, ◌++◌, [], false, length, OnOk};
+ghost use Rattle.kp_wire.specs.Reading.{IsRead};
+ghost use Rattle.kp_frames.specs.Stream.{first, stream, is_faulty, is_faulty_rest};
+ghost use Rattle.kp_frames.specs.Life.{Feeds, Next};
+ghost use Rattle.kp_frames.specs.Held.{is_stopped};
+
+use crate::fault::FrameFault;
+use crate::frame::{CONTENT_LIMIT, SIZE_LENGTH};
+use kp_wire::{read_bytes, read_i32};
+use std::alloc::Global;
+use std::marker::Model;
+
+/// What the bytes are that are in no whole frame.
+#[derive(Clone, Copy, Debug)]
+enum Tail {
+    /// The first bytes of a frame, or none.
+    Open,
+    /// The size of no frame: nothing is taken any more.
+    Stopped,
+}
+
+/// The bytes of a stream that were taken and not yet given, seen as their list.
+///
+/// A byte is read and moved a bounded number of times, however small the pieces are and however many frames wait.
+#[derive(Debug, Drop)]
+pub struct Splitter {
+    alloc: Global,
+    bytes: Vec<u8>,
+    /// Where the bytes begin that were not given.
+    given: usize,
+    /// Where the bytes begin that are in no whole frame.
+    whole: usize,
+    tail: Tail,
+}
+
+impl Model for Splitter {
+    ghost use Rattle.std.specs.Prelude.{List, ℕ, drop};
+
+    ghost Value = { List ℕ };
+
+    ghost use Rattle.kp_frames.specs.Held.{IsHeld};
+
+    ghost view = { λ s. drop s.given s.bytes.items };
+
+    ghost invariant = { λ s. IsHeld s.bytes.items s.given s.whole s.tail };
+}
+
+impl Splitter {
+    /// A splitter of a stream of which nothing was taken. It takes no memory.
+    pub fn new(alloc: Global) -> Splitter
+        ensures { result ≡ [] }
+    {
+        Splitter {
+            alloc,
+            bytes: Vec::new(alloc),
+            given: 0,
+            whole: 0,
+            tail: Tail::Open,
+        }
+    }
+
+    /// Takes the next piece of the stream. Once a size is that of no frame, nothing more is taken: this feed and each
+    /// later one answers TooLarge, and the frames before that size can still be asked for.
+    pub fn feed(&mut self, piece: &[u8]) -> Result<(), FrameFault>
+        ensures fed { Feeds self.old piece.now result self.new }
+        ensures whole { OnOk result (self.new ≡ self.old ++ piece.now) }
+    {
+        if let Tail::Stopped = self.tail {
+            return Err(FrameFault::TooLarge);
+        }
+        self.move_to_front();
+        self.append(piece)
+    }
+
+    /// The content of the oldest whole frame that was not given. Its only fault is OutOfMemory.
+    pub fn next_frame(&mut self) -> Result<Option<Vec<u8>>, FrameFault>
+        ensures { Next self.old result self.new }
+    {
+        let Ok((content, _)) = first_frame(&self.bytes[self.given..]) else {
+            return Ok(None);
+        };
+        let frame = Vec::from_slice(self.alloc, content)?;
+        self.given += SIZE_LENGTH + frame.len();
+        Ok(Some(frame))
+    }
+
+    /// How many bytes are in no whole frame.
+    pub fn rest_len(&self) -> usize
+        ensures { result ≡ length (stream self.now).rest }
+    {
+        self.bytes.len() - self.whole
+    }
+
+    /// Moves what is held to the front, once no more is held than was given.
+    fn move_to_front(&mut self)
+        ensures { self.new ≡ self.old }
+    {
+        let held = self.bytes.len() - self.given;
+        if held <= self.given {
+            self.bytes.copy_within(self.given.., 0);
+            self.bytes.truncate(held);
+            self.whole -= self.given;
+            self.given = 0;
+        }
+    }
+
+    fn append(&mut self, piece: &[u8]) -> Result<(), FrameFault>
+        requires { is_faulty self.old ≡ false }
+        ensures { Feeds self.old piece.now result self.new }
+    {
+        self.bytes.extend_from_slice(piece)?;
+        let (rest_len, tail) = rest_of(&self.bytes[self.whole..]);
+        self.whole = self.bytes.len() - rest_len;
+        self.tail = tail;
+        match tail {
+            Tail::Open => Ok(()),
+            Tail::Stopped => {
+                self.bytes.truncate(self.whole + SIZE_LENGTH);
+                Err(FrameFault::TooLarge)
+            }
+        }
+    }
+}
+
+/// The content of the frame at the front, and the bytes behind it.
+#[tactic(auto, unfolding(crate::specs::Stream::first, crate::specs::Stream::is_no_size))]
+fn first_frame(bytes: &[u8]) -> Result<(&[u8], &[u8]), FrameFault>
+    ensures { IsRead (λ x. (x.0.now, x.1.now)) result (first bytes.now) }
+{
+    let (size, behind) = read_i32(bytes)?;
+    if size < 0 || size as usize > CONTENT_LIMIT {
+        return Err(FrameFault::TooLarge);
+    }
+    Ok(read_bytes(behind, size as usize)?)
+}
+
+/// What bytes are that begin with no whole frame, by the fault of reading one there.
+fn tail_of(fault: FrameFault) -> Tail
+    ensures { is_stopped result ≡ is_faulty_rest (Err fault) }
+{
+    match fault {
+        FrameFault::TooLarge => Tail::Stopped,
+        _ => Tail::Open,
+    }
+}
+
+/// How many bytes are behind the whole frames, and what they are.
+fn rest_of(bytes: &[u8]) -> (usize, Tail)
+    ensures len { result.0 ≡ length (stream bytes.now).rest }
+    ensures tail { is_stopped result.1 ≡ is_faulty bytes.now }
+{
+    let mut rest = bytes;
+    loop {
+        match first_frame(rest) {
+            Ok((_, behind)) => rest = behind,
+            Err(fault) => return (rest.len(), tail_of(fault)),
+        }
+    }
+}

@@ -1,0 +1,5 @@
+mod splitter;
+
+use super::*;
+use std::process::Abort;
+use std::test::Fail;
