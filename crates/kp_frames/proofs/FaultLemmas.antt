@@ -82,6 +82,12 @@ carried P content field.NotUtf8 h = content (Wire field.NotUtf8) tt
 carried P content field.BadLength h = content (Wire field.BadLength) tt
 carried P content field.BadByte h = content (Wire field.BadByte) tt
 
+-- a step, and what follows it
+pub step_err : {A B : Type 0} (P : FrameFault → Type 0) (r : Result A FrameFault) (next : A → Result B FrameFault) (f : FrameFault)
+    → ((g : FrameFault) → r ≡ Err g → P g) → ((x : A) → r ≡ Ok x → next x ≡ Err f → P f) → (r >>= next) ≡ Err f → P f
+step_err P (Ok x) next f here holds e = holds x refl e
+step_err {B = B} P (Err g) next f here holds e = is_error {A = B} P g f (here g refl) e
+
 -- a step of reading fields, and what follows it
 pub in_message_err : {A B : Type 0} (P : FrameFault → Type 0) (r : Result A WireFault) (next : A → Result B FrameFault) (f : FrameFault)
     → ((g : FrameFault) → IsContentFault g → P g) → ((w : WireFault) → r ≡ Err w → IsFieldFault w) → ((x : A) → next x ≡ Err f → P f) → (in_message r >>= next) ≡ Err f → P f

@@ -1,5 +1,5 @@
 -- Messages are read as they are written.
-use Rattle.std.proofs.Common.{◌≡◌, ℕ, List, refl}
+use Rattle.std.proofs.Common.{refl}
 use Rattle.kp_wire.specs.Fields.{int32}
 use Rattle.kp_wire.specs.Strings.{string}
 use Rattle.kp_wire.proofs.CodecLemmas.{IsExact, pair_exact, made_exact}

@@ -15,6 +15,7 @@ use Rattle.kp_frames.specs.declared.api.Api.TheVariants as api
 use Rattle.kp_frames.specs.declared.request.Request.{Request}
 use Rattle.kp_frames.specs.declared.request.RequestBody.{RequestBody}
 use Rattle.kp_frames.specs.declared.request.RequestBody.TheVariants.{Produce, Metadata, InitProducerId}
+use Rattle.kp_frames.specs.declared.fault.FrameFault.{FrameFault}
 use Rattle.kp_frames.specs.declared.fault.FrameFault.TheVariants.{Short, Trailing, UnknownApi, UnknownVersion, Wire, TooLarge, OutOfMemory, Mismatch}
 use Rattle.kp_frames.specs.Api.{key_of, version_of, api_with}
 use Rattle.kp_frames.specs.Produce.{produce_request}
@@ -23,9 +24,9 @@ use Rattle.kp_frames.specs.ProducerId.{init_producer_id_request}
 use Rattle.kp_frames.specs.Request.{api_of, FitsBody, spell_body, read_body, body, known, FitsRequest, spelling, Spells, announced, request_at}
 use Rattle.kp_frames.proofs.MessageLemmas.{produce_request_exact, metadata_request_exact, init_producer_id_request_exact}
 use Rattle.kp_frames.specs.Fault.{IsContentFault, IsRequestFault}
-use Rattle.kp_wire.proofs.FieldFaultLemmas.{HasFieldFaults, made_faults, pair_faults, bind_err, int16_faults, int32_faults, nullable_string_faults}
+use Rattle.kp_wire.proofs.FieldFaultLemmas.{HasFieldFaults, made_faults, pair_faults, int16_faults, int32_faults, nullable_string_faults}
 use Rattle.kp_frames.proofs.MessageLemmas.{produce_request_faults, metadata_request_faults, init_producer_id_request_faults}
-use Rattle.kp_frames.proofs.FaultLemmas.{wrong, no_fault, is_error, in_message_err, refuse_err, whole_err, given, given_is, in_message_ok, refuse_ok, whole_ok, variant_takes}
+use Rattle.kp_frames.proofs.FaultLemmas.{wrong, no_fault, is_error, step_err, in_message_err, refuse_err, whole_err, given, given_is, in_message_ok, refuse_ok, whole_ok, variant_takes}
 use Rattle.kp_wire.proofs.ReadLemmas.{bind_ok}
 
 -- ---- the body
@@ -199,9 +200,11 @@ api_fault key f e = by_produce (int_eq key (pos 0)) e
     by_init : (b : Bool) → cond b (given api.InitProducerId) (Err UnknownApi) ≡ wrong f → IsRequestFault f
     by_init true e = absurd (no_fault f api.InitProducerId (sym e))
     by_init false e = is_error {A = Api} IsRequestFault UnknownApi f tt e
+
     by_metadata : (b : Bool) → cond b (given api.Metadata) (cond (int_eq key (pos 22)) (Ok api.InitProducerId) (Err UnknownApi)) ≡ wrong f → IsRequestFault f
     by_metadata true e = absurd (no_fault f api.Metadata (sym e))
     by_metadata false e = by_init (int_eq key (pos 22)) e
+
     by_produce : (b : Bool) → cond b (given api.Produce) (cond (int_eq key (pos 3)) (Ok api.Metadata) (cond (int_eq key (pos 22)) (Ok api.InitProducerId) (Err UnknownApi))) ≡ wrong f → IsRequestFault f
     by_produce true e = absurd (no_fault f api.Produce (sym e))
     by_produce false e = by_metadata (int_eq key (pos 3)) e
@@ -210,20 +213,14 @@ announced_fault : (bytes : List ℕ) (f : FrameFault) → announced bytes ≡ Er
 unfolding announced
 announced_fault bytes f e =
     in_message_err IsRequestFault (int16.read bytes) _ f of_content (int16_faults bytes)
-    (λ key e. elim (bind_err (api_with key.0) _ f e) [
-      | inl first ↦ api_fault key.0 f first
-      | inr second ↦
-          in_message_err IsRequestFault (int16.read key.1) _ f of_content (int16_faults key.1)
-          (λ version e. refuse_err IsRequestFault (not (int_eq version.0 (version_of second.0))) UnknownVersion _ f tt
-          (λ e. absurd (no_fault f (second.0, version.1) (sym e))) e) second.2
-    ]) e
+    (λ key e. step_err IsRequestFault (api_with key.0) _ f (api_fault key.0)
+    (λ a is e. in_message_err IsRequestFault (int16.read key.1) _ f of_content (int16_faults key.1)
+    (λ version e. refuse_err IsRequestFault (not (int_eq version.0 (version_of a))) UnknownVersion _ f tt
+    (λ e. absurd (no_fault f (a, version.1) (sym e))) e) e) e) e
 
 pub request_fault : (bytes : List ℕ) (f : FrameFault) → request_at bytes ≡ Err f → IsRequestFault f
 unfolding request_at
 request_fault bytes f e =
-    elim (bind_err (announced bytes) _ f e) [
-      | inl first ↦ announced_fault bytes f first
-      | inr second ↦
-          in_message_err IsRequestFault ((known second.0.0).read second.0.1) _ f of_content (known_faults second.0.0 second.0.1)
-          (λ r e. whole_err IsRequestFault r.0 r.1 f tt e) second.2
-    ]
+    step_err IsRequestFault (announced bytes) _ f (announced_fault bytes)
+    (λ a is e. in_message_err IsRequestFault ((known a.0).read a.1) _ f of_content (known_faults a.0 a.1)
+    (λ r e. whole_err IsRequestFault r.0 r.1 f tt e) e) e

@@ -1,12 +1,16 @@
 //! Does again and again what a producer and a broker do with each batch, for the cost of it. Of each line of its
 //! input, a work and a number of times, it prints what the work came to: `crc32c N` takes the checksum of 16 KiB N
 //! times, `write N` writes a batch of 149 records of 100 bytes, `read N` reads it, `drop N` reads it and drops what was
-//! read.
+//! read, `request N` writes a Produce request with 16 KiB for each of four partitions, `response N` reads a response
+//! for four partitions, `byte N` cuts a stream of a hundred frames of 100 bytes that comes byte by byte, `whole N` cuts
+//! it where it comes whole, and `waiting N` takes N frames that wait, between each two of which a byte comes.
 #![tactic(auto)]
 
+mod messages;
 mod work;
 
 use std::alloc::{AllocError, Global};
+use messages::{cuts_bytes, cuts_whole, requests, responses, takes_waiting};
 use std::io;
 use work::{checksums, reads, reads_and_drops, writes};
 
@@ -23,6 +27,11 @@ fn answer(alloc: Global, line: &str) -> Result<Option<u64>, AllocError> {
         "write" => writes(alloc, times).map(Some),
         "read" => reads(alloc, times).map(Some),
         "drop" => reads_and_drops(alloc, times).map(Some),
+        "request" => requests(alloc, times).map(Some),
+        "response" => responses(alloc, times).map(Some),
+        "byte" => cuts_bytes(alloc, times).map(Some),
+        "whole" => cuts_whole(alloc, times).map(Some),
+        "waiting" => takes_waiting(alloc, times).map(Some),
         _ => Ok(None),
     }
 }

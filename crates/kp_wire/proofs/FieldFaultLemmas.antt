@@ -1,12 +1,12 @@
 -- Which faults the fields of Kafka's messages have.
-use Rattle.std.proofs.Common.{◌≡◌, ℕ, zero, suc, Bool, true, false, cond, ltb, List, [], ◌∷◌, ◌⊎◌, inl, inr, length, take, drop, ℤ, pos, negsuc, Option, Some, None, Result, Ok, Err, refl, sym, ap, subst}
+use Rattle.std.proofs.Common.{◌≡◌, ℕ, zero, suc, Bool, true, false, cond, ltb, List, [], ◌∷◌, ◌⊎◌, inl, inr, length, take, drop, ℤ, pos, negsuc, Some, None, Result, Ok, Err, refl, sym, ap, subst}
 use Rattle.std.specs.Int.{Width, w16, w32, w64, byte_len, from_be_bytes, cast_signed}
 use Rattle.std.specs.Str.{is_utf8}
 use Rattle.kp_wire.specs.declared.fault.WireFault.{WireFault}
 use Rattle.kp_wire.specs.declared.fault.WireFault.TheVariants.{Short, NotUtf8, BadLength, BadByte}
 use Rattle.kp_wire.specs.Reading.{Read, ◌>>=◌}
-use Rattle.kp_wire.specs.Codec.{Codec, read_bytes, int, number, pair, made, plain, utf8, read_many, by_length, by_nullable_length, sized, nullable_sized}
-use Rattle.kp_wire.specs.Fields.{IsFieldFault, int16, int32, int64, boolean, read_boolean, records, array_of, nullable_array_of, read_array, read_nullable_array}
+use Rattle.kp_wire.specs.Codec.{read_bytes, int, number, plain, utf8, read_many, by_length, by_nullable_length}
+use Rattle.kp_wire.specs.Fields.{IsFieldFault, int16, int32, int64, boolean, read_boolean, records, read_array, read_nullable_array}
 use Rattle.kp_wire.specs.Strings.{string, nullable_string}
 use Rattle.kp_wire.proofs.ReadLemmas.{done, failed, no_fault}
 
