@@ -2,6 +2,7 @@
 //! it.
 
 use crate::fault::LineFault;
+use crate::json::parse;
 use crate::tally::{Kind, Place, Tally};
 use kp_batch::{
     Batch, BatchFault, BatchHead, Header, Record, SIZE_LIMIT, Timestamp, batch_size, read_batch,
@@ -125,19 +126,9 @@ fn read(alloc: Global, bytes: &[u8]) -> Result<Batch, LineFault> {
     })
 }
 
-fn parse(alloc: Global, line: &[u8]) -> Result<BatchLine, LineFault> {
-    serde_json::from_slice(alloc, line).map_err(|error| {
-        if error.is_memory() {
-            LineFault::OutOfMemory
-        } else {
-            LineFault::Json
-        }
-    })
-}
-
 /// Whether a line agrees.
 fn check_line(alloc: Global, line: &[u8]) -> Result<(), LineFault> {
-    let line = parse(alloc, line)?;
+    let line: BatchLine = parse(alloc, line)?;
     let bytes = hex::decode(alloc, line.bytes.as_str())?;
     let records = records_of(alloc, &line.records)?;
     let head = BatchHead {

@@ -2,6 +2,7 @@
 
 use hex::FromHexError;
 use kp_batch::BatchFault;
+use kp_frames::FrameFault;
 use kp_wire::WireFault;
 use std::alloc::{AllocError, AllocFailed};
 use std::io;
@@ -20,7 +21,7 @@ pub enum LineFault {
     Number,
     #[error("a field is not hexadecimal")]
     Hexadecimal,
-    #[error("the line is not a batch in JSON")]
+    #[error("the line is not JSON of its file's form")]
     Json,
     /// A timestamp below 0, no record, or a size above the limit.
     #[error("no batch has these records")]
@@ -29,6 +30,10 @@ pub enum LineFault {
     NotRead(WireFault),
     #[error("the batch is not read: {0}")]
     BatchNotRead(BatchFault),
+    #[error("the frame is not read: {0}")]
+    FrameNotRead(FrameFault),
+    #[error("the frame is not written: {0}")]
+    FrameNotWritten(FrameFault),
     #[error("another value is read")]
     ReadOtherwise,
     #[error("other bytes are written")]

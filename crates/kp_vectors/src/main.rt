@@ -1,13 +1,16 @@
 //! Holds the codecs and hashes to what other clients agree on, and prints how many lines of each kind agree.
 //!
-//! `vectors.txt` and `batches.jsonl` lie in the folder where the program runs. The vectors are agreed by
-//! python3-kafka, librdkafka, the JDK and python3-crc32c, as far as each has the kind; the batches were written
-//! by python3-kafka.
+//! `vectors.txt`, `batches.jsonl` and `frames.jsonl` lie in the folder where the program runs. The vectors are
+//! agreed by python3-kafka, librdkafka, the JDK and python3-crc32c, as far as each has the kind; the batches were
+//! written by python3-kafka; the frames were captured, the requests of a Go client (sarama), the responses of
+//! librdkafka's mock broker and of one that stood in for a broker.
 #![tactic(auto)]
 
 mod batches;
 mod bitwise;
 mod fault;
+mod frames;
+mod json;
 mod program;
 mod tally;
 #[cfg(test)]

@@ -13,6 +13,8 @@ pub enum Kind {
     Murmur2,
     PartitionOfFour,
     Batch,
+    Request,
+    Response,
     /// Of a line whose kind can't be read.
     Unknown,
 }
@@ -27,6 +29,8 @@ impl Kind {
             Kind::Murmur2 => "murmur2",
             Kind::PartitionOfFour => "partition-of-4",
             Kind::Batch => "batch",
+            Kind::Request => "request",
+            Kind::Response => "response",
             Kind::Unknown => "unknown",
         }
     }
@@ -94,7 +98,7 @@ impl fmt::Display for Disagreement {
 /// The counts of all kinds, in the order in which they are printed, and the lines that do not agree.
 #[derive(Debug, Drop)]
 pub struct Tally {
-    counts: [Count; 7],
+    counts: [Count; 9],
     disagreements: Vec<Disagreement>,
 }
 
@@ -108,6 +112,8 @@ impl Tally {
                 Count::none_of(Kind::Murmur2),
                 Count::none_of(Kind::PartitionOfFour),
                 Count::none_of(Kind::Batch),
+                Count::none_of(Kind::Request),
+                Count::none_of(Kind::Response),
                 Count::none_of(Kind::Unknown),
             ],
             disagreements: Vec::new(alloc),

@@ -1,5 +1,8 @@
+mod frames;
+
 use crate::program::tally_of;
 use std::alloc::Global;
+use std::process::Abort;
 use std::test::Fail;
 
 /// A line of python3-kafka's.
@@ -7,13 +10,13 @@ const BATCH: &str =
     r#"{"producer_id": 835824954945, "epoch": 0, "sequence": 68495, "records": [{"timestamp": 574836085846, "key": null, "value": null, "headers": []}], "bytes": "000000000000000000000038ffffffff02031bc11b00000000000000000085d6e6945600000085d6e69456000000c29b0cae41000000010b8f000000010c000000010100"}"#;
 
 fn printed(alloc: Global, vectors: &[u8], batches: &[u8]) -> Result<String, Fail> {
-    let tally = tally_of(alloc, vectors, batches)?;
+    let tally = tally_of(alloc, vectors, batches, b"")?;
     Ok(tally.to_string(alloc)?)
 }
 
-/// The line of python3-kafka's with a part of it in another form.
-fn changed(alloc: Global, from: &str, to: &str) -> Result<String, Fail> {
-    let (before, behind) = BATCH.split_once(from).ok_or("the line has no such part")?;
+/// The line with a part of it in another form.
+fn changed(alloc: Global, line: &str, from: &str, to: &str) -> Result<String, Fail> {
+    let (before, behind) = line.split_once(from).ok_or("the line has no such part")?;
     Ok(format!(in alloc; "{before}{to}{behind}")?)
 }
 
@@ -27,7 +30,7 @@ fn agreed_lines_of_each_kind_agree(rt: HostRuntime) -> Result<(), Fail> {
         murmur2 - 106e08d9\n\
         partition-of-4 3231 0\n\
         varint 64 8001";
-    let tally = tally_of(rt.alloc(), vectors, BATCH.as_bytes())?;
+    let tally = tally_of(rt.alloc(), vectors, BATCH.as_bytes(), b"")?;
     assert!(rt; tally.agrees());
     assert_eq!(rt;
         tally.to_string(rt.alloc())?.as_str(),
@@ -37,7 +40,9 @@ fn agreed_lines_of_each_kind_agree(rt: HostRuntime) -> Result<(), Fail> {
         crc32c 1 of 1\n\
         murmur2 2 of 2\n\
         partition-of-4 1 of 1\n\
-        batch 1 of 1\n"
+        batch 1 of 1\n\
+        request 0 of 0\n\
+        response 0 of 0\n"
     );
     Ok(())
 }
@@ -52,8 +57,13 @@ fn a_wrong_line_of_each_kind_is_named_and_not_counted_as_agreeing(
         murmur2 3231 c5f2f8ed\n\
         partition-of-4 3231 1\n\
         varint -1 01\n";
-    let batch = changed(rt.alloc(), r#""sequence": 68495"#, r#""sequence": 68496"#)?;
-    let tally = tally_of(rt.alloc(), vectors, batch.as_bytes())?;
+    let batch = changed(
+        rt.alloc(),
+        BATCH,
+        r#""sequence": 68495"#,
+        r#""sequence": 68496"#,
+    )?;
+    let tally = tally_of(rt.alloc(), vectors, batch.as_bytes(), b"")?;
     assert!(rt; !tally.agrees());
     assert_eq!(rt;
         tally.to_string(rt.alloc())?.as_str(),
@@ -69,7 +79,9 @@ fn a_wrong_line_of_each_kind_is_named_and_not_counted_as_agreeing(
         crc32c 0 of 1\n\
         murmur2 0 of 1\n\
         partition-of-4 0 of 1\n\
-        batch 0 of 1\n"
+        batch 0 of 1\n\
+        request 0 of 0\n\
+        response 0 of 0\n"
     );
     Ok(())
 }
@@ -101,6 +113,8 @@ fn a_line_that_is_not_understood_is_named(rt: HostRuntime) -> Result<(), Fail> {
         murmur2 0 of 0\n\
         partition-of-4 0 of 1\n\
         batch 0 of 0\n\
+        request 0 of 0\n\
+        response 0 of 0\n\
         unknown 0 of 3\n"
     );
     Ok(())
@@ -139,14 +153,14 @@ fn a_batch_of_another_head_or_record_is_named(rt: HostRuntime) -> Result<(), Fai
         (
             r#""epoch": 0, "#,
             "",
-            "batches.jsonl:1: batch: the line is not a batch in JSON\n",
+            "batches.jsonl:1: batch: the line is not JSON of its file's form\n",
         ),
     ];
     for (from, to, line) in rows {
-        let batch = changed(rt.alloc(), from, to)?;
+        let batch = changed(rt.alloc(), BATCH, from, to)?;
         let text = printed(rt.alloc(), b"", batch.as_bytes())?;
         assert!(rt; text.starts_with(line), "at {to}: {text}");
-        assert!(rt; text.ends_with("batch 0 of 1\n"), "at {to}: {text}");
+        assert!(rt; text.contains("\nbatch 0 of 1\n"), "at {to}: {text}");
     }
     Ok(())
 }

@@ -67,7 +67,9 @@ impl Vector {
                 key: bytes_of(alloc, input)?,
                 partition: output.parse().map_err(|_| LineFault::Number)?,
             }),
-            Kind::Batch | Kind::Unknown => Err(LineFault::UnknownKind),
+            Kind::Batch | Kind::Request | Kind::Response | Kind::Unknown => {
+                Err(LineFault::UnknownKind)
+            }
         }
     }
 
