@@ -3,6 +3,8 @@
 //! are made first, so that a run which always refuses the same growth refuses each of the calls' own in turn.
 #![tactic(auto)]
 
+mod frames;
+
 use kp_batch::{
     Batch, BatchFault, BatchHead, Header, Record, SIZE_LIMIT, Timestamp, batch_size, charge,
     read_batch, write_batch,
@@ -38,6 +40,15 @@ impl Outcome {
         match self {
             Outcome::Right => Outcome::Refused,
             other => other,
+        }
+    }
+
+    /// The outcome of two calls.
+    fn and(self, other: Outcome) -> Outcome {
+        match (self, other) {
+            (Outcome::Right, Outcome::Right) => Outcome::Right,
+            (Outcome::Wrong, _) | (_, Outcome::Wrong) => Outcome::Wrong,
+            _ => Outcome::Refused,
         }
     }
 }
@@ -271,6 +282,8 @@ fn outcome_of<R: Files + AllocGlobal>(rt: &R) -> Outcome {
         wrote,
         read(alloc, &bytes),
         offer(alloc, &bytes),
+        frames::request_with(alloc, &bytes),
+        frames::response(alloc),
         pack(rt),
     ];
     if outcomes.contains(&Outcome::Wrong) {
