@@ -9,8 +9,8 @@
 mod messages;
 mod work;
 
-use std::alloc::{AllocError, Global};
 use messages::{cuts_bytes, cuts_whole, requests, responses, takes_waiting};
+use std::alloc::{AllocError, Global};
 use std::io;
 use work::{checksums, reads, reads_and_drops, writes};
 

@@ -16,6 +16,7 @@ const BATCH: usize = 16384;
 
 /// The frames of a stream, and how many bytes each of them has, its size included.
 const FRAMES: u32 = 100;
+
 const FRAME: usize = 104;
 
 /// The size of a content of 100 bytes, as it stands before it.
