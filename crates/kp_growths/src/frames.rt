@@ -2,8 +2,8 @@
 
 use crate::Outcome;
 use kp_frames::{
-    Api, FrameFault, Request, RequestBody, Response, ResponseBody, read_request, read_response,
-    write_request, write_response,
+    Api, FrameFault, Request, RequestBody, Response, ResponseBody, Splitter, read_request,
+    read_response, write_request, write_response,
 };
 use std::alloc::{AllocError, Global};
 
@@ -120,5 +120,42 @@ pub(crate) fn response(alloc: Global) -> Outcome {
         read.and(wrote)
     } else {
         Outcome::Wrong
+    }
+}
+
+/// Feeds the piece, again where memory was refused and the splitter held what it had held.
+fn fed(splitter: &mut Splitter, piece: &[u8]) -> Outcome {
+    let held = splitter.rest_len();
+    match splitter.feed(piece) {
+        Ok(()) => Outcome::Right,
+        Err(FrameFault::OutOfMemory) if splitter.rest_len() == held => {
+            Outcome::of(splitter.feed(piece).is_ok()).after_refusal()
+        }
+        Err(_) => Outcome::Wrong,
+    }
+}
+
+/// A frame that comes in two pieces, cut off its stream; it stays there where memory is refused.
+pub(crate) fn stream(alloc: Global) -> Outcome {
+    let mut splitter = Splitter::new(alloc);
+    let (front, back) = METADATA_RESPONSE.split_at(SIZE_LEN + 1);
+    let pieces = fed(&mut splitter, front).and(fed(&mut splitter, back));
+    match given_by(&mut splitter) {
+        Some((content, taken)) if content.as_slice() == &METADATA_RESPONSE[SIZE_LEN..] => {
+            pieces.and(taken)
+        }
+        _ => Outcome::Wrong,
+    }
+}
+
+/// The frame that is given, and whether memory was refused on the way.
+fn given_by(splitter: &mut Splitter) -> Option<(Vec<u8>, Outcome)> {
+    match splitter.next_frame() {
+        Ok(Some(content)) => Some((content, Outcome::Right)),
+        Err(FrameFault::OutOfMemory) => match splitter.next_frame() {
+            Ok(Some(content)) => Some((content, Outcome::Refused)),
+            _ => None,
+        },
+        _ => None,
     }
 }

@@ -284,6 +284,7 @@ fn outcome_of<R: Files + AllocGlobal>(rt: &R) -> Outcome {
         offer(alloc, &bytes),
         frames::request_with(alloc, &bytes),
         frames::response(alloc),
+        frames::stream(alloc),
         pack(rt),
     ];
     if outcomes.contains(&Outcome::Wrong) {
