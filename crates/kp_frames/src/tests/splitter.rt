@@ -2,17 +2,11 @@
 
 use super::*;
 
-/// The requests InitProducerId, version 0, and Metadata, version 1 (protocol guide), of client "kp", each behind its
-/// size, and a frame of one byte.
+/// A request of each api.
 const FRAMES: [&[u8]; 3] = [
-    &[
-        0, 0, 0, 0x12, 0, 0x16, 0, 0, 0, 0, 0, 0, 0, 2, 0x6b, 0x70, 0xff, 0xff, 0x7f, 0xff, 0xff,
-        0xff,
-    ],
-    &[
-        0, 0, 0, 0x13, 0, 3, 0, 1, 0, 0, 0, 0, 0, 2, 0x6b, 0x70, 0, 0, 0, 1, 0, 1, 0x74,
-    ],
-    &[0, 0, 0, 1, 0xaa],
+    &INIT_PRODUCER_ID_REQUEST,
+    &METADATA_REQUEST,
+    &PRODUCE_REQUEST,
 ];
 
 /// The frame that is asked for is of this content, or there is none.
@@ -77,7 +71,7 @@ fn a_prefix_of_a_stream_gives_its_whole_frames(rt: HostRuntime) -> Result<(), Fa
     for frame in FRAMES {
         stream.extend_from_slice(frame)?;
     }
-    for len in 0..51usize {
+    for len in 0..158usize {
         let mut splitter = Splitter::new(rt.alloc());
         splitter.feed(stream.get(..len).ok_or("a prefix")?)?;
         let mut rest = len;
