@@ -1,0 +1,13 @@
+//! What a producer gathers before it is sent: items, and how they are batched, kept waiting and given up.
+#![tactic(auto)]
+
+mod config;
+mod fault;
+mod item;
+
+pub use config::Config;
+pub use fault::ConfigFault;
+pub use item::Item;
+
+#[cfg(test)]
+mod tests;
