@@ -260,3 +260,24 @@ fn a_copy_of_an_item_has_all_of_it(rt: HostRuntime) -> Result<(), Fail> {
     assert_eq!(rt; charge(copy.as_record()), 69);
     Ok(())
 }
+
+#[test]
+fn a_budget_is_used_up_to_its_limit(rt: HostRuntime) {
+    let mut budget = Budget::new(138);
+    assert!(rt; budget.has_room(138));
+    assert!(rt; !budget.has_room(139));
+    if budget.has_room(69) {
+        budget.take(69);
+    }
+    if budget.has_room(69) {
+        budget.take(69);
+    }
+    assert_eq!(rt; budget.used(), 138);
+    assert!(rt; !budget.has_room(1));
+    assert!(rt; budget.has_room(0));
+    if budget.used() >= 69 {
+        budget.release(69);
+    }
+    assert_eq!(rt; budget.used(), 69);
+    assert!(rt; !budget.has_room(u64::MAX));
+}
