@@ -1,6 +1,6 @@
 //! STRING and NULLABLE_STRING as texts of their own memory.
 
-ghost use Rattle.std.specs.Prelude.{◌≡◌, ◌++◌, OnOk};
+ghost use Rattle.std.specs.Prelude.{◌≡◌, ◌++◌, OnOk, OnErr};
 ghost use Rattle.kp_wire.specs.Reading.{Gives};
 ghost use Rattle.kp_wire.specs.Sizes.{IsSize};
 ghost use Rattle.kp_wire.specs.Strings.{string, nullable_string};
@@ -58,7 +58,8 @@ pub fn size_of_nullable_text(text: &Option<Text>) -> Option<u64>
 /// Appends the STRING. An `Err` leaves `out` as it was.
 pub fn put_text(out: &mut Vec<u8>, text: &Text) -> Result<(), AllocError>
     requires { string.Fits text.now }
-    ensures { OnOk result (out.new.items ≡ out.old.items ++ string.spell text.now) }
+    ensures ok { OnOk result (out.new.items ≡ out.old.items ++ string.spell text.now) }
+    ensures err { OnErr result (out.new.items ≡ out.old.items) }
 {
     put_string(out, text.as_str())
 }
@@ -66,7 +67,8 @@ pub fn put_text(out: &mut Vec<u8>, text: &Text) -> Result<(), AllocError>
 /// Appends the NULLABLE_STRING, null for None. An `Err` leaves `out` as it was.
 pub fn put_nullable_text(out: &mut Vec<u8>, text: &Option<Text>) -> Result<(), AllocError>
     requires { nullable_string.Fits text.now }
-    ensures { OnOk result (out.new.items ≡ out.old.items ++ nullable_string.spell text.now) }
+    ensures ok { OnOk result (out.new.items ≡ out.old.items ++ nullable_string.spell text.now) }
+    ensures err { OnErr result (out.new.items ≡ out.old.items) }
 {
     match text {
         None => put_nullable(out, None),
