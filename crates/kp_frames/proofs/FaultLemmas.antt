@@ -8,12 +8,10 @@ use Rattle.kp_wire.specs.Reading.{◌>>=◌}
 use Rattle.kp_wire.specs.Codec.{Codec}
 use Rattle.kp_wire.proofs.ReadLemmas.{IsBytes, Takes, bind_ok, ok_is}
 use Rattle.kp_wire.proofs.CodecLemmas.{IsExact}
+use Rattle.kp_wire.proofs.FieldFaultLemmas.{wrong, error_is}
 use Rattle.kp_frames.specs.declared.fault.FrameFault.{FrameFault}
 use Rattle.kp_frames.specs.declared.fault.FrameFault.TheVariants.{Short, Trailing, UnknownApi, UnknownVersion, Wire, TooLarge, OutOfMemory, Mismatch}
 use Rattle.kp_frames.specs.Fault.{of_wire, in_message, refuse, whole, Answers, Refuses, IsContentFault}
-
-abbrev pub wrong : {A : Type 0} → FrameFault → Result A FrameFault
-wrong fault = Err fault
 
 abbrev pub given : {A : Type 0} → A → Result A FrameFault
 given x = Ok x
@@ -67,11 +65,8 @@ answered_only begun x (Err fault) read a e = refused_only begun fault read x a e
 
 -- ---- which faults come
 
-error_is : {A : Type 0} (f g : FrameFault) → wrong {A = A} f ≡ wrong g → f ≡ g
-error_is f g e = cc
-
 pub is_error : {A : Type 0} (P : FrameFault → Type 0) (f g : FrameFault) → P f → wrong {A = A} f ≡ wrong g → P g
-is_error P f g h e = subst P (error_is f g e) h
+is_error {A = A} P f g h e = subst P (error_is {A = A} f g e) h
 
 -- a field's fault as the message's
 carried : (P : FrameFault → Type 0) → ((f : FrameFault) → IsContentFault f → P f) → (w : WireFault) → IsFieldFault w → P (of_wire w)

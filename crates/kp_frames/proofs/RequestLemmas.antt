@@ -24,9 +24,9 @@ use Rattle.kp_frames.specs.ProducerId.{init_producer_id_request}
 use Rattle.kp_frames.specs.Request.{api_of, FitsBody, spell_body, read_body, body, known, FitsRequest, spelling, Spells, announced, request_at}
 use Rattle.kp_frames.proofs.MessageLemmas.{produce_request_exact, metadata_request_exact, init_producer_id_request_exact}
 use Rattle.kp_frames.specs.Fault.{IsContentFault, IsRequestFault}
-use Rattle.kp_wire.proofs.FieldFaultLemmas.{HasFieldFaults, made_faults, pair_faults, int16_faults, int32_faults, nullable_string_faults}
+use Rattle.kp_wire.proofs.FieldFaultLemmas.{wrong, HasFieldFaults, made_faults, pair_faults, int16_faults, int32_faults, nullable_string_faults}
 use Rattle.kp_frames.proofs.MessageLemmas.{produce_request_faults, metadata_request_faults, init_producer_id_request_faults}
-use Rattle.kp_frames.proofs.FaultLemmas.{wrong, no_fault, is_error, step_err, in_message_err, refuse_err, whole_err, given, given_is, in_message_ok, refuse_ok, whole_ok, variant_takes}
+use Rattle.kp_frames.proofs.FaultLemmas.{no_fault, is_error, step_err, in_message_err, refuse_err, whole_err, given, given_is, in_message_ok, refuse_ok, whole_ok, variant_takes}
 use Rattle.kp_wire.proofs.ReadLemmas.{bind_ok}
 
 -- ---- the body

@@ -31,9 +31,6 @@ one_spelling {A = A} c p a b x y f g e =
 
 -- ---- formats from formats
 
-pub anywhere_exact : {A : Type 0} (after : ℕ) (c : Codec A) → IsExact 0 c → IsExact after c
-anywhere_exact after c p = record { takes = p.takes; again = λ a rest fits behind. p.again a rest fits (omega arith) }
-
 pub pair_exact : {A B : Type 0} (after : ℕ) (c : Codec A) (d : Codec B) → IsExact after c → IsExact after d → IsExact after (pair c d)
 pair_exact {A = A} {B = B} after c d p q = record {
   takes = λ bytes z fits e.

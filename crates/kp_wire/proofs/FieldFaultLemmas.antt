@@ -10,14 +10,14 @@ use Rattle.kp_wire.specs.Fields.{IsFieldFault, int16, int32, int64, boolean, rea
 use Rattle.kp_wire.specs.Strings.{string, nullable_string}
 use Rattle.kp_wire.proofs.ReadLemmas.{done, failed, no_fault}
 
-abbrev wrong : {A E : Type 0} → E → Result A E
+abbrev pub wrong : {A E : Type 0} → E → Result A E
 wrong e = Err e
 
 -- every fault of this reading is one of a field
 abbrev pub HasFieldFaults : {A : Type 0} → (List ℕ → Read A) → Type 0
 HasFieldFaults read = (bytes : List ℕ) (fault : WireFault) → read bytes ≡ Err fault → IsFieldFault fault
 
-error_is : {A E : Type 0} (d e : E) → wrong {A = A} d ≡ wrong e → d ≡ e
+pub error_is : {A E : Type 0} (d e : E) → wrong {A = A} d ≡ wrong e → d ≡ e
 error_is d e h = cc
 
 -- where a step fails
