@@ -4,11 +4,13 @@
 mod budget;
 mod config;
 mod fault;
+mod flags;
 mod item;
 
 pub use budget::Budget;
 pub use config::Config;
 pub use fault::ConfigFault;
+pub use flags::Flags;
 pub use item::Item;
 
 #[cfg(test)]
