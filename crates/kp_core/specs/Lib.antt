@@ -1,0 +1,17 @@
+pub mod Records
+pub mod Partitions
+pub mod Attempts
+pub mod Telling
+pub mod Flush
+pub mod MaySend
+pub mod HandingOver
+pub mod Next
+pub mod Requesting
+pub mod Fence
+pub mod Tick
+pub mod Answered
+pub mod Mismatch
+pub mod Replies
+pub mod Appending
+pub mod Due
+pub mod Opening
