@@ -1,3 +1,4 @@
 pub mod LogLemmas
 pub mod RuleLemmas
 pub mod JudgeLemmas
+pub mod HistoryFacts
