@@ -26,6 +26,10 @@ head_of b = record { producer_id = pos b.id; epoch = pos 0; base_sequence = pos 
 abbrev pub batch_of : Sent → Batch
 batch_of b = written (head_of b) b.bodies
 
+-- the same as a broker may find it: the base offset and the leader's epoch are not the producer's to say
+abbrev pub arrived : ℤ → ℤ → Sent → Batch
+arrived offset leader_epoch b = record (batch_of b) { base_offset = offset; leader_epoch = leader_epoch }
+
 -- its records as a log has them
 abbrev pub stored_of : Sent → List Stored
 stored_of b = stored_as (pos b.id) b.bodies
