@@ -1,11 +1,10 @@
 -- What a broker's answer to a partition's batch does to the partition (error codes of the protocol guide; which of them
 -- may be tried again is this producer's own choice among those that Kafka calls retriable).
-use Rattle.std.specs.Prelude.{ℕ, ℤ, pos, Bool, true, List, [], ◌∷◌, ◌++◌, map, filter, Option, Some, None, ◌==◌, ◌&&◌, ◌||◌, not, if◌then◌else◌}
+use Rattle.std.specs.Prelude.{ℕ, ℤ, pos, Bool, List, [], ◌∷◌, ◌++◌, map, filter, Option, Some, None, ◌==◌, ◌&&◌, ◌||◌, not, if◌then◌else◌}
 use Rattle.std.specs.List.{list_any}
 use Rattle.std.specs.Ordering.{int_eq}
 use Rattle.kp_frames.specs.declared.produce.PartitionProduceResponse.{PartitionProduceResponse}
 use Rattle.kp_core.specs.declared.attempt.Attempt.TheVariants.{Waiting}
-use Rattle.kp_core.specs.declared.outcome.Outcome.{Outcome}
 use Rattle.kp_core.specs.declared.outcome.Outcome.TheVariants.{DeliveredNoOffset, Rejected}
 use Rattle.kp_core.specs.declared.verdict.Verdict.{Verdict}
 use Rattle.kp_core.specs.declared.verdict.Verdict.TheVariants.{Stored, Duplicate, Retry, Reject}
@@ -37,7 +36,7 @@ without_attempt k t = record t { open_batches = filter (λ o. not (awaits k o)) 
 
 -- the first under the partition's present id
 abbrev pub is_first_under_id : Partition → Batch → Bool
-is_first_under_id t b = b.sequence == 0 && int_eq b.id (present_id t)
+is_first_under_id t b = b.sequence == 0 && (b.id == present_id t)
 
 -- It stands in the log: its items are told so, and it is acknowledged.
 abbrev pub acknowledged : ℕ → Partition → Open → List Told → Effect

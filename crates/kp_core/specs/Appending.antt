@@ -1,12 +1,11 @@
 -- Appending an item.
-use Rattle.std.specs.Prelude.{◌+◌, Bool, true, List, [], ◌∷◌, nat_lt, if◌then◌else◌}
+use Rattle.std.specs.Prelude.{◌+◌, Bool, true, [], ◌∷◌, nat_lt, if◌then◌else◌}
 use Rattle.kp_accum.specs.declared.item.Item.{Item}
 use Rattle.kp_accum.specs.Queue.{charge_of, with_item}
-use Rattle.kp_core.specs.declared.outcome.Outcome.{Outcome}
 use Rattle.kp_core.specs.declared.outcome.Outcome.TheVariants.{Unsent}
 use Rattle.kp_core.specs.declared.outcome.Reason.{Reason}
 use Rattle.kp_core.specs.declared.outcome.Reason.TheVariants.{Fenced, Ended}
-use Rattle.kp_core.specs.Records.{Partition, Core, Step}
+use Rattle.kp_core.specs.Records.{Core, Step}
 use Rattle.kp_core.specs.Partitions.{used, partition_at, changed_at}
 use Rattle.kp_core.specs.Telling.{told_all, with_reports}
 

@@ -2,7 +2,6 @@
 -- retry.
 use Rattle.std.specs.Prelude.{ℕ, ◌+◌, Bool, true, false, List, [], map, length, Option, Some, None, is_some, find, ◌==◌, nat_lt, if◌then◌else◌}
 use Rattle.std.specs.List.{list_any}
-use Rattle.kp_accum.specs.Ready.{is_over}
 use Rattle.kp_core.specs.declared.attempt.Attempt.{Attempt}
 use Rattle.kp_core.specs.declared.attempt.Attempt.TheVariants.{InFlight, Waiting}
 use Rattle.kp_core.specs.Records.{Open, Partition, Request, IdRequest, Core}

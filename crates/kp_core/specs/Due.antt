@@ -1,11 +1,11 @@
 -- When a core is next to be looked at.
-use Rattle.std.specs.Prelude.{ℕ, ◌+◌, ◌-◌, ◌^◌, min, Bool, List, [], ◌∷◌, ◌++◌, map, filter, flat_map, Option, Some, None, is_none, nat_le, ◌&&◌, if◌then◌else◌}
+use Rattle.std.specs.Prelude.{ℕ, ◌+◌, ◌-◌, ◌^◌, min, List, [], ◌∷◌, ◌++◌, map, filter, flat_map, Option, Some, None, is_none, nat_le, ◌&&◌, if◌then◌else◌}
 use Rattle.std.specs.List.{list_any, reduce}
 use Rattle.kp_accum.specs.declared.config.Config.{Config}
 use Rattle.kp_accum.specs.Queue.{Pending}
 use Rattle.kp_core.specs.declared.attempt.Attempt.{Attempt}
 use Rattle.kp_core.specs.declared.attempt.Attempt.TheVariants.{InFlight, Waiting}
-use Rattle.kp_core.specs.Records.{Open, Partition, Request, IdRequest, Core}
+use Rattle.kp_core.specs.Records.{Open, Partition, IdRequest, Core}
 use Rattle.kp_core.specs.Attempts.{lowest_waiting}
 use Rattle.kp_core.specs.MaySend.{wants_id}
 

@@ -1,7 +1,6 @@
 -- A fence: a partition from which something was refused for good, or came too late, sends nothing more, since what
 -- follows would stand in the log without it. And the end, which gives up all that is left.
 use Rattle.std.specs.Prelude.{true, List, [], ◌++◌, None, if◌then◌else◌}
-use Rattle.kp_core.specs.declared.outcome.Outcome.{Outcome}
 use Rattle.kp_core.specs.declared.outcome.Outcome.TheVariants.{Unknown, Unsent}
 use Rattle.kp_core.specs.declared.outcome.Reason.{Reason}
 use Rattle.kp_core.specs.declared.outcome.Reason.TheVariants as reason

@@ -1,11 +1,11 @@
 -- Handing over: a batch gets its number, its producer id and its base sequence when it first goes out (KIP-98: sequence
 -- numbers count records from 0, by producer id and partition), and keeps them and its records for good.
-use Rattle.std.specs.Prelude.{ℕ, ◌+◌, Bool, false, List, [], ◌∷◌, ◌++◌, length, Option, Some, None, ◌==◌, ◌&&◌, if◌then◌else◌}
+use Rattle.std.specs.Prelude.{ℕ, ◌+◌, Bool, List, [], ◌∷◌, ◌++◌, length, Option, Some, None, ◌==◌, ◌&&◌, if◌then◌else◌}
 use Rattle.kp_accum.specs.declared.item.Item.{Item}
 use Rattle.kp_accum.specs.Queue.{Pending}
 use Rattle.kp_core.specs.declared.attempt.Attempt.TheVariants.{InFlight}
 use Rattle.kp_core.specs.declared.audit.Run.{Run}
-use Rattle.kp_core.specs.Records.{Batch, Open, Partition}
+use Rattle.kp_core.specs.Records.{Open, Partition}
 use Rattle.kp_core.specs.Attempts.{is_waiting, lowest_waiting}
 use Rattle.kp_core.specs.MaySend.{new_batch}
 

@@ -1,5 +1,5 @@
 -- A new core, and the reports that are fetched from it.
-use Rattle.std.specs.Prelude.{◌≡◌, ℕ, ◌≤◌, ◌<◌, ◌^◌, ℤ, pos, ◌≤ℤ◌, false, List, [], ◌∷◌, length, replicate, drop, Option, Some, None, Ok, slice_index_or, slice_set, slice_get}
+use Rattle.std.specs.Prelude.{◌≡◌, ℕ, ◌≤◌, ◌<◌, ◌^◌, false, List, [], length, replicate, drop, Option, None, Ok, slice_index_or, slice_set, slice_get}
 use Rattle.kp_accum.specs.declared.config.Config.{Config}
 use Rattle.kp_accum.specs.Config.{checked}
 use Rattle.kp_core.specs.declared.names.Names.{Names}
@@ -9,7 +9,7 @@ use Rattle.kp_core.specs.Partitions.{new_partition}
 
 -- ---- a new core
 
-unfoldable pub new_core : Config → Names → ℕ → ℕ → ℤ → ℕ → Core
+unfoldable pub new_core : Config → Names → ℕ → ℕ → ℕ → ℕ → Core
 new_core c names partitions senders id correlation = record {
   config = c;
   names = names;
@@ -30,7 +30,7 @@ abbrev pub NAME_LIMIT : ℕ
 NAME_LIMIT = 249
 
 -- what a new core may be made of
-pub record MayOpen (c : Config) (names : Names) (partitions senders : ℕ) (id : ℤ) (correlation : ℕ) : Type 0 where
+pub record MayOpen (c : Config) (names : Names) (partitions senders id correlation : ℕ) : Type 0 where
   pub config : checked c ≡ Ok tt
   pub some_partitions : 1 ≤ partitions
   pub partition_limit : partitions ≤ 1024
@@ -38,7 +38,7 @@ pub record MayOpen (c : Config) (names : Names) (partitions senders : ℕ) (id :
   pub sender_limit : senders ≤ 64
   pub topic : length names.topic ≤ NAME_LIMIT
   pub client : length names.client ≤ NAME_LIMIT
-  pub known_id : pos 0 ≤ℤ id
+  pub known_id : id < 2 ^ 63
   pub known_correlation : correlation < 2 ^ 31
 
 -- ---- a sender's reports are fetched first in, first out

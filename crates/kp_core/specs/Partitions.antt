@@ -1,5 +1,5 @@
 -- Partitions and their items, and the memory that is used.
-use Rattle.std.specs.Prelude.{ℕ, ◌+◌, ℤ, negsuc, Bool, false, true, List, [], ◌∷◌, ◌++◌, map, sum, flat_map, unwrap_or, None, slice_index_or, ◌==◌, if◌then◌else◌}
+use Rattle.std.specs.Prelude.{ℕ, Bool, false, true, List, [], ◌∷◌, ◌++◌, map, sum, flat_map, unwrap_or, None, slice_index_or, ◌==◌, if◌then◌else◌}
 use Rattle.std.specs.List.{enumerate_from, last_or, list_any}
 use Rattle.kp_accum.specs.declared.item.Item.{Item}
 use Rattle.kp_accum.specs.Queue.{Pending, charge_of}
@@ -15,7 +15,7 @@ is_in p ps = list_any (λ q. q == p) ps
 -- ---- one partition
 
 -- a partition of which nothing was ever sent, with its first producer id
-abbrev pub new_partition : ℤ → Partition
+abbrev pub new_partition : ℕ → Partition
 new_partition id = record {
   queue = [];
   open_batches = [];
@@ -28,8 +28,8 @@ new_partition id = record {
 }
 
 -- the producer id under which its next batch goes out
-abbrev pub present_id : Partition → ℤ
-present_id t = unwrap_or (last_or None t.ids) (negsuc 0)
+abbrev pub present_id : Partition → ℕ
+present_id t = unwrap_or (last_or None t.ids) 0
 
 abbrev pub items_queued : List Pending → List Item
 items_queued queue = flat_map (λ b. b.items) queue
@@ -44,7 +44,7 @@ untold t = items_open t.open_batches ++ items_queued t.queue
 -- ---- all partitions
 
 abbrev pub partition_at : ℕ → List Partition → Partition
-partition_at p ts = slice_index_or ts p (new_partition (negsuc 0))
+partition_at p ts = slice_index_or ts p (new_partition 0)
 
 -- these partitions changed, and the others as they are
 unfoldable pub changed_at : List ℕ → (ℕ → Partition → Partition) → List Partition → List Partition

@@ -1,5 +1,5 @@
 -- The sender core as its contracts see it: partitions with their batches, requests in flight, reports not yet fetched.
-use Rattle.std.specs.Prelude.{ℕ, Bool, List, ℤ, Option}
+use Rattle.std.specs.Prelude.{ℕ, Bool, List, Option}
 use Rattle.kp_accum.specs.declared.config.Config.{Config}
 use Rattle.kp_accum.specs.declared.item.Item.{Item}
 use Rattle.kp_accum.specs.Queue.{Pending}
@@ -12,7 +12,7 @@ use Rattle.kp_core.specs.declared.outcome.Report.{Report}
 -- A batch that was handed over: cut once and for good.
 pub record Batch : Type 0 where
   pub number : ℕ  -- how many batches of its partition were handed over before it
-  pub id : ℤ  -- the producer id under which it is sent
+  pub id : ℕ  -- the producer id under which it is sent
   pub sequence : ℕ  -- its base sequence: how many records of its partition were handed over under this id before it
   pub items : List Item
 
@@ -26,7 +26,7 @@ pub record Open : Type 0 where
 pub record Partition : Type 0 where
   pub queue : List Pending  -- the batches not yet handed over, oldest first
   pub open_batches : List Open  -- oldest first
-  pub ids : List ℤ  -- its producer ids, the present one last
+  pub ids : List ℕ  -- its producer ids, the present one last
   pub next_number : ℕ  -- how many batches were handed over
   pub next_sequence : ℕ  -- how many records were handed over under the present id
   pub acknowledged : Bool  -- the first batch under the present id was acknowledged

@@ -1,12 +1,11 @@
 -- A reply: which request it names, and what it does.
-use Rattle.std.specs.Prelude.{ℕ, ℤ, pos, Bool, true, false, List, [], ◌∷◌, ◌++◌, length, Option, Some, None, Result, Ok, Err, find, if◌then◌else◌}
+use Rattle.std.specs.Prelude.{ℕ, ℤ, pos, true, false, List, [], ◌∷◌, ◌++◌, length, Option, Some, None, Result, Ok, Err, find, nat_abs, if◌then◌else◌}
 use Rattle.std.specs.Ordering.{int_eq}
 use Rattle.kp_wire.specs.Fields.{int32}
 use Rattle.kp_frames.specs.declared.api.Api.{Api}
 use Rattle.kp_frames.specs.declared.api.Api.TheVariants as api
 use Rattle.kp_frames.specs.declared.fault.FrameFault.{FrameFault}
 use Rattle.kp_frames.specs.declared.fault.FrameFault.TheVariants.{Short, Mismatch}
-use Rattle.kp_frames.specs.declared.produce.PartitionProduceResponse.{PartitionProduceResponse}
 use Rattle.kp_frames.specs.declared.producer_id.InitProducerIdResponse.{InitProducerIdResponse}
 use Rattle.kp_frames.specs.declared.response.Response.{Response}
 use Rattle.kp_frames.specs.declared.response.ResponseBody.{ResponseBody}
@@ -79,20 +78,20 @@ batches_replied now r s (Some answers) =
 -- ---- a reply to an InitProducerId request
 
 -- A partition that still wants an id goes on under this one, from sequence number 0.
-abbrev pub under : ℤ → Partition → Partition
+abbrev pub under : ℕ → Partition → Partition
 under id t = record t { ids = t.ids ++ id ∷ []; next_sequence = 0; acknowledged = false }
 
-abbrev pub under_if_wanted : ℤ → Core → ℕ → Partition → Partition
+abbrev pub under_if_wanted : ℕ → Core → ℕ → Partition → Partition
 under_if_wanted id s p t = if wants_id s.config t then under id t else t
 
-abbrev pub id_given : ℤ → IdRequest → Core → Core
+abbrev pub id_given : ℕ → IdRequest → Core → Core
 id_given id r s = record s { partitions = changed_at (r.partition ∷ []) (under_if_wanted id s) s.partitions; id_request = None }
 
 abbrev pub id_refused : ℕ → Core → Core
 id_refused now s = record s { id_request = None; id_waits = Some now }
 
 abbrev pub id_answered : ℕ → IdRequest → InitProducerIdResponse → Core → Core
-id_answered now r response s = if is_given response then id_given response.producer_id r s else id_refused now s
+id_answered now r response s = if is_given response then id_given (nat_abs response.producer_id) r s else id_refused now s
 
 abbrev pub id_replied : ℕ → IdRequest → InitProducerIdResponse → Core → Replies
 id_replied now r response s =

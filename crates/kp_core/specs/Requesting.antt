@@ -25,7 +25,7 @@ pub record Outgoing : Type 0 where
 -- ---- as a message (protocol guide: acks -1 asks for an answer once all replicas in sync have the batches)
 
 abbrev pub head_of : Batch → BatchHead
-head_of b = record { producer_id = b.id; epoch = pos 0; base_sequence = pos b.sequence }
+head_of b = record { producer_id = pos b.id; epoch = pos 0; base_sequence = pos b.sequence }
 
 abbrev pub bytes_of : Batch → List ℕ
 bytes_of b = spelling (written (head_of b) (map body_of b.items))

@@ -1,11 +1,11 @@
 -- What senders are told, and what telling does to the core.
-use Rattle.std.specs.Prelude.{ℕ, ◌+ℤ◌, ℤ, pos, Bool, List, [], ◌++◌, map, filter, flat_map, ◌==◌, ◌&&◌}
+use Rattle.std.specs.Prelude.{ℕ, ◌+ℤ◌, ℤ, pos, List, ◌++◌, map, filter, flat_map, ◌==◌, ◌&&◌}
 use Rattle.std.specs.List.{enumerate_from}
 use Rattle.kp_accum.specs.declared.item.Item.{Item}
 use Rattle.kp_core.specs.declared.outcome.Outcome.{Outcome}
 use Rattle.kp_core.specs.declared.outcome.Outcome.TheVariants.{Delivered}
 use Rattle.kp_core.specs.declared.outcome.Report.{Report}
-use Rattle.kp_core.specs.Records.{Partition, Core, Told, Effect, Step}
+use Rattle.kp_core.specs.Records.{Partition, Core, Told, Effect}
 use Rattle.kp_core.specs.Partitions.{is_empty, partition_at, changed_at}
 use Rattle.kp_core.specs.Attempts.{is_live}
 

@@ -8,7 +8,7 @@ use Rattle.kp_accum.specs.Ready.{is_over, is_late}
 use Rattle.kp_core.specs.declared.outcome.Outcome.TheVariants.{Unsent}
 use Rattle.kp_core.specs.declared.outcome.Reason.TheVariants.{Expired}
 use Rattle.kp_core.specs.declared.ticked.Ticked.{Ticked}
-use Rattle.kp_core.specs.Records.{Open, Partition, Request, IdRequest, Core, Told, Effect, Step}
+use Rattle.kp_core.specs.Records.{Open, Partition, Request, IdRequest, Core, Effect, Step}
 use Rattle.kp_core.specs.Partitions.{items_queued}
 use Rattle.kp_core.specs.Attempts.{dropped}
 use Rattle.kp_core.specs.Telling.{told_all, at_each, told_at_each}
