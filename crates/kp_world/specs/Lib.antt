@@ -1,0 +1,9 @@
+pub mod Line
+pub mod World
+pub mod Message
+pub mod Noting
+pub mod Accepting
+pub mod Client
+pub mod Delivering
+pub mod Run
+pub mod Lines

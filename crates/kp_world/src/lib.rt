@@ -1,0 +1,6 @@
+//! Worlds: a producer, its network and a broker, and all that a schedule of events can bring about.
+#![tactic(auto)]
+
+mod event;
+
+pub use event::{Event, Treatment};
