@@ -1,0 +1,14 @@
+pub mod Evaluation
+pub mod Schedules
+pub mod Linger
+pub mod Window
+pub mod Reordering
+pub mod Repeats
+pub mod OldBatches
+pub mod Senders
+pub mod Deadlines
+pub mod Fences
+pub mod Memory
+pub mod Requests
+pub mod FreshIds
+pub mod Flushing

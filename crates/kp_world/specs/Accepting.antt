@@ -1,5 +1,5 @@
 -- Accepting a record, and taking it: the oldest accepted item that was not taken is appended.
-use Rattle.std.specs.Prelude.{ℕ, ◌+◌, Bool, List, [], ◌∷◌, ◌++◌, length, filter, Option, Some, None, slice_get, slice_set, slice_index, slice_index_or, nat_lt, ◌==◌, ◌||◌, if◌then◌else◌}
+use Rattle.std.specs.Prelude.{ℕ, ◌+◌, Bool, List, [], ◌∷◌, ◌++◌, length, filter, Option, Some, None, slice_set, slice_index, slice_index_or, nat_lt, ◌==◌, ◌||◌, if◌then◌else◌}
 use Rattle.kp_batch.specs.declared.record.Record.{Record}
 use Rattle.kp_accum.specs.declared.item.Item.{Item}
 use Rattle.kp_accum.specs.Queue.{charge_of}

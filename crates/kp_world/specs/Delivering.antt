@@ -1,7 +1,7 @@
 -- Packets at the broker. What any honest broker may do with one, and what the loopback broker does.
-use Rattle.std.specs.Prelude.{◌≡◌, ◌⊎◌, ℕ, ◌+◌, ◌<◌, ◌^◌, ℤ, pos, negsuc, List, [], ◌∷◌, ◌++◌, map, length, Some, slice_index_or, slice_set, codes, All}
+use Rattle.std.specs.Prelude.{◌≡◌, ◌⊎◌, ℕ, ◌+◌, ◌<◌, ◌^◌, ℤ, pos, negsuc, List, [], ◌∷◌, ◌++◌, length, slice_index_or, slice_set, codes, All}
 use Rattle.kp_batch.specs.declared.record.Record.{Record}
-use Rattle.kp_log.specs.BrokerStep.{Answered, BrokerStep, Offered, offered_to, refused_unseen, offered_late}
+use Rattle.kp_log.specs.BrokerStep.{BrokerStep, Offered, offered_to, refused_unseen, offered_late}
 use Rattle.kp_log.specs.History.{Sent, History, empty_history, with_others}
 use Rattle.kp_core.specs.Next.{Sending, Demand, Append, NewId}
 use Rattle.kp_world.specs.declared.event.Treatment.{Treatment}

@@ -7,3 +7,4 @@ pub mod Client
 pub mod Delivering
 pub mod Run
 pub mod Lines
+pub mod Text

@@ -1,9 +1,8 @@
 -- The lines of a world: what happened, event by event, and then the logs and the audits.
-use Rattle.std.specs.Prelude.{ℕ, Bool, true, false, List, [], ◌∷◌, ◌++◌, map, flat_map, length, unwrap_or, pos, if◌then◌else◌}
+use Rattle.std.specs.Prelude.{ℕ, List, [], ◌∷◌, ◌++◌, map, flat_map, length, unwrap_or, pos, if◌then◌else◌}
 use Rattle.std.specs.List.{enumerate_from, range_with_len}
 use Rattle.kp_log.specs.declared.stored.Stored.{Stored}
 use Rattle.kp_log.specs.History.{History, is_under}
-use Rattle.kp_core.specs.declared.outcome.Report.{Report}
 use Rattle.kp_core.specs.Partitions.{partition_at}
 use Rattle.kp_core.specs.Records.{Partition, Told}
 use Rattle.kp_core.specs.Telling.{reports_to}

@@ -1,6 +1,6 @@
 -- A world: a producer's core with its senders, the packets and replies that ever travelled, the partitions' logs, and
 -- what happened so far.
-use Rattle.std.specs.Prelude.{ℕ, Bool, false, List, [], ◌∷◌, ℤ, Some, replicate, codes}
+use Rattle.std.specs.Prelude.{ℕ, Bool, false, List, [], ◌∷◌, ℤ, replicate, codes}
 use Rattle.kp_accum.specs.declared.config.Config.{Config}
 use Rattle.kp_accum.specs.declared.item.Item.{Item}
 use Rattle.kp_log.specs.BrokerStep.{Answered}
