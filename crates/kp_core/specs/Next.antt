@@ -17,8 +17,8 @@ pub record Sending : Type 0 where
 
 -- what a request asks the broker for
 pub data Demand : Type 0 where
-  Append : List Sending → Demand  -- that these batches be appended
-  NewId : (partition : ℕ) → Demand  -- a producer id, for this partition
+  Produce : List Sending → Demand  -- that these batches be appended
+  InitProducerId : (partition : ℕ) → Demand  -- a fresh producer id, for this partition
 
 -- ---- the batches
 
@@ -70,14 +70,14 @@ next_asking now s = if may_ask now s then option_map (λ x. x.0) (wanting s) els
 
 -- ---- the request
 
-abbrev pub append_of : List Sending → Option Demand
-append_of [] = None
-append_of (x ∷ xs) = Some (Append (x ∷ xs))
+abbrev pub produce_of : List Sending → Option Demand
+produce_of [] = None
+produce_of (x ∷ xs) = Some (Produce (x ∷ xs))
 
 -- an id goes before any batches
 abbrev pub demand_of : ℕ → Core → Option ℕ → Option Demand
-demand_of now s (Some p) = Some (NewId p)
-demand_of now s None = append_of (next_batches now s)
+demand_of now s (Some p) = Some (InitProducerId p)
+demand_of now s None = produce_of (next_batches now s)
 
 unfoldable pub next_demand : ℕ → Core → Option Demand
 next_demand now s = if has_window s then demand_of now s (next_asking now s) else None

@@ -8,14 +8,14 @@ use Rattle.kp_accum.specs.Queue.{body_of}
 use Rattle.kp_frames.specs.declared.produce.PartitionProduceData.{PartitionProduceData}
 use Rattle.kp_frames.specs.declared.request.Request.{Request as Message}
 use Rattle.kp_frames.specs.declared.request.RequestBody.{RequestBody}
-use Rattle.kp_frames.specs.declared.request.RequestBody.TheVariants.{Produce, InitProducerId}
+use Rattle.kp_frames.specs.declared.request.RequestBody.TheVariants as body
 use Rattle.kp_core.specs.declared.fault.CoreFault.{CoreFault}
 use Rattle.kp_core.specs.declared.fault.CoreFault.TheVariants.{CorrelationSpent, Ended}
 use Rattle.kp_core.specs.declared.names.Names.{Names}
 use Rattle.kp_core.specs.Records.{Batch, Core, Step}
 use Rattle.kp_core.specs.Partitions.{changed_at}
 use Rattle.kp_core.specs.HandingOver.{sent_in}
-use Rattle.kp_core.specs.Next.{Sending, Demand, Append, NewId, next_demand}
+use Rattle.kp_core.specs.Next.{Sending, Demand, Produce, InitProducerId, next_demand}
 
 -- a request that goes out
 pub record Outgoing : Type 0 where
@@ -34,13 +34,13 @@ abbrev pub data_of : Sending → PartitionProduceData
 data_of x = record { partition = pos x.partition; records = bytes_of x.batch }
 
 abbrev pub body_for : Config → Names → Demand → RequestBody
-body_for c names (Append xs) = Produce (record {
+body_for c names (Produce xs) = body.Produce (record {
   transactional_id = None;
   acks = negsuc 0;
   timeout_ms = pos c.request_timeout_ms;
   topics = (record { topic = names.topic; partitions = map data_of xs }) ∷ [];
 })
-body_for c names (NewId p) = InitProducerId (record { transactional_id = None; transaction_timeout_ms = pos 2147483647 })
+body_for c names (InitProducerId p) = body.InitProducerId (record { transactional_id = None; transaction_timeout_ms = pos (2 ^ 31 - 1) })
 
 unfoldable pub message_of : Config → Names → Outgoing → Message
 message_of c names o = record { correlation = pos o.correlation; client = Some names.client; body = body_for c names o.demand }
@@ -52,13 +52,13 @@ partitions_in xs = map (λ x. x.partition) xs
 
 -- Its batches are in flight, and the last one's partition is the last one used.
 abbrev pub sent_out : ℕ → Core → Demand → Core
-sent_out now s (Append xs) = record s {
+sent_out now s (Produce xs) = record s {
   partitions = changed_at (partitions_in xs) (λ p t. sent_in s.correlation t) s.partitions;
   requests = s.requests ++ (record { correlation = s.correlation; sent = now; partitions = partitions_in xs }) ∷ [];
   correlation = s.correlation + 1;
   last_used = last_or s.last_used (partitions_in xs);
 }
-sent_out now s (NewId p) = record s {
+sent_out now s (InitProducerId p) = record s {
   id_request = Some (record { correlation = s.correlation; sent = now; partition = p });
   correlation = s.correlation + 1;
 }

@@ -6,10 +6,11 @@ use Rattle.kp_log.specs.KeptBatches.{kept_in}
 use Rattle.kp_log.specs.SequenceRule.{judged}
 use Rattle.kp_core.proofs.Evaluation as core
 use Rattle.kp_world.specs.Client.{client}
-use Rattle.kp_world.specs.Delivering.{logs_with, answers_to, delivered}
+use Rattle.kp_world.specs.Loopback.{logs_with, answers_to, delivered}
 use Rattle.kp_world.specs.Lines.{lines}
 use Rattle.kp_world.specs.Noting.{noted}
-use Rattle.kp_world.specs.Run.{with_delivery, with_others_at, stepped, replayed_from, replayed}
+use Rattle.kp_world.specs.Replay.{stepped, replayed_from, replayed}
+use Rattle.kp_world.specs.Run.{with_delivery, with_others_at}
 use Rattle.kp_world.specs.Text.{line_text, text}
 use Rattle.kp_world.specs.World.{opening}
 

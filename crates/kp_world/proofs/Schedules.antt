@@ -4,7 +4,7 @@ use Rattle.std.specs.Prelude.{Result, Ok, Err, codes}
 use Rattle.kp_accum.specs.declared.config.Config.{Config}
 use Rattle.kp_world.specs.declared.event.Event.{Event}
 use Rattle.kp_world.specs.declared.event.Event.TheVariants.{Accept, Take}
-use Rattle.kp_world.specs.Run.{replayed}
+use Rattle.kp_world.specs.Replay.{replayed}
 use Rattle.kp_world.specs.Text.{Text, text}
 use Rattle.kp_world.specs.World.{World, opening}
 

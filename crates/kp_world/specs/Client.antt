@@ -6,7 +6,7 @@ use Rattle.kp_core.specs.declared.fault.CoreFault.TheVariants as fault
 use Rattle.kp_core.specs.declared.ticked.Replied.{Replied}
 use Rattle.kp_core.specs.Fence.{ended}
 use Rattle.kp_core.specs.Flush.{flushed}
-use Rattle.kp_core.specs.Next.{Sending, Demand, Append, NewId}
+use Rattle.kp_core.specs.Next.{Sending, Demand, Produce, InitProducerId}
 use Rattle.kp_core.specs.Partitions.{is_empty, untold}
 use Rattle.kp_core.specs.Records.{Batch, Core}
 use Rattle.kp_core.specs.Replies.{replied}
@@ -26,8 +26,8 @@ abbrev pub sent_part : Sending → SentPart
 sent_part x = record { partition = x.partition; sequence = x.batch.sequence; count = length x.batch.items }
 
 abbrev pub sent_line : ℕ → Demand → Line
-sent_line k (Append xs) = SentBatches k (map sent_part xs)
-sent_line k (NewId p) = SentInit k
+sent_line k (Produce xs) = SentBatches k (map sent_part xs)
+sent_line k (InitProducerId p) = SentInit k
 
 -- the batches of a packet that go to this partition and have this number
 abbrev pub batches_for : ℕ → ℕ → List Sending → List Batch
@@ -35,8 +35,8 @@ batches_for p number xs = map (λ x. x.batch) (filter (λ x. x.partition == p &&
 
 -- behind each partition's batches the one that has the next number, if it goes out: it is handed over
 abbrev pub handed_with : Demand → List (List Batch) → List (List Batch)
-handed_with (NewId p) handed = handed
-handed_with (Append xs) handed = map (λ y. y.1 ++ batches_for y.0 (length y.1) xs) (enumerate_from 0 handed)
+handed_with (InitProducerId p) handed = handed
+handed_with (Produce xs) handed = map (λ y. y.1 ++ batches_for y.0 (length y.1) xs) (enumerate_from 0 handed)
 
 abbrev pub with_packet : Outgoing → World → World
 with_packet o w = record w { packets = w.packets ++ o ∷ []; handed = handed_with o.demand w.handed }

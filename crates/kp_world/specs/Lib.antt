@@ -5,6 +5,8 @@ pub mod Noting
 pub mod Accepting
 pub mod Client
 pub mod Delivering
+pub mod Loopback
 pub mod Run
+pub mod Replay
 pub mod Lines
 pub mod Text

@@ -1,14 +1,14 @@
--- All that a schedule can bring about, for any honest broker; and what it does bring about with the loopback broker.
-use Rattle.std.specs.Prelude.{◌≡◌, ℕ, ◌+◌, ◌≤◌, List, [], ◌∷◌, ◌++◌, map, length, Option, Some, None, Result, Ok, Err, slice_get}
+-- All that a schedule can bring about, whatever the network loses, repeats and reorders, for any honest broker.
+use Rattle.std.specs.Prelude.{◌≡◌, ℕ, ◌≤◌, List, [], ◌∷◌, ◌++◌, map, length, Option, Some, Ok, slice_get}
 use Rattle.kp_accum.specs.declared.config.Config.{Config}
 use Rattle.kp_accum.specs.Config.{checked}
 use Rattle.kp_core.specs.Requesting.{Outgoing}
 use Rattle.kp_world.specs.declared.event.Event.{Event}
 use Rattle.kp_world.specs.declared.event.Event.TheVariants.{Deliver, Other}
-use Rattle.kp_world.specs.declared.event.Treatment.{Treatment}
 use Rattle.kp_world.specs.Client.{client, has_partition, only_if}
-use Rattle.kp_world.specs.Delivering.{Delivery, Delivers, delivered, logs_with_others}
+use Rattle.kp_world.specs.Delivering.{Delivery, Delivers}
 use Rattle.kp_world.specs.Line.{Line, AnswerPart, AnswerBatches, AnswerInit}
+use Rattle.kp_world.specs.Loopback.{logs_with_others}
 use Rattle.kp_world.specs.Noting.{only_noted}
 use Rattle.kp_world.specs.World.{PartAnswer, ReplyContent, Batches, Id, World, opening}
 
@@ -33,7 +33,7 @@ with_delivery o d w = only_noted (answer_line (length w.replies) d.content ∷ [
 unfoldable pub with_others_at : ℕ → ℕ → World → Option World
 with_others_at p n w = only_if (has_partition p w) (only_noted [] (record w { logs = logs_with_others p n w.logs }))
 
--- ---- any honest broker
+-- ---- a step
 
 -- Any packet that ever went out comes, and the broker does with it what it may.
 pub record Arrives (w : World) (k : ℕ) (v : World) : Type 0 where
@@ -48,7 +48,8 @@ Steps w (Deliver k treatment) v = Arrives w k v
 Steps w (Other p n) v = with_others_at p n w ≡ Some v
 Steps w e v = client e w ≡ Some v
 
--- a list of steps
+-- ---- a run: a list of steps
+
 unfoldable pub Run : World → List Event → World → Type 0
 Run w [] v = v ≡ w
 Run w (e ∷ es) v = (middle : World) × Steps w e middle × Run middle es v
@@ -65,22 +66,3 @@ pub record MayBegin (c : Config) (partitions senders : ℕ) : Type 0 where
 pub record IsReached (c : Config) (partitions senders : ℕ) (es : List Event) (w : World) : Type 0 where
   pub may_begin : MayBegin c partitions senders
   pub run : Run (opening c partitions senders) es w
-
--- ---- the loopback broker
-
-abbrev pub arrived : ℕ → Treatment → Option Outgoing → World → Option World
-arrived k how None w = None
-arrived k how (Some o) w = Some (with_delivery o (delivered how w o.demand) w)
-
-unfoldable pub stepped : Event → World → Option World
-stepped (Deliver k how) w = arrived k how (slice_get w.packets k) w
-stepped (Other p n) w = with_others_at p n w
-stepped e w = client e w
-
--- The world after the events, or the number of the first that names what isn't there, from n on.
-unfoldable pub replayed_from : ℕ → List Event → World → Result World ℕ
-replayed_from n [] w = Ok w
-replayed_from n (e ∷ es) w = elim (stepped e w) [ Some v ↦ replayed_from (n + 1) es v | None ↦ Err n ]
-
-unfoldable pub replayed : List Event → World → Result World ℕ
-replayed es w = replayed_from 0 es w
