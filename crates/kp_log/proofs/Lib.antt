@@ -7,3 +7,4 @@ pub mod SequenceLemmas
 pub mod OffsetLemmas
 pub mod RulingLemmas
 pub mod LoopbackLemmas
+pub mod KeepingLemmas

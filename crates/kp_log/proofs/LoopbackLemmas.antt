@@ -13,10 +13,10 @@ use Rattle.kp_log.specs.declared.kept.Kept.{Kept}
 use Rattle.kp_log.specs.declared.kept.Span.{Span}
 use Rattle.kp_log.specs.declared.stored.Stored.{Stored}
 use Rattle.kp_log.specs.Log.{Log, count_of, kept_of, last_kept, nothing_kept, appended}
-use Rattle.kp_log.specs.SequenceRule.{Step, is_repeat, is_older, judged}
+use Rattle.kp_log.specs.SequenceRule.{Step, is_repeat, is_next, is_older}
 use Rattle.kp_log.specs.History.{Sent, History, batch_of, stored_of, of_id, with_batch}
 use Rattle.kp_log.specs.KeptBatches.{span_in, offset_in, kept_in, log_for}
-use Rattle.kp_log.specs.BrokerStep.{Answered, Stands, IsOld, BrokerStep, Offered, answered, error_of, history_after, offered_to, offered_late}
+use Rattle.kp_log.specs.BrokerStep.{Stands, IsOld, MayAppend, BrokerStep, Offered, answered, error_of, history_after, offered_to, offered_late}
 use Rattle.kp_log.specs.HandedOver.{AreInSequence, IsStored, CameBy}
 use Rattle.kp_log.proofs.LogLemmas.{IsNext, next_is, int_eq_same, length-stored_as}
 use Rattle.kp_log.proofs.RulingLemmas.{Ruling, Repeats, GoesOn, IsOlder, LeavesGap, ruling, step_of, judged_as}
@@ -78,11 +78,49 @@ told_of h b some (GoesOn fresh is) = ap (λ (x : History). let o : Offered = rec
 told_of h b some (IsOlder fresh is old) = ap (λ (x : History). let o : Offered = record { answer = error_of (pos 46); history = x } in o) (stays h b)
 told_of h b some (LeavesGap fresh is old) = ap (λ (x : History). let o : Offered = record { answer = error_of (pos 45); history = x } in o) (stays h b)
 
-pub offered_as : (h : History) (b : Sent) → 0 < length b.bodies → (r : Ruling h.records (kept_in b.id h).spans b) → offered_to h b ≡ offered_of h b r
+offered_told : (h : History) (b : Sent) (r : Ruling h.records (kept_in b.id h).spans b) → offered_to h b ≡ told h b (step_of (log_for b.id h) (batch_of b) r)
 unfolding offered_to
-offered_as h b some r =
+offered_told h b r =
     let kept : (kept_of (pos b.id) (log_for b.id h)).spans ≡ (kept_in b.id h).spans = ap (λ (k : Kept). k.spans) (kept_of_log_for b.id h) in
-    ap (told h b) (judged_as (log_for b.id h) (pos 0) (negsuc 0) b h.records (kept_in b.id h).spans r refl kept) ∙ told_of h b some r
+    ap (told h b) (judged_as (log_for b.id h) (pos 0) (negsuc 0) b h.records (kept_in b.id h).spans r refl kept)
+
+pub offered_as : (h : History) (b : Sent) → 0 < length b.bodies → (r : Ruling h.records (kept_in b.id h).spans b) → offered_to h b ≡ offered_of h b r
+offered_as h b some r = offered_told h b r ∙ told_of h b some r
+
+-- ---- what becomes of the history
+
+-- the history stays, or the batch is appended where it may be
+abbrev Changes : History → Sent → History → Type 0
+Changes h b after = (after ≡ h) ⊎ (MayAppend h b × (after ≡ with_batch b h))
+
+pub count_at : (h : History) (b : Sent) → is_next h.records (batch_of b) ≡ true → count_of (pos b.id) h.records ≡ b.sequence
+count_at h b is =
+    let next : IsNext h.records (batch_of b) = next_is h.records (batch_of b) is in
+    let follows : pos b.sequence ≡ pos (count_of (pos b.id) h.records) = next.follows in
+    cc
+
+either : (h : History) (b : Sent) (t : Bool) → MayAppend h b → Changes h b (cond t (with_batch b h) h)
+either h b true may = inr (may, refl)
+either h b false may = inl refl
+
+changes_by : (h : History) (b : Sent) (r : Ruling h.records (kept_in b.id h).spans b) → Changes h b (told h b (step_of (log_for b.id h) (batch_of b) r)).history
+changes_by h b (Repeats s is) = inl (stays h b)
+changes_by h b (GoesOn fresh is) = either h b (nat_lt (length h.records) (length (appended (log_for b.id h) (batch_of b)).records)) (inl (count_at h b is))
+changes_by h b (IsOlder fresh is old) = inl (stays h b)
+changes_by h b (LeavesGap fresh is old) = inl (stays h b)
+
+changes : (h : History) (b : Sent) → Changes h b (offered_to h b).history
+changes h b =
+    let r : Ruling h.records (kept_in b.id h).spans b = ruling h.records (kept_in b.id h).spans b in
+    subst (λ (o : Offered). Changes h b o.history) (sym (offered_told h b r)) (changes_by h b r)
+
+-- told to answer late, with a code that says nothing of the batch
+pub late_step : (h : History) (b : Sent) (code : ℤ) → code ≢ pos 0 → code ≢ pos 46 → BrokerStep h b (offered_late h b code).answer (offered_late h b code).history
+late_step h b code other another = record {
+  change = changes h b;
+  stands = λ e. absurd (other e);
+  is_old = λ e. absurd (another e);
+}
 
 -- ---- a batch of the list handed over
 
@@ -177,9 +215,7 @@ step_by handed h b in_sequence came at (Repeats s is) = record {
   is_old = λ e. absurd (apart 0 46 refl e);
 }
 step_by handed h b in_sequence came at (GoesOn fresh is) =
-    let next : IsNext h.records (batch_of b) = next_is h.records (batch_of b) is in
-    let follows : pos b.sequence ≡ pos (count_of (pos b.id) h.records) = next.follows in
-    let count : count_of (pos b.id) h.records ≡ b.sequence = cc in
+    let count : count_of (pos b.id) h.records ≡ b.sequence = count_at h b is in
     record {
       change = inr (inl count, refl);
       stands = λ _. stands_last h.records b count;
