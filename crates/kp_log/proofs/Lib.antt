@@ -8,3 +8,4 @@ pub mod OffsetLemmas
 pub mod RulingLemmas
 pub mod LoopbackLemmas
 pub mod KeepingLemmas
+pub mod TieLemmas
