@@ -16,7 +16,7 @@ use Rattle.kp_log.specs.Log.{Log, count_of, kept_of, last_kept, nothing_kept, ap
 use Rattle.kp_log.specs.SequenceRule.{Step, is_repeat, is_next, is_older}
 use Rattle.kp_log.specs.History.{Sent, History, batch_of, stored_of, of_id, with_batch}
 use Rattle.kp_log.specs.KeptBatches.{span_in, offset_in, kept_in, log_for}
-use Rattle.kp_log.specs.BrokerStep.{Stands, IsOld, MayAppend, BrokerStep, Offered, answered, error_of, history_after, offered_to, offered_late}
+use Rattle.kp_log.specs.BrokerStep.{Stands, IsOld, MayAppend, BrokerStep, NO_ERROR, DUPLICATE_SEQUENCE_NUMBER, Offered, answered, error_of, history_after, offered_to, offered_late}
 use Rattle.kp_log.specs.HandedOver.{AreInSequence, IsStored, CameBy}
 use Rattle.kp_log.proofs.LogLemmas.{IsNext, next_is, int_eq_same, length-stored_as}
 use Rattle.kp_log.proofs.RulingLemmas.{Ruling, Repeats, GoesOn, IsOlder, LeavesGap, ruling, step_of, judged_as}
@@ -60,8 +60,9 @@ offered_of h b (GoesOn fresh is) = record { answer = record { code = pos 0; base
 offered_of h b (IsOlder fresh is old) = record { answer = error_of (pos 46); history = h }
 offered_of h b (LeavesGap fresh is old) = record { answer = error_of (pos 45); history = h }
 
-abbrev told : History → Sent → Step → Offered
-told h b step = record { answer = answered step.answer; history = history_after h b step.log }
+-- its answer and its history, by the step of its log
+abbrev offered_by : History → Sent → Step → Offered
+offered_by h b step = record { answer = answered step.answer; history = history_after h b step.log }
 
 stays : (h : History) (b : Sent) → history_after h b (log_for b.id h) ≡ h
 stays h b = let same : nat_lt (length h.records) (length h.records) ≡ false = le-ltb (length h.records) (length h.records) (omega arith) in ap (λ t. cond t (with_batch b h) h) same
@@ -72,20 +73,20 @@ grows h b log is some =
     let less : length h.records < length log.records = omega (arith, longer, some) in
     ap (λ t. cond t (with_batch b h) h) (lt-ltb (length h.records) (length log.records) less)
 
-told_of : (h : History) (b : Sent) → 0 < length b.bodies → (r : Ruling h.records (kept_in b.id h).spans b) → told h b (step_of (log_for b.id h) (batch_of b) r) ≡ offered_of h b r
-told_of h b some (Repeats s is) = ap (λ (x : History). let o : Offered = record { answer = record { code = pos 0; base = s.base_offset }; history = x } in o) (stays h b)
-told_of h b some (GoesOn fresh is) = ap (λ (x : History). let o : Offered = record { answer = record { code = pos 0; base = pos (length h.records) }; history = x } in o) (grows h b (appended (log_for b.id h) (batch_of b)) refl some)
-told_of h b some (IsOlder fresh is old) = ap (λ (x : History). let o : Offered = record { answer = error_of (pos 46); history = x } in o) (stays h b)
-told_of h b some (LeavesGap fresh is old) = ap (λ (x : History). let o : Offered = record { answer = error_of (pos 45); history = x } in o) (stays h b)
+offered_by_rule : (h : History) (b : Sent) → 0 < length b.bodies → (r : Ruling h.records (kept_in b.id h).spans b) → offered_by h b (step_of (log_for b.id h) (batch_of b) r) ≡ offered_of h b r
+offered_by_rule h b some (Repeats s is) = ap (λ (x : History). let o : Offered = record { answer = record { code = pos 0; base = s.base_offset }; history = x } in o) (stays h b)
+offered_by_rule h b some (GoesOn fresh is) = ap (λ (x : History). let o : Offered = record { answer = record { code = pos 0; base = pos (length h.records) }; history = x } in o) (grows h b (appended (log_for b.id h) (batch_of b)) refl some)
+offered_by_rule h b some (IsOlder fresh is old) = ap (λ (x : History). let o : Offered = record { answer = error_of (pos 46); history = x } in o) (stays h b)
+offered_by_rule h b some (LeavesGap fresh is old) = ap (λ (x : History). let o : Offered = record { answer = error_of (pos 45); history = x } in o) (stays h b)
 
-offered_told : (h : History) (b : Sent) (r : Ruling h.records (kept_in b.id h).spans b) → offered_to h b ≡ told h b (step_of (log_for b.id h) (batch_of b) r)
+offered_is : (h : History) (b : Sent) (r : Ruling h.records (kept_in b.id h).spans b) → offered_to h b ≡ offered_by h b (step_of (log_for b.id h) (batch_of b) r)
 unfolding offered_to
-offered_told h b r =
+offered_is h b r =
     let kept : (kept_of (pos b.id) (log_for b.id h)).spans ≡ (kept_in b.id h).spans = ap (λ (k : Kept). k.spans) (kept_of_log_for b.id h) in
-    ap (told h b) (judged_as (log_for b.id h) (pos 0) (negsuc 0) b h.records (kept_in b.id h).spans r refl kept)
+    ap (offered_by h b) (judged_as (log_for b.id h) (pos 0) (negsuc 0) b h.records (kept_in b.id h).spans r refl kept)
 
 pub offered_as : (h : History) (b : Sent) → 0 < length b.bodies → (r : Ruling h.records (kept_in b.id h).spans b) → offered_to h b ≡ offered_of h b r
-offered_as h b some r = offered_told h b r ∙ told_of h b some r
+offered_as h b some r = offered_is h b r ∙ offered_by_rule h b some r
 
 -- ---- what becomes of the history
 
@@ -103,7 +104,7 @@ either : (h : History) (b : Sent) (t : Bool) → MayAppend h b → Changes h b (
 either h b true may = inr (may, refl)
 either h b false may = inl refl
 
-changes_by : (h : History) (b : Sent) (r : Ruling h.records (kept_in b.id h).spans b) → Changes h b (told h b (step_of (log_for b.id h) (batch_of b) r)).history
+changes_by : (h : History) (b : Sent) (r : Ruling h.records (kept_in b.id h).spans b) → Changes h b (offered_by h b (step_of (log_for b.id h) (batch_of b) r)).history
 changes_by h b (Repeats s is) = inl (stays h b)
 changes_by h b (GoesOn fresh is) = either h b (nat_lt (length h.records) (length (appended (log_for b.id h) (batch_of b)).records)) (inl (count_at h b is))
 changes_by h b (IsOlder fresh is old) = inl (stays h b)
@@ -112,10 +113,10 @@ changes_by h b (LeavesGap fresh is old) = inl (stays h b)
 changes : (h : History) (b : Sent) → Changes h b (offered_to h b).history
 changes h b =
     let r : Ruling h.records (kept_in b.id h).spans b = ruling h.records (kept_in b.id h).spans b in
-    subst (λ (o : Offered). Changes h b o.history) (sym (offered_told h b r)) (changes_by h b r)
+    subst (λ (o : Offered). Changes h b o.history) (sym (offered_is h b r)) (changes_by h b r)
 
 -- told to answer late, with a code that says nothing of the batch
-pub late_step : (h : History) (b : Sent) (code : ℤ) → code ≢ pos 0 → code ≢ pos 46 → BrokerStep h b (offered_late h b code).answer (offered_late h b code).history
+pub late_step : (h : History) (b : Sent) (code : ℤ) → code ≢ NO_ERROR → code ≢ DUPLICATE_SEQUENCE_NUMBER → BrokerStep h b (offered_late h b code).answer (offered_late h b code).history
 late_step h b code other another = record {
   change = changes h b;
   stands = λ e. absurd (other e);
@@ -155,6 +156,9 @@ found_of p f (c ∷ bs) s e = at_test (λ x. found_of p f bs s x) (p (f c)) refl
         let found : FoundOf p f bs s = deeper is in
         record { batch = found.batch; among = In-append_right found.batch (c ∷ []) bs found.among; is = found.is; passes = found.passes }
 
+same_offset : (records : List Stored) (c : Sent) (s : Span) (base : ℤ) → span_in records c ≡ s → pos (offset_in records c) ≡ base → base ≡ s.base_offset
+same_offset records c s base is at = sym at ∙ ap (λ (x : Span). x.base_offset) is
+
 -- a repeat of a batch that was handed over is that batch: it is answered with the offset where it stands
 repeat_stands : (handed : List Sent) (h : History) (b : Sent) (s : Span) → AreInSequence handed → CameBy handed h → Contains handed b
     → find (is_repeat (batch_of b)) (kept_in b.id h).spans ≡ Some s → Stands h.records b s.base_offset
@@ -171,7 +175,7 @@ repeat_stands handed h b s in_sequence came at is =
     let same_number : b.sequence ≡ c.sequence = cc in
     let same : c ≡ b = sym (one_batch 0 (of_id b.id handed) b c (counts handed b.id in_sequence) (handed_in handed b at) handed_c same_number) in
     let there : IsStored h.records c = is_stored handed h b.id c came appended_c in
-    let offset : there.base ≡ s.base_offset = sym (stands_at h.records c there.base there.some_records there.stands) ∙ ap (λ (x : Span). x.base_offset) found.is in
+    let offset : there.base ≡ s.base_offset = same_offset h.records c s there.base found.is (stands_at h.records c there.base there.some_records there.stands) in
     subst (λ x. Stands h.records x s.base_offset) same (subst (Stands h.records c) offset there.stands)
 
 -- ---- an older batch

@@ -9,7 +9,7 @@ ghost use Rattle.kp_log.specs.Log.{Log, log_of, empty, appended, stored_as};
 ghost use Rattle.kp_log.specs.SequenceRule.{IsFirst, judged, unchanged, offered};
 ghost use Rattle.kp_log.specs.History.{Sent, History, arrived, empty_history, with_others, NO_ID};
 ghost use Rattle.kp_log.specs.KeptBatches.{IsHistoryOf};
-ghost use Rattle.kp_log.specs.BrokerStep.{BrokerStep, answered, offered_to, refused_unseen, offered_late};
+ghost use Rattle.kp_log.specs.BrokerStep.{BrokerStep, NO_ERROR, DUPLICATE_SEQUENCE_NUMBER, answered, offered_to, refused_unseen, offered_late};
 ghost use Rattle.kp_log.specs.HandedOver.{Follows, AreInSequence, IsStored, CameBy};
 
 /// A batch that comes twice is answered twice alike, and the second time nothing changes, whatever the
@@ -47,9 +47,11 @@ pub fn loopback_is_a_broker()
     ensures offered { (handed : List Sent) (h : History) (b : Sent)
         → AreInSequence handed → CameBy handed h → Contains handed b
         → let o = offered_to h b in BrokerStep h b o.answer o.history }
-    ensures refused { (h : History) (b : Sent) (code : ℤ) → code ≢ pos 0 → code ≢ pos 46
+    ensures refused { (h : History) (b : Sent) (code : ℤ)
+        → code ≢ NO_ERROR → code ≢ DUPLICATE_SEQUENCE_NUMBER
         → let o = refused_unseen h code in BrokerStep h b o.answer o.history }
-    ensures late { (h : History) (b : Sent) (code : ℤ) → code ≢ pos 0 → code ≢ pos 46
+    ensures late { (h : History) (b : Sent) (code : ℤ)
+        → code ≢ NO_ERROR → code ≢ DUPLICATE_SEQUENCE_NUMBER
         → let o = offered_late h b code in BrokerStep h b o.answer o.history }
 {}
 
