@@ -1,9 +1,8 @@
 -- The definitions at work: what the loopback broker answers to batches of one, two and three records.
-use Rattle.std.proofs.Common.{◌≡◌, ◌⊎◌, ℕ, ◌≤◌, false, List, [], ◌∷◌, ◌++◌, length, ℤ, pos, negsuc, Some, None, refl, sym, ap, ◌∙◌, ⊎_elim, arith}
+use Rattle.std.proofs.Common.{◌≡◌, ℕ, ◌≤◌, false, List, [], ◌∷◌, ◌++◌, length, ℤ, pos, negsuc, Some, None, refl, sym, ap, ◌∙◌, ⊎_elim, arith}
 use Rattle.std.specs.Prelude.{◌==◌}
 use Rattle.std.proofs.lemmas.Bool.{true≢false, eq-eqb}
 use Rattle.kp_batch.specs.declared.record.Record.{Record}
-use Rattle.kp_log.specs.declared.stored.Stored.{Stored}
 use Rattle.kp_log.specs.History.{Sent, History, empty_history, with_batch, with_others, of_id, own, own_offsets}
 use Rattle.kp_log.specs.KeptBatches.{kept_in}
 use Rattle.kp_log.specs.SequenceRule.{judged}

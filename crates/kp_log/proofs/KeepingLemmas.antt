@@ -1,5 +1,5 @@
 -- A history that came by what was handed over stays one.
-use Rattle.std.proofs.Common.{◌≡◌, ◌⊎◌, ℕ, ◌+◌, ◌<◌, Bool, true, false, cond, List, [], ◌∷◌, ◌++◌, length, replicate, ℤ, pos, negsuc, refl, sym, ap, ◌∙◌, subst, ⊎_elim, arith, append_assoc, All, Contains}
+use Rattle.std.proofs.Common.{◌≡◌, ◌⊎◌, ℕ, ◌+◌, Bool, true, false, cond, List, [], ◌∷◌, ◌++◌, length, replicate, pos, negsuc, refl, sym, ap, ◌∙◌, subst, ⊎_elim, arith, append_assoc, Contains}
 use Rattle.std.specs.Prelude.{◌==◌}
 use Rattle.std.specs.Ordering.{int_eq}
 use Rattle.std.proofs.lemmas.Bool.{eqb-true}
@@ -14,7 +14,7 @@ use Rattle.kp_log.specs.KeptBatches.{kept_in}
 use Rattle.kp_log.specs.BrokerStep.{Offered, offered_to}
 use Rattle.kp_log.specs.HandedOver.{Follows, AreInSequence, IsStored, CameBy}
 use Rattle.kp_log.proofs.LogLemmas.{count_of-append, count_of_others}
-use Rattle.kp_log.proofs.PlaceLemmas.{In, In-append_cases, In-nil, In-cons, cut_cases}
+use Rattle.kp_log.proofs.PlaceLemmas.{In, In-append_cases, In-nil, cut_cases}
 use Rattle.kp_log.proofs.SequenceLemmas.{CountFrom, size_of, count_of-records_of, count_front, count_rest, below, first_batch, counts}
 use Rattle.kp_log.proofs.OffsetLemmas.{stored_still, stands_last}
 use Rattle.kp_log.proofs.RulingLemmas.{Ruling, Repeats, GoesOn, IsOlder, LeavesGap, ruling}
@@ -54,11 +54,12 @@ came_empty handed = record {
 
 pub came_of_more : (handed : List Sent) (b : Sent) (h : History) → CameBy handed h → CameBy (handed ++ b ∷ []) h
 came_of_more handed b h came = record {
-  first = λ id.
-      ((came.first id).0 ++ of_id id (b ∷ []),
-      filter-append (λ (c : Sent). c.id == id) handed (b ∷ [])
-      ∙ ap (λ z. z ++ of_id id (b ∷ [])) (came.first id).1
-      ∙ append_assoc (of_id id h.batches) (came.first id).0 (of_id id (b ∷ [])));
+  first = λ id. (
+    (came.first id).0 ++ of_id id (b ∷ []),
+    filter-append (λ (c : Sent). c.id == id) handed (b ∷ [])
+        ∙ ap (λ z. z ++ of_id id (b ∷ [])) (came.first id).1
+        ∙ append_assoc (of_id id h.batches) (came.first id).0 (of_id id (b ∷ [])),
+  );
   whole = came.whole;
   counted = came.counted;
 }

@@ -1,14 +1,11 @@
 -- What the loopback broker does with a batch is an honest broker's step.
-use Rattle.std.proofs.Common.{◌≡◌, ◌≢◌, ◌⊎◌, ℕ, ◌+◌, ◌-◌, ◌<◌, ◌≤◌, Bool, true, false, cond, ltb, List, [], ◌∷◌, ◌++◌, length, map, take, drop, find, ℤ, pos, negsuc, Option, Some, None, unwrap_or, refl, sym, ap, ◌∙◌, subst, inl, inr, ⊎_elim, arith, length-append, append_assoc, All, Contains}
+use Rattle.std.proofs.Common.{◌≡◌, ◌≢◌, ◌⊎◌, ℕ, ◌+◌, ◌-◌, ◌<◌, ◌≤◌, Bool, true, false, cond, List, [], ◌∷◌, ◌++◌, length, map, take, drop, find, ℤ, pos, negsuc, Some, None, unwrap_or, refl, sym, ap, ◌∙◌, subst, inl, inr, arith, length-append, append_assoc, Contains}
 use Rattle.std.specs.Prelude.{◌==◌, nat_lt, int_le}
 use Rattle.std.specs.Ordering.{int_eq}
 use Rattle.std.proofs.lemmas.Bool.{true≢false, and_parts, eq-eqb, lt-ltb, le-ltb, leb-true}
 use Rattle.std.proofs.lemmas.Bool.Decides.{Decides-int_eq}
 use Rattle.std.proofs.lemmas.List.{length-take, length-drop, length-map, take-append-drop, drop-map}
 use Rattle.std.proofs.lemmas.List.Elements.{All-contains}
-use Rattle.kp_log.specs.declared.answer.Answer.{Answer}
-use Rattle.kp_log.specs.declared.answer.Answer.TheVariants as answer
-use Rattle.kp_log.specs.declared.answer.Refusal.TheVariants.{DuplicateSequenceNumber, OutOfOrderSequenceNumber}
 use Rattle.kp_log.specs.declared.kept.Kept.{Kept}
 use Rattle.kp_log.specs.declared.kept.Span.{Span}
 use Rattle.kp_log.specs.declared.stored.Stored.{Stored}
@@ -20,7 +17,7 @@ use Rattle.kp_log.specs.BrokerStep.{Stands, IsOld, MayAppend, BrokerStep, NO_ERR
 use Rattle.kp_log.specs.HandedOver.{AreInSequence, IsStored, CameBy}
 use Rattle.kp_log.proofs.LogLemmas.{IsNext, next_is, int_eq_same, length-stored_as}
 use Rattle.kp_log.proofs.RulingLemmas.{Ruling, Repeats, GoesOn, IsOlder, LeavesGap, ruling, step_of, judged_as}
-use Rattle.kp_log.proofs.PlaceLemmas.{In, In-nil, In-from_contains, contains_from_In, In-append_left, In-append_right, In-filter, In-head, Before, before_filter}
+use Rattle.kp_log.proofs.PlaceLemmas.{In, In-from_contains, contains_from_In, In-append_left, In-append_right, In-filter, In-head, Before, before_filter}
 use Rattle.kp_log.proofs.SequenceLemmas.{CountFrom, counts, one_batch, in_front}
 use Rattle.kp_log.proofs.OffsetLemmas.{stands_at, stands_last}
 

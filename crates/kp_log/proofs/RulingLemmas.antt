@@ -1,5 +1,5 @@
 -- What the sequence rule finds of a batch, apart from where it looks: in a log or in a history.
-use Rattle.std.proofs.Common.{◌≡◌, ℕ, Bool, true, false, List, [], ◌∷◌, ℤ, pos, int_lt, int_eq, Option, Some, None, refl, ap, ◌∙◌, arith}
+use Rattle.std.proofs.Common.{◌≡◌, ℕ, Bool, true, false, List, ℤ, pos, int_lt, Option, Some, None, refl, ap, ◌∙◌, arith}
 use Rattle.std.proofs.lemmas.Int.{ints}
 use Rattle.kp_batch.specs.declared.batch.Batch.{Batch}
 use Rattle.kp_log.specs.declared.answer.Answer.TheVariants as answer

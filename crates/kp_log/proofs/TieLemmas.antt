@@ -1,19 +1,17 @@
 -- A log of a history does with a batch what the loopback broker does with it in the history.
-use Rattle.std.proofs.Common.{◌≡◌, ℕ, ◌+◌, ◌-◌, ◌<◌, ◌≤◌, Bool, true, false, cond, List, [], ◌∷◌, ◌++◌, length, map, drop, replicate, ℤ, pos, Ok, refl, sym, ap, ◌∙◌, subst, arith, length-append, All}
+use Rattle.std.proofs.Common.{◌≡◌, ℕ, ◌+◌, ◌-◌, ◌<◌, Bool, true, false, cond, List, [], ◌∷◌, ◌++◌, length, map, drop, replicate, ℤ, pos, refl, sym, ap, ◌∙◌, subst, arith, All}
 use Rattle.std.specs.Prelude.{◌==◌}
 use Rattle.std.specs.Ordering.{int_eq}
 use Rattle.std.proofs.lemmas.Bool.{true≢false, eqb-true, eq-eqb, ne_eqb}
-use Rattle.std.proofs.lemmas.Bool.Decides.{Decides-int_eq}
-use Rattle.std.proofs.lemmas.List.{append-nil, drop-drop, length-drop, map_push, drop-append-le}
+use Rattle.std.proofs.lemmas.List.{append-nil, drop-drop, length-drop, map_push}
 use Rattle.std.proofs.lemmas.List.Elements.{All-head, All-tail, All-filter, filter-append}
-use Rattle.kp_batch.specs.declared.batch.Batch.{Batch}
 use Rattle.kp_batch.specs.declared.record.Record.{Record}
 use Rattle.kp_log.specs.declared.kept.Kept.{Kept}
 use Rattle.kp_log.specs.declared.kept.Span.{Span}
 use Rattle.kp_log.specs.declared.stored.Stored.{Stored}
 use Rattle.kp_log.specs.Log.{Log, log_of, empty, count_of, kept_of, kept_after, last_kept, span_of, stored_as, appended}
-use Rattle.kp_log.specs.SequenceRule.{Step, offered, judged, is_next}
-use Rattle.kp_log.specs.History.{Sent, History, batch_of, arrived, stored_of, of_id, empty_history, with_batch, with_others, NO_ID}
+use Rattle.kp_log.specs.SequenceRule.{Step, judged}
+use Rattle.kp_log.specs.History.{Sent, History, arrived, stored_of, of_id, empty_history, with_batch, with_others, NO_ID}
 use Rattle.kp_log.specs.KeptBatches.{span_in, kept_in, IsHistoryOf}
 use Rattle.kp_log.specs.BrokerStep.{Answered, Offered, answered, offered_to}
 use Rattle.kp_log.specs.HandedOver.{IsStored}

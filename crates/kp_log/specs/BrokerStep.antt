@@ -1,5 +1,5 @@
 -- What any honest broker may do with a batch that comes, and what the loopback broker does (KIP-98, "Broker logic").
-use Rattle.std.specs.Prelude.{◌≡◌, ◌⊎◌, ℕ, ◌≤◌, Bool, List, [], ◌∷◌, ◌++◌, length, nat_lt, ℤ, pos, negsuc, if◌then◌else◌}
+use Rattle.std.specs.Prelude.{◌≡◌, ◌⊎◌, ◌≤◌, List, ◌∷◌, ◌++◌, length, nat_lt, ℤ, pos, negsuc, if◌then◌else◌}
 use Rattle.kp_log.specs.declared.answer.Answer.{Answer}
 use Rattle.kp_log.specs.declared.answer.Refusal.TheVariants.{DuplicateSequenceNumber}
 use Rattle.kp_log.specs.declared.stored.Stored.{Stored}

@@ -86,5 +86,5 @@ pub fn offer_is_loopback()
     ensures others { (h : History) (log : Log) (n : ℕ) (body : Record)
         → IsHistoryOf h log → All (IsStored h.records) h.batches
         → IsHistoryOf (with_others n body h)
-            (log_of (log.records ++ stored_as NO_ID (replicate n body)) log.kept) }
+        (log_of (log.records ++ stored_as NO_ID (replicate n body)) log.kept) }
 {}
