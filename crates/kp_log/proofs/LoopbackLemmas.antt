@@ -13,7 +13,7 @@ use Rattle.kp_log.specs.Log.{Log, count_of, kept_of, last_kept, nothing_kept, ap
 use Rattle.kp_log.specs.SequenceRule.{Step, is_repeat, is_next, is_older}
 use Rattle.kp_log.specs.History.{Sent, History, batch_of, stored_of, of_id, with_batch}
 use Rattle.kp_log.specs.KeptBatches.{span_in, offset_in, kept_in, log_for}
-use Rattle.kp_log.specs.BrokerStep.{Stands, IsOld, MayAppend, BrokerStep, NO_ERROR, DUPLICATE_SEQUENCE_NUMBER, Offered, answered, error_of, history_after, offered_to, offered_late}
+use Rattle.kp_log.specs.BrokerStep.{Stands, IsOld, MayAppend, BrokerStep, NO_ERROR, DUPLICATE_SEQUENCE_NUMBER, Offered, answered, history_after, offered_to, offered_late}
 use Rattle.kp_log.specs.HandedOver.{AreInSequence, IsStored, CameBy}
 use Rattle.kp_log.proofs.LogLemmas.{IsNext, next_is, int_eq_same, length-stored_as}
 use Rattle.kp_log.proofs.RulingLemmas.{Ruling, Repeats, GoesOn, IsOlder, LeavesGap, ruling, step_of, judged_as}
@@ -50,12 +50,15 @@ last_of f bs =
 
 -- ---- what the loopback broker answers
 
+abbrev pub with_history : ℤ → ℤ → History → Offered
+with_history code base h = record { answer = record { code = code; base = base }; history = h }
+
 -- its answer and its history, by what the rule finds
 abbrev pub offered_of : {records : List Stored} {spans : List Span} (h : History) (b : Sent) → Ruling records spans b → Offered
-offered_of h b (Repeats s is) = record { answer = record { code = pos 0; base = s.base_offset }; history = h }
-offered_of h b (GoesOn fresh is) = record { answer = record { code = pos 0; base = pos (length h.records) }; history = with_batch b h }
-offered_of h b (IsOlder fresh is old) = record { answer = error_of (pos 46); history = h }
-offered_of h b (LeavesGap fresh is old) = record { answer = error_of (pos 45); history = h }
+offered_of h b (Repeats s is) = with_history (pos 0) s.base_offset h
+offered_of h b (GoesOn fresh is) = with_history (pos 0) (pos (length h.records)) (with_batch b h)
+offered_of h b (IsOlder fresh is old) = with_history (pos 46) (negsuc 0) h
+offered_of h b (LeavesGap fresh is old) = with_history (pos 45) (negsuc 0) h
 
 -- its answer and its history, by the step of its log
 abbrev offered_by : History → Sent → Step → Offered
@@ -71,10 +74,10 @@ grows h b log is some =
     ap (λ t. cond t (with_batch b h) h) (lt-ltb (length h.records) (length log.records) less)
 
 offered_by_rule : (h : History) (b : Sent) → 0 < length b.bodies → (r : Ruling h.records (kept_in b.id h).spans b) → offered_by h b (step_of (log_for b.id h) (batch_of b) r) ≡ offered_of h b r
-offered_by_rule h b some (Repeats s is) = ap (λ (x : History). let o : Offered = record { answer = record { code = pos 0; base = s.base_offset }; history = x } in o) (stays h b)
-offered_by_rule h b some (GoesOn fresh is) = ap (λ (x : History). let o : Offered = record { answer = record { code = pos 0; base = pos (length h.records) }; history = x } in o) (grows h b (appended (log_for b.id h) (batch_of b)) refl some)
-offered_by_rule h b some (IsOlder fresh is old) = ap (λ (x : History). let o : Offered = record { answer = error_of (pos 46); history = x } in o) (stays h b)
-offered_by_rule h b some (LeavesGap fresh is old) = ap (λ (x : History). let o : Offered = record { answer = error_of (pos 45); history = x } in o) (stays h b)
+offered_by_rule h b some (Repeats s is) = ap (with_history (pos 0) s.base_offset) (stays h b)
+offered_by_rule h b some (GoesOn fresh is) = ap (with_history (pos 0) (pos (length h.records))) (grows h b (appended (log_for b.id h) (batch_of b)) refl some)
+offered_by_rule h b some (IsOlder fresh is old) = ap (with_history (pos 46) (negsuc 0)) (stays h b)
+offered_by_rule h b some (LeavesGap fresh is old) = ap (with_history (pos 45) (negsuc 0)) (stays h b)
 
 offered_is : (h : History) (b : Sent) (r : Ruling h.records (kept_in b.id h).spans b) → offered_to h b ≡ offered_by h b (step_of (log_for b.id h) (batch_of b) r)
 unfolding offered_to
