@@ -49,6 +49,10 @@ abbrev pub CountFrom : ℕ → List Sent → Type 0
 CountFrom n [] = Unit {0}
 CountFrom n (b ∷ bs) = (b.sequence ≡ n) × (0 < length b.bodies) × CountFrom (n + length b.bodies) bs
 
+pub count_front : (n : ℕ) (xs ys : List Sent) → CountFrom n (xs ++ ys) → CountFrom n xs
+count_front n [] ys h = tt
+count_front n (x ∷ xs) ys h = (h.0, h.1, count_front (n + length x.bodies) xs ys h.2)
+
 pub count_rest : (n : ℕ) (xs ys : List Sent) → CountFrom n (xs ++ ys) → CountFrom (n + size_of xs) ys
 count_rest n [] ys h = let same : n ≡ n + 0 = omega arith in subst (λ k. CountFrom k ys) same h
 count_rest n (x ∷ xs) ys h =

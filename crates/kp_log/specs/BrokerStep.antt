@@ -1,5 +1,5 @@
 -- What any honest broker may do with a batch that comes, and what the loopback broker does (KIP-98, "Broker logic").
-use Rattle.std.specs.Prelude.{◌≡◌, ◌⊎◌, ℕ, ◌≤◌, Bool, List, [], ◌∷◌, ◌++◌, length, nat_lt, ℤ, pos, negsuc, if◌then◌else◌}
+use Rattle.std.specs.Prelude.{◌≡◌, ◌⊎◌, ◌≤◌, List, ◌∷◌, ◌++◌, length, nat_lt, ℤ, pos, negsuc, if◌then◌else◌}
 use Rattle.kp_log.specs.declared.answer.Answer.{Answer}
 use Rattle.kp_log.specs.declared.answer.Refusal.TheVariants.{DuplicateSequenceNumber}
 use Rattle.kp_log.specs.declared.stored.Stored.{Stored}
@@ -38,12 +38,19 @@ MayAppend h b = (count_of (pos b.id) h.records ≡ b.sequence) ⊎ (count_of (po
 
 -- ---- any honest broker
 
--- The history stays, or the batch is appended where it may be. Code 0 is answered only where the batch stands at the
--- base offset, and the code for old batches only for an old one; any other code in all cases.
+-- the codes that tell something of the batch, under their names in Kafka's protocol guide
+abbrev pub NO_ERROR : ℤ
+NO_ERROR = pos 0
+
+abbrev pub DUPLICATE_SEQUENCE_NUMBER : ℤ
+DUPLICATE_SEQUENCE_NUMBER = refusal_code DuplicateSequenceNumber
+
+-- The history stays, or the batch is appended where it may be. No error is answered only where the batch then stands
+-- at the base offset, and a duplicate only where it is then old; any other code may be answered in all cases.
 pub record BrokerStep (before : History) (b : Sent) (answer : Answered) (after : History) : Type 0 where
   pub change : (after ≡ before) ⊎ (MayAppend before b × (after ≡ with_batch b before))
-  pub stands : answer.code ≡ pos 0 → Stands after.records b answer.base
-  pub is_old : answer.code ≡ refusal_code DuplicateSequenceNumber → IsOld after.batches b
+  pub stands : answer.code ≡ NO_ERROR → Stands after.records b answer.base
+  pub is_old : answer.code ≡ DUPLICATE_SEQUENCE_NUMBER → IsOld after.batches b
 
 -- ---- the loopback broker
 

@@ -11,11 +11,18 @@ abbrev pub offset_in : List Stored → Sent → ℕ
 offset_in records b = slice_index (own_offsets (pos b.id ∷ []) records) b.sequence
 
 abbrev pub span_in : List Stored → Sent → Span
-span_in records b = record { base_sequence = pos b.sequence; count = length b.bodies; base_offset = pos (offset_in records b) }
+span_in records b = record {
+  base_sequence = pos b.sequence;
+  count = length b.bodies;
+  base_offset = pos (offset_in records b);
+}
 
 -- of a producer id the count of its records, and the last of its batches
 unfoldable pub kept_in : ℕ → History → Kept
-kept_in id h = record { count = count_of (pos id) h.records; spans = last_kept (map (span_in h.records) (of_id id h.batches)) }
+kept_in id h = record {
+  count = count_of (pos id) h.records;
+  spans = last_kept (map (span_in h.records) (of_id id h.batches));
+}
 
 -- the log of a history, as far as this producer id is concerned
 abbrev pub log_for : ℕ → History → Log
