@@ -17,7 +17,8 @@ use Rattle.kp_core.specs.Fence.{fenced, given_up, ended}
 use Rattle.kp_core.specs.Tick.{has_timed_out, late_front, behind_late, passed, ticked, disconnected, closed}
 use Rattle.kp_core.specs.Answered.{verdict_of, answered}
 use Rattle.kp_core.specs.Mismatch.{answer_batches, answers_id}
-use Rattle.kp_core.specs.Replies.{awaited, replied, heard}
+use Rattle.kp_core.specs.Awaited.{awaited}
+use Rattle.kp_core.specs.Replies.{replied, heard}
 use Rattle.kp_core.specs.Appending.{would_exhaust, appended}
 use Rattle.kp_core.specs.Due.{partition_moments, moments, next_due}
 use Rattle.kp_core.specs.Opening.{new_core}

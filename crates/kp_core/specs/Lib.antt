@@ -11,6 +11,7 @@ pub mod Fence
 pub mod Tick
 pub mod Answered
 pub mod Mismatch
+pub mod Awaited
 pub mod Replies
 pub mod Appending
 pub mod Due

@@ -19,28 +19,11 @@ use Rattle.kp_core.specs.Partitions.{changed_at}
 use Rattle.kp_core.specs.MaySend.{wants_id}
 use Rattle.kp_core.specs.Telling.{at_these, told_at}
 use Rattle.kp_core.specs.Answered.{answered}
+use Rattle.kp_core.specs.Awaited.{Awaited, Nothing, Batches, Id, awaited, api_of}
 use Rattle.kp_core.specs.Mismatch.{Answers, answers_for, answers_of, answer_batches, is_given, answers_id}
 
 abbrev pub Replies : Type 0
 Replies = Step (Result Replied CoreFault)
-
--- ---- which request in flight a correlation id names
-
-pub data Awaited : Type 0 where
-  Nothing : Awaited
-  Batches : Request → Awaited
-  Id : IdRequest → Awaited
-
-abbrev pub id_awaited : ℤ → Option IdRequest → Awaited
-id_awaited k None = Nothing
-id_awaited k (Some r) = if int_eq (pos r.correlation) k then Id r else Nothing
-
-abbrev pub or_id : ℤ → Core → Option Request → Awaited
-or_id k s (Some r) = Batches r
-or_id k s None = id_awaited k s.id_request
-
-unfoldable pub awaited : ℤ → Core → Awaited
-awaited k s = or_id k s (find (λ r. int_eq (pos r.correlation) k) s.requests)
 
 -- ---- answers
 
@@ -113,10 +96,6 @@ replied now response s =
     if s.ended then after_end s else replied_to now s (awaited response.correlation s) response.body
 
 -- ---- as bytes: a reply is read as one to the request that its first four bytes name
-
-abbrev pub api_of : Awaited → Api
-api_of (Batches r) = api.Produce
-api_of _ = api.InitProducerId
 
 abbrev pub read_reply : ℕ → Core → Result Response FrameFault → Replies
 read_reply now s (Ok response) = replied now response s

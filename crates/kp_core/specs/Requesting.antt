@@ -1,5 +1,5 @@
 -- The next request: which refusal comes, what goes out, and the core then.
-use Rattle.std.specs.Prelude.{ℕ, ◌+◌, ◌-◌, ◌^◌, pos, negsuc, Bool, List, [], ◌∷◌, ◌++◌, map, Option, Some, None, Result, Ok, Err, nat_lt, if◌then◌else◌}
+use Rattle.std.specs.Prelude.{ℕ, ◌+◌, ◌-◌, ◌^◌, pos, negsuc, Bool, List, [], ◌∷◌, ◌++◌, map, Option, Some, None, Result, Ok, Err, IsOkAnd, IsSome, nat_lt, if◌then◌else◌}
 use Rattle.std.specs.List.{last_or}
 use Rattle.kp_batch.specs.declared.batch.BatchHead.{BatchHead}
 use Rattle.kp_batch.specs.Spelling.{spelling, written}
@@ -85,3 +85,7 @@ requested_for now s (Some demand) =
 -- After the end, no request at all; else what is next, while there are correlation ids.
 unfoldable pub requested : ℕ → Core → Requested
 requested now s = if s.ended then nothing_out s (Err Ended) else requested_for now s (next_demand now s)
+
+-- Memory can be wanting only where a request goes out.
+abbrev pub NeedsMemory : Requested → Type 0
+NeedsMemory r = IsOkAnd r.answer IsSome

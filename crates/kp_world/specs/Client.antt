@@ -1,6 +1,5 @@
 -- The producer's events. Each is a function of the world; None where it names what isn't there, or is the broker's.
-use Rattle.std.specs.Prelude.{ℕ, Bool, true, not, List, [], ◌∷◌, ◌++◌, map, flat_map, length, filter, Option, Some, None, Result, Ok, Err, slice_get, nat_lt, ◌==◌, ◌&&◌, if◌then◌else◌}
-use Rattle.std.specs.List.{enumerate_from}
+use Rattle.std.specs.Prelude.{ℕ, Bool, true, not, List, [], ◌∷◌, ◌++◌, map, flat_map, length, Option, Some, None, Result, Ok, Err, slice_get, slice_set, slice_index_or, nat_lt, ◌==◌, ◌&&◌, if◌then◌else◌}
 use Rattle.kp_core.specs.declared.fault.CoreFault.{CoreFault}
 use Rattle.kp_core.specs.declared.fault.CoreFault.TheVariants as fault
 use Rattle.kp_core.specs.declared.ticked.Replied.{Replied}
@@ -29,14 +28,24 @@ abbrev pub sent_line : ℕ → Demand → Line
 sent_line k (Produce xs) = SentBatches k (map sent_part xs)
 sent_line k (InitProducerId p) = SentInit k
 
--- the batches of a packet that go to this partition and have this number
-abbrev pub batches_for : ℕ → ℕ → List Sending → List Batch
-batches_for p number xs = map (λ x. x.batch) (filter (λ x. x.partition == p && (x.batch.number == number)) xs)
+-- A partition's batches, and behind them the batch that has the next number.
+abbrev pub grown_by : Batch → List Batch → List Batch
+grown_by b handed = if b.number == length handed then handed ++ b ∷ [] else handed
 
--- behind each partition's batches the one that has the next number, if it goes out: it is handed over
+abbrev pub handed_at : ℕ → List (List Batch) → List Batch
+handed_at p handed = slice_index_or handed p []
+
+abbrev pub with_sending : Sending → List (List Batch) → List (List Batch)
+with_sending x handed = slice_set handed x.partition (grown_by x.batch (handed_at x.partition handed))
+
+-- A batch is handed over when it first goes out.
+unfoldable pub with_sendings : List Sending → List (List Batch) → List (List Batch)
+with_sendings [] handed = handed
+with_sendings (x ∷ xs) handed = with_sendings xs (with_sending x handed)
+
 abbrev pub handed_with : Demand → List (List Batch) → List (List Batch)
+handed_with (Produce xs) handed = with_sendings xs handed
 handed_with (InitProducerId p) handed = handed
-handed_with (Produce xs) handed = map (λ y. y.1 ++ batches_for y.0 (length y.1) xs) (enumerate_from 0 handed)
 
 abbrev pub with_packet : Outgoing → World → World
 with_packet o w = record w { packets = w.packets ++ o ∷ []; handed = handed_with o.demand w.handed }

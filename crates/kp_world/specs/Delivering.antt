@@ -1,5 +1,6 @@
 -- A packet at the broker: what any honest one may do with it.
-use Rattle.std.specs.Prelude.{◌≡◌, ◌⊎◌, ℕ, ◌<◌, ◌^◌, pos, negsuc, List, [], ◌∷◌, ◌++◌, slice_index_or, slice_set, All}
+use Rattle.std.specs.Prelude.{◌≡◌, ◌⊎◌, ℕ, pos, negsuc, List, [], ◌∷◌, ◌++◌, slice_index_or, slice_set}
+use Rattle.std.specs.List.{AllByRecursion}
 use Rattle.kp_log.specs.BrokerStep.{BrokerStep}
 use Rattle.kp_log.specs.History.{History, empty_history}
 use Rattle.kp_core.specs.Next.{Sending, Demand, Produce, InitProducerId}
@@ -34,10 +35,9 @@ PartsDeliver before (x ∷ xs) [] after = ⊥
 
 -- ---- ids
 
--- An id, an int64, that was never drawn before.
-pub record IsFresh (ids : List ℕ) (id : ℕ) : Type 0 where
-  pub unused : All (λ other. other ≡ id → ⊥) ids
-  pub fits : id < 2 ^ 63
+-- the id was never drawn before
+abbrev pub IsFresh : List ℕ → ℕ → Type 0
+IsFresh ids id = AllByRecursion (λ drawn. drawn ≡ id → ⊥) ids
 
 -- No id was drawn and an error is answered, or a fresh one was drawn and it or an error is answered.
 abbrev pub IsError : ReplyContent → Type 0
