@@ -20,7 +20,9 @@ both_stored =
     ∷ (record { item = item 1 0 98; outcome = Delivered (pos 9) })
     ∷ []
 
-pub each_partition_by_its_answer : (replied 7 (answers (part 0 (pos 0) (pos 5) ∷ part 1 (pos 0) (pos 9) ∷ [])) both_sent).told ≡ both_stored
+pub each_partition_by_its_answer :
+    (replied 7 (answers (part 0 (pos 0) (pos 5) ∷ part 1 (pos 0) (pos 9) ∷ [])) both_sent).told
+    ≡ both_stored
 unfolding evaluated
 each_partition_by_its_answer = refl
 
@@ -41,11 +43,13 @@ pub a_partition_is_missing : IsRefused both_sent (answers (part 0 (pos 0) (pos 5
 unfolding evaluated
 a_partition_is_missing = refl
 
-pub a_partition_is_there_twice : IsRefused both_sent (answers (part 0 (pos 0) (pos 5) ∷ part 0 (pos 0) (pos 5) ∷ []))
+pub a_partition_is_there_twice :
+    IsRefused both_sent (answers (part 0 (pos 0) (pos 5) ∷ part 0 (pos 0) (pos 5) ∷ []))
 unfolding evaluated
 a_partition_is_there_twice = refl
 
-pub a_further_partition_is_there : IsRefused one_sent (answers (part 0 (pos 0) (pos 5) ∷ part 1 (pos 0) (pos 9) ∷ []))
+pub a_further_partition_is_there :
+    IsRefused one_sent (answers (part 0 (pos 0) (pos 5) ∷ part 1 (pos 0) (pos 9) ∷ []))
 unfolding evaluated
 a_further_partition_is_there = refl
 
@@ -53,21 +57,26 @@ pub another_partition_is_there : IsRefused one_sent (answers (part 1 (pos 0) (po
 unfolding evaluated
 another_partition_is_there = refl
 
-pub another_topic_is_there : IsRefused one_sent (reply 2 (topic (codes "u") (part 0 (pos 0) (pos 5) ∷ []) ∷ []))
+pub another_topic_is_there :
+    IsRefused one_sent (reply 2 (topic (codes "u") (part 0 (pos 0) (pos 5) ∷ []) ∷ []))
 unfolding evaluated
 another_topic_is_there = refl
 
 pub a_second_topic_is_there :
-    IsRefused one_sent (reply 2 (topic (codes "t") (part 0 (pos 0) (pos 5) ∷ []) ∷ topic (codes "u") [] ∷ []))
+    IsRefused one_sent (reply 2 (
+        topic (codes "t") (part 0 (pos 0) (pos 5) ∷ []) ∷ topic (codes "u") [] ∷ []))
 unfolding evaluated
 a_second_topic_is_there = refl
 
--- An offset below 0, or one behind which the batch's records have no offsets. The other partition is not settled either.
-pub an_offset_is_below_0 : IsRefused both_sent (answers (part 0 (pos 0) (pos 5) ∷ part 1 (pos 0) (negsuc 0) ∷ []))
+-- An offset below 0, or one behind which the batch's records have no offsets. The other partition
+-- is not settled either.
+pub an_offset_is_below_0 :
+    IsRefused both_sent (answers (part 0 (pos 0) (pos 5) ∷ part 1 (pos 0) (negsuc 0) ∷ []))
 unfolding evaluated
 an_offset_is_below_0 = refl
 
-pub an_offset_is_too_large : IsRefused one_sent (answers (part 0 (pos 0) (pos 9223372036854775807) ∷ []))
+pub an_offset_is_too_large :
+    IsRefused one_sent (answers (part 0 (pos 0) (pos 9223372036854775807) ∷ []))
 unfolding evaluated
 an_offset_is_too_large = refl
 

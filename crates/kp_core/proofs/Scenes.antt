@@ -52,13 +52,17 @@ both_sent = sent_at 0 (with_all (item 0 0 97 ∷ item 1 0 98 ∷ []) (fresh 2 2)
 -- ---- replies
 
 abbrev pub part : (partition : ℕ) → (code base : ℤ) → PartitionProduceResponse
-part p code base = record { partition = pos p; error_code = code; base_offset = base; log_append_time_ms = pos 0 }
+part p code base =
+    record { partition = pos p; error_code = code; base_offset = base; log_append_time_ms = pos 0 }
 
 abbrev pub topic : List ℕ → List PartitionProduceResponse → TopicProduceResponse
 topic name parts = record { topic = name; partitions = parts }
 
 abbrev pub reply : (correlation : ℕ) → List TopicProduceResponse → Response
-reply k topics = record { correlation = pos k; body = Produce (record { topics = topics; throttle_time_ms = pos 0 }) }
+reply k topics = record {
+  correlation = pos k;
+  body = Produce (record { topics = topics; throttle_time_ms = pos 0 });
+}
 
 -- a reply to request 2 for this core's topic
 abbrev pub answers : List PartitionProduceResponse → Response

@@ -1,5 +1,6 @@
--- What a broker's answer to a partition's batch does to the partition (error codes of the protocol guide; which of them
--- may be tried again is this producer's own choice among those that Kafka calls retriable).
+-- What a broker's answer to a partition's batch does to the partition (error codes of the protocol
+-- guide; which of them may be tried again is this producer's own choice among those that Kafka
+-- calls retriable).
 use Rattle.std.specs.Prelude.{ℕ, ℤ, pos, Bool, List, [], ◌∷◌, ◌++◌, map, filter, Option, Some, None, ◌==◌, ◌&&◌, ◌||◌, not, if◌then◌else◌}
 use Rattle.std.specs.List.{list_any}
 use Rattle.std.specs.Ordering.{int_eq}
@@ -16,8 +17,8 @@ use Rattle.kp_core.specs.Fence.{fenced}
 
 -- ---- what a code means
 
--- corrupt message, unknown topic or partition, leader not available, not leader, request timed out, not enough replicas,
--- not enough replicas after append, out of order sequence number
+-- corrupt message, unknown topic or partition, leader not available, not leader, request timed out,
+-- not enough replicas, not enough replicas after append, out of order sequence number
 abbrev pub retried_codes : List ℤ
 retried_codes = pos 2 ∷ pos 3 ∷ pos 5 ∷ pos 6 ∷ pos 7 ∷ pos 19 ∷ pos 20 ∷ pos 45 ∷ []
 
@@ -39,9 +40,12 @@ abbrev pub is_first_under_id : Partition → Batch → Bool
 is_first_under_id t b = b.sequence == 0 && (b.id == present_id t)
 
 -- It stands in the log: its items are told so, and it is acknowledged.
+abbrev pub is_acknowledged_by : Batch → Partition → Bool
+is_acknowledged_by b t = t.acknowledged || is_first_under_id t b
+
 abbrev pub acknowledged : ℕ → Partition → Open → List Told → Effect
 acknowledged k t o told = record {
-  after = record (without_attempt k t) { acknowledged = t.acknowledged || is_first_under_id t o.batch };
+  after = record (without_attempt k t) { acknowledged = is_acknowledged_by o.batch t };
   told = told;
 }
 
@@ -50,7 +54,10 @@ waiting_since now k o = if awaits k o then (record o { attempt = Waiting now }) 
 
 -- It waits for a retry from this moment on.
 abbrev pub to_retry : ℕ → ℕ → Partition → Effect
-to_retry now k t = record { after = record t { open_batches = map (waiting_since now k) t.open_batches }; told = [] }
+to_retry now k t = record {
+  after = record t { open_batches = map (waiting_since now k) t.open_batches };
+  told = [];
+}
 
 -- It is refused for good, and then the partition is fenced.
 abbrev pub rejected : ℕ → Partition → Open → ℤ → Effect

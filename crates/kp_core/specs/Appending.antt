@@ -1,11 +1,12 @@
 -- Appending an item.
 use Rattle.std.specs.Prelude.{◌+◌, Bool, true, [], ◌∷◌, nat_lt, if◌then◌else◌}
+use Rattle.kp_accum.specs.declared.config.Config.{Config}
 use Rattle.kp_accum.specs.declared.item.Item.{Item}
 use Rattle.kp_accum.specs.Queue.{charge_of, with_item}
 use Rattle.kp_core.specs.declared.outcome.Outcome.TheVariants.{Unsent}
 use Rattle.kp_core.specs.declared.outcome.Reason.{Reason}
 use Rattle.kp_core.specs.declared.outcome.Reason.TheVariants.{Fenced, Ended}
-use Rattle.kp_core.specs.Records.{Core, Step}
+use Rattle.kp_core.specs.Records.{Partition, Core, Step}
 use Rattle.kp_core.specs.Partitions.{used, partition_at, changed_at}
 use Rattle.kp_core.specs.Telling.{told_all, with_reports}
 
@@ -21,9 +22,12 @@ Appends = Step Appended
 unfoldable pub would_exhaust : Item → Core → Bool
 would_exhaust i s = nat_lt s.config.buffer_memory (used s + charge_of i)
 
+abbrev pub with_queued : Config → Item → Partition → Partition
+with_queued c i t = record t { queue = with_item c i t.queue }
+
 abbrev pub in_queue : Item → Core → Core
 in_queue i s = record s {
-  partitions = changed_at (i.partition ∷ []) (λ p t. record t { queue = with_item s.config i t.queue }) s.partitions;
+  partitions = changed_at (i.partition ∷ []) (λ p t. with_queued s.config i t) s.partitions;
 }
 
 abbrev pub queued : Item → Core → Appends
@@ -33,7 +37,8 @@ queued i s = record { after = in_queue i s; told = []; answer = TakenIn }
 abbrev pub turned_away : Reason → Item → Core → Appends
 turned_away why i s =
     let told = told_all (Unsent why) (i ∷ []) in
-    record { after = record s { reports = with_reports told s.reports }; told = told; answer = TakenIn }
+    let after = record s { reports = with_reports told s.reports } in
+    record { after = after; told = told; answer = TakenIn }
 
 -- The item is the caller's still, and every front batch is ready from now on.
 abbrev pub refused : Core → Appends

@@ -1,5 +1,5 @@
--- Attempts: a batch in a request. An open batch is in flight while its last attempt awaits a reply, else it waits for a
--- retry.
+-- Attempts: a batch in a request. An open batch is in flight while its last attempt awaits a reply,
+-- else it waits for a retry.
 use Rattle.std.specs.Prelude.{ℕ, ◌+◌, Bool, true, false, List, [], map, length, Option, Some, None, is_some, find, ◌==◌, nat_lt, if◌then◌else◌}
 use Rattle.std.specs.List.{list_any}
 use Rattle.kp_core.specs.declared.attempt.Attempt.{Attempt}

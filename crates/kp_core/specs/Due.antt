@@ -16,10 +16,11 @@ id_timeout c None = []
 id_timeout c (Some r) = (r.sent + c.request_timeout_ms) ∷ []
 
 abbrev pub timeouts : Core → List ℕ
-timeouts s = map (λ r. r.sent + s.config.request_timeout_ms) s.requests ++ id_timeout s.config s.id_request
+timeouts s =
+    map (λ r. r.sent + s.config.request_timeout_ms) s.requests ++ id_timeout s.config s.id_request
 
--- ---- a partition: deadlines of its open batches, the deadline and the linger of the front of its queue, and the backoff
--- of its lowest batch that waits
+-- ---- a partition: deadlines of its open batches, the deadline and the linger of the front of its
+-- queue, and the backoff of its lowest batch that waits
 
 abbrev pub front_moments : Config → List Pending → List ℕ
 front_moments c [] = []
@@ -47,7 +48,8 @@ rested_at c (Some since) = since + c.retry_backoff_ms
 
 abbrev pub id_moments : Core → List ℕ
 id_moments s =
-    if is_none s.id_request && list_any (wants_id s.config) s.partitions then rested_at s.config s.id_waits ∷ [] else []
+    if is_none s.id_request && list_any (wants_id s.config) s.partitions
+    then rested_at s.config s.id_waits ∷ [] else []
 
 -- ---- the least of these moments that is a number of 64 bits
 

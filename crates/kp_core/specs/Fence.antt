@@ -1,5 +1,6 @@
--- A fence: a partition from which something was refused for good, or came too late, sends nothing more, since what
--- follows would stand in the log without it. And the end, which gives up all that is left.
+-- A fence: a partition from which something was refused for good, or came too late, sends nothing
+-- more, since what follows would stand in the log without it. And the end, which gives up all that
+-- is left.
 use Rattle.std.specs.Prelude.{true, List, [], ◌++◌, None, if◌then◌else◌}
 use Rattle.kp_core.specs.declared.outcome.Outcome.TheVariants.{Unknown, Unsent}
 use Rattle.kp_core.specs.declared.outcome.Reason.{Reason}
@@ -10,7 +11,8 @@ use Rattle.kp_core.specs.Telling.{told_all, at_each, told_at_each}
 
 -- What is open may stand in the log or not; what is queued was never sent.
 abbrev pub told_given_up : Reason → Partition → List Told
-told_given_up why t = told_all Unknown (items_open t.open_batches) ++ told_all (Unsent why) (items_queued t.queue)
+told_given_up why t =
+    told_all Unknown (items_open t.open_batches) ++ told_all (Unsent why) (items_queued t.queue)
 
 -- nothing is queued or open
 abbrev pub emptied : Partition → Partition
@@ -19,7 +21,8 @@ emptied t = record t { queue = []; open_batches = [] }
 -- ---- a fence
 
 unfoldable pub fenced : Partition → Effect
-fenced t = record { after = record (emptied t) { fenced = true }; told = told_given_up reason.Fenced t }
+fenced t =
+    record { after = record (emptied t) { fenced = true }; told = told_given_up reason.Fenced t }
 
 -- ---- the end
 

@@ -1,5 +1,6 @@
--- Handing over: a batch gets its number, its producer id and its base sequence when it first goes out (KIP-98: sequence
--- numbers count records from 0, by producer id and partition), and keeps them and its records for good.
+-- Handing over: a batch gets its number, its producer id and its base sequence when it first goes
+-- out (KIP-98: sequence numbers count records from 0, by producer id and partition), and keeps them
+-- and its records for good.
 use Rattle.std.specs.Prelude.{ℕ, ◌+◌, Bool, List, [], ◌∷◌, ◌++◌, length, Option, Some, None, ◌==◌, ◌&&◌, if◌then◌else◌}
 use Rattle.kp_accum.specs.declared.item.Item.{Item}
 use Rattle.kp_accum.specs.Queue.{Pending}
@@ -19,7 +20,8 @@ goes_on i r = r.sender == i.sender && (r.first + r.count == i.number)
 
 unfoldable pub with_audited : Item → List Run → List Run
 with_audited i [] = run_of i ∷ []
-with_audited i (r ∷ []) = if goes_on i r then (record r { count = r.count + 1 }) ∷ [] else r ∷ run_of i ∷ []
+with_audited i (r ∷ []) =
+    if goes_on i r then (record r { count = r.count + 1 }) ∷ [] else r ∷ run_of i ∷ []
 with_audited i (r ∷ r' ∷ rs) = r ∷ with_audited i (r' ∷ rs)
 
 -- the runs, with these items behind them
@@ -30,7 +32,12 @@ audited runs (i ∷ is) = audited (with_audited i runs) is
 -- ---- the front batch goes out for the first time, in request k
 
 abbrev pub opened_in : ℕ → Partition → Pending → Open
-opened_in k t front = record { batch = new_batch t front; begun = front.begun; attempt = InFlight k; marked = front.marked }
+opened_in k t front = record {
+  batch = new_batch t front;
+  begun = front.begun;
+  attempt = InFlight k;
+  marked = front.marked;
+}
 
 unfoldable pub handed_over_in : ℕ → Partition → List Pending → Partition
 handed_over_in k t [] = t
@@ -49,7 +56,8 @@ again_in k o = record o { attempt = InFlight k }
 
 unfoldable pub sent_again_in : ℕ → List Open → List Open
 sent_again_in k [] = []
-sent_again_in k (o ∷ others) = if is_waiting o then again_in k o ∷ others else o ∷ sent_again_in k others
+sent_again_in k (o ∷ others) =
+    if is_waiting o then again_in k o ∷ others else o ∷ sent_again_in k others
 
 -- ---- the partition once what it may send went out in request k
 

@@ -1,5 +1,5 @@
--- When a partition may send, and which batch (KIP-98: at most five batches of a partition are on their way; here the
--- second goes out only once the first was acknowledged).
+-- When a partition may send, and which batch (KIP-98: at most five batches of a partition are on
+-- their way; here the second goes out only once the first was acknowledged).
 use Rattle.std.specs.Prelude.{ℕ, ◌+◌, ◌-◌, Bool, true, false, List, [], ◌∷◌, length, Option, Some, None, ◌==◌, ◌&&◌, ◌||◌, not, nat_le, nat_lt, if◌then◌else◌}
 use Rattle.kp_accum.specs.declared.config.Config.{Config}
 use Rattle.kp_accum.specs.declared.flags.Flags.{Flags}
@@ -27,7 +27,8 @@ is_confirmed t = t.next_sequence == 0 || t.acknowledged
 -- the new batch's number less that of the lowest open batch is below max.in.flight
 unfoldable pub is_in_span : Config → ℕ → List Open → Bool
 is_in_span c number [] = true
-is_in_span c number (lowest ∷ others) = nat_lt (number - lowest.batch.number) c.max_in_flight_requests_per_connection
+is_in_span c number (lowest ∷ others) =
+    nat_lt (number - lowest.batch.number) c.max_in_flight_requests_per_connection
 
 -- with this batch, at most sequence.limit records were handed over under the present id
 unfoldable pub is_within_limit : Config → Partition → Pending → Bool
@@ -35,7 +36,12 @@ is_within_limit c t b = nat_le (t.next_sequence + length b.items) c.sequence_lim
 
 -- the batch that the front of the queue becomes
 abbrev pub new_batch : Partition → Pending → Batch
-new_batch t b = record { number = t.next_number; id = present_id t; sequence = t.next_sequence; items = b.items }
+new_batch t b = record {
+  number = t.next_number;
+  id = present_id t;
+  sequence = t.next_sequence;
+  items = b.items;
+}
 
 abbrev pub may_hand_over : Config → Flags → ℕ → Partition → Pending → Bool
 may_hand_over c flags now t front =
@@ -46,13 +52,15 @@ may_hand_over c flags now t front =
 
 abbrev pub sends_new : Config → Flags → ℕ → Partition → List Pending → Option Batch
 sends_new c flags now t [] = None
-sends_new c flags now t (front ∷ rest) = if may_hand_over c flags now t front then Some (new_batch t front) else None
+sends_new c flags now t (front ∷ rest) =
+    if may_hand_over c flags now t front then Some (new_batch t front) else None
 
 -- ---- what the partition may send
 
 -- The lowest batch that waits goes before any new one.
 abbrev pub sends_first : Config → Flags → ℕ → Partition → Option Open → Option Batch
-sends_first c flags now t (Some lowest) = if is_rested c now lowest.attempt then Some lowest.batch else None
+sends_first c flags now t (Some lowest) =
+    if is_rested c now lowest.attempt then Some lowest.batch else None
 sends_first c flags now t None = sends_new c flags now t t.queue
 
 unfoldable pub sends : Config → Flags → ℕ → Partition → Option Batch

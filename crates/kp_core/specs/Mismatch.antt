@@ -28,7 +28,8 @@ answers_of topic _ = None
 
 -- each of these partitions is answered once, and nothing else is
 abbrev pub are_answered : List ℕ → Answers → Bool
-are_answered ps answers = length answers == length ps && list_all (λ p. length (answers_for p answers) == 1) ps
+are_answered ps answers =
+    length answers == length ps && list_all (λ p. length (answers_for p answers) == 1) ps
 
 -- ---- offsets
 
@@ -38,11 +39,14 @@ are_offsets base count = int_le (pos 0) base && int_le (base +ℤ pos count) (po
 
 abbrev pub has_offsets_for : PartitionProduceResponse → Option Open → Bool
 has_offsets_for a None = true
-has_offsets_for a (Some o) = not (int_eq a.error_code (pos 0)) || are_offsets a.base_offset (length o.batch.items)
+has_offsets_for a (Some o) =
+    not (int_eq a.error_code (pos 0)) || are_offsets a.base_offset (length o.batch.items)
 
--- where the answer stores a batch whose attempt, in request k, is still in flight, its records have offsets
+-- where the answer stores a batch whose attempt, in request k, is still in flight, its records have
+-- offsets
 abbrev pub has_offsets : ℕ → Answers → List Partition → ℕ → Bool
-has_offsets k answers ts p = list_all (λ a. has_offsets_for a (awaiting k (partition_at p ts))) (answers_for p answers)
+has_offsets k answers ts p =
+    list_all (λ a. has_offsets_for a (awaiting k (partition_at p ts))) (answers_for p answers)
 
 -- These are the answers to request k, which has batches of these partitions.
 unfoldable pub answer_batches : ℕ → List ℕ → List Partition → Answers → Bool

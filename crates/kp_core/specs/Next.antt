@@ -1,4 +1,5 @@
--- What the next request asks for: a fresh producer id, or the batches of all partitions that may send.
+-- What the next request asks for: a fresh producer id, or the batches of all partitions that may
+-- send.
 use Rattle.std.specs.Prelude.{ℕ, ◌+◌, ◌-◌, Bool, true, not, List, [], ◌∷◌, ◌++◌, Option, Some, None, is_none, option_map, drop, take, find, filter_map, ◌&&◌, nat_le, if◌then◌else◌}
 use Rattle.std.specs.List.{enumerate_from}
 use Rattle.kp_accum.specs.declared.config.Config.{Config}
@@ -39,13 +40,15 @@ abbrev pub in_turn : Core → List (ℕ × Partition)
 in_turn s = turned (used_up_to s.last_used) (enumerate_from 0 s.partitions)
 
 abbrev pub sending_of : Core → ℕ → (ℕ × Partition) → Option Sending
-sending_of s now x = option_map (λ b. record { partition = x.0; batch = b }) (sends s.config (flags_of s) now x.1)
+sending_of s now x =
+    option_map (λ b. record { partition = x.0; batch = b }) (sends s.config (flags_of s) now x.1)
 
 -- up to the first with which the sizes would be above the room
 unfoldable pub fitting : ℕ → List Sending → List Sending
 fitting room [] = []
 fitting room (x ∷ xs) =
-    if nat_le (size_of x.batch.items) room then x ∷ fitting (room - size_of x.batch.items) xs else []
+    let size = size_of x.batch.items in
+    if nat_le size room then x ∷ fitting (room - size) xs else []
 
 -- The partitions that may send, in turn, with their batches, as far as they fit into a request.
 unfoldable pub next_batches : ℕ → Core → List Sending
@@ -53,7 +56,8 @@ next_batches now s = fitting s.config.max_request_size (filter_map (sending_of s
 
 -- ---- the id
 
--- no id request is in flight, and the last one that was refused or dropped has waited for retry.backoff.ms
+-- no id request is in flight, and the last one that was refused or dropped has waited for
+-- retry.backoff.ms
 abbrev pub has_rested : Config → ℕ → Option ℕ → Bool
 has_rested c now None = true
 has_rested c now (Some since) = is_over since c.retry_backoff_ms now

@@ -30,14 +30,14 @@ abbrev pub NAME_LIMIT : ℕ
 NAME_LIMIT = 249
 
 -- what a new core may be made of
-pub record MayOpen (c : Config) (names : Names) (partitions senders id correlation : ℕ) : Type 0 where
+pub record MayOpen (c : Config) (n : Names) (partitions senders id correlation : ℕ) : Type 0 where
   pub config : checked c ≡ Ok tt
   pub some_partitions : 1 ≤ partitions
   pub partition_limit : partitions ≤ 1024
   pub some_senders : 1 ≤ senders
   pub sender_limit : senders ≤ 64
-  pub topic : length names.topic ≤ NAME_LIMIT
-  pub client : length names.client ≤ NAME_LIMIT
+  pub topic : length n.topic ≤ NAME_LIMIT
+  pub client : length n.client ≤ NAME_LIMIT
   pub known_id : id < 2 ^ 63
   pub known_correlation : correlation < 2 ^ 31
 

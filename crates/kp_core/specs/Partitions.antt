@@ -48,7 +48,8 @@ partition_at p ts = slice_index_or ts p (new_partition 0)
 
 -- these partitions changed, and the others as they are
 unfoldable pub changed_at : List ℕ → (ℕ → Partition → Partition) → List Partition → List Partition
-changed_at ps change ts = map (λ x. if is_in x.0 ps then change x.0 x.1 else x.1) (enumerate_from 0 ts)
+changed_at ps change ts =
+    map (λ x. if is_in x.0 ps then change x.0 x.1 else x.1) (enumerate_from 0 ts)
 
 -- The memory that is used: the charges of the items that are not told.
 unfoldable pub used : Core → ℕ

@@ -1,4 +1,5 @@
--- The sender core as its contracts see it: partitions with their batches, requests in flight, reports not yet fetched.
+-- The sender core as its contracts see it: partitions with their batches, requests in flight,
+-- reports not yet fetched.
 use Rattle.std.specs.Prelude.{ℕ, Bool, List, Option}
 use Rattle.kp_accum.specs.declared.config.Config.{Config}
 use Rattle.kp_accum.specs.declared.item.Item.{Item}
@@ -13,7 +14,7 @@ use Rattle.kp_core.specs.declared.outcome.Report.{Report}
 pub record Batch : Type 0 where
   pub number : ℕ  -- how many batches of its partition were handed over before it
   pub id : ℕ  -- the producer id under which it is sent
-  pub sequence : ℕ  -- its base sequence: how many records of its partition were handed over under this id before it
+  pub sequence : ℕ  -- its base sequence: how many records were handed over under this id before it
   pub items : List Item
 
 -- An open batch: handed over, and its items not yet told.

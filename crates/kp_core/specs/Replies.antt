@@ -35,9 +35,14 @@ abbrev pub unknown : Core → Replies
 unknown s = record { after = s; told = []; answer = Ok (record { known = false; reports = 0 }) }
 
 abbrev pub known : Core → List Told → Replies
-known after told = record { after = after; told = told; answer = Ok (record { known = true; reports = length told }) }
+known after told = record {
+  after = after;
+  told = told;
+  answer = Ok (record { known = true; reports = length told });
+}
 
--- ---- a reply to a Produce request: each partition of the request by its answer, in the request's order
+-- ---- a reply to a Produce request: each partition of the request by its answer, in the request's
+-- order
 
 abbrev pub first_answered : ℕ → ℕ → Partition → Answers → Effect
 first_answered now k t [] = record { after = t; told = [] }
@@ -55,8 +60,8 @@ batches_answered now r answers s =
 abbrev pub batches_replied : ℕ → Request → Core → Option Answers → Replies
 batches_replied now r s None = faulty Mismatch s
 batches_replied now r s (Some answers) =
-    if answer_batches r.correlation r.partitions s.partitions answers then batches_answered now r answers s
-    else faulty Mismatch s
+    if answer_batches r.correlation r.partitions s.partitions answers
+    then batches_answered now r answers s else faulty Mismatch s
 
 -- ---- a reply to an InitProducerId request
 
@@ -68,13 +73,17 @@ abbrev pub under_if_wanted : ℕ → Core → ℕ → Partition → Partition
 under_if_wanted id s p t = if wants_id s.config t then under id t else t
 
 abbrev pub id_given : ℕ → IdRequest → Core → Core
-id_given id r s = record s { partitions = changed_at (r.partition ∷ []) (under_if_wanted id s) s.partitions; id_request = None }
+id_given id r s = record s {
+  partitions = changed_at (r.partition ∷ []) (under_if_wanted id s) s.partitions;
+  id_request = None;
+}
 
 abbrev pub id_refused : ℕ → Core → Core
 id_refused now s = record s { id_request = None; id_waits = Some now }
 
 abbrev pub id_answered : ℕ → IdRequest → InitProducerIdResponse → Core → Core
-id_answered now r response s = if is_given response then id_given (nat_abs response.producer_id) r s else id_refused now s
+id_answered now r response s =
+    if is_given response then id_given (nat_abs response.producer_id) r s else id_refused now s
 
 abbrev pub id_replied : ℕ → IdRequest → InitProducerIdResponse → Core → Replies
 id_replied now r response s =
@@ -84,7 +93,8 @@ id_replied now r response s =
 
 abbrev pub replied_to : ℕ → Core → Awaited → ResponseBody → Replies
 replied_to now s Nothing body = unknown s
-replied_to now s (Batches r) (Produce response) = batches_replied now r s (answers_of s.names.topic response.topics)
+replied_to now s (Batches r) (Produce response) =
+    batches_replied now r s (answers_of s.names.topic response.topics)
 replied_to now s (Id r) (InitProducerId response) = id_replied now r response s
 replied_to now s _ body = faulty Mismatch s
 

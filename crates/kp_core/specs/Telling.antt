@@ -17,12 +17,18 @@ told_all outcome items = map (λ i. record { item = i; outcome = outcome }) item
 
 -- of item k of a batch, that it stands at the batch's offset and k
 abbrev pub told_offsets : ℤ → List Item → List Told
-told_offsets base items = map (λ x. record { item = x.1; outcome = Delivered (base +ℤ pos x.0) }) (enumerate_from 0 items)
+told_offsets base items =
+    map (λ x. record { item = x.1; outcome = Delivered (base +ℤ pos x.0) }) (enumerate_from 0 items)
 
 -- ---- reports
 
 abbrev pub report_of : Told → Report
-report_of t = record { sender = t.item.sender; partition = t.item.partition; number = t.item.number; outcome = t.outcome }
+report_of t = record {
+  sender = t.item.sender;
+  partition = t.item.partition;
+  number = t.item.number;
+  outcome = t.outcome;
+}
 
 -- the reports of this sender's items, in the order in which they were told
 abbrev pub reports_to : ℕ → List Told → List Report
@@ -34,8 +40,8 @@ with_reports told reports = map (λ x. x.1 ++ reports_to x.0 told) (enumerate_fr
 
 -- ---- the core
 
--- The partitions are these, and this was told of items of theirs. A request stays in flight while one of its attempts is;
--- what is told gives its memory back.
+-- The partitions are these, and this was told of items of theirs. A request stays in flight while
+-- one of its attempts is; what is told gives its memory back.
 unfoldable pub with_partitions : List Partition → List Told → Core → Core
 with_partitions ts told s = record s {
   partitions = ts;
@@ -56,4 +62,5 @@ unfoldable pub told_at : List ℕ → (ℕ → Partition → Effect) → Core �
 told_at ps rule s = flat_map (λ p. (rule p (partition_at p s.partitions)).told) ps
 
 unfoldable pub at_these : List ℕ → (ℕ → Partition → Effect) → Core → Core
-at_these ps rule s = with_partitions (changed_at ps (λ p t. (rule p t).after) s.partitions) (told_at ps rule s) s
+at_these ps rule s =
+    with_partitions (changed_at ps (λ p t. (rule p t).after) s.partitions) (told_at ps rule s) s

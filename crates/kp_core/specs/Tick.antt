@@ -1,5 +1,6 @@
--- What the time does: requests time out, and batches are given up (request.timeout.ms and delivery.timeout.ms of Kafka's
--- documentation; that a batch which was sent fences its partition at its deadline is this producer's own rule).
+-- What the time does: requests time out, and batches are given up (request.timeout.ms and
+-- delivery.timeout.ms of Kafka's documentation; that a batch which was sent fences its partition at
+-- its deadline is this producer's own rule).
 use Rattle.std.specs.Prelude.{ℕ, Bool, true, false, List, [], ◌∷◌, length, Option, Some, None, ◌||◌, if◌then◌else◌}
 use Rattle.std.specs.List.{list_any}
 use Rattle.kp_accum.specs.declared.config.Config.{Config}
@@ -25,7 +26,8 @@ is_id_timed_out c now (Some r) = is_over r.sent c.request_timeout_ms now
 
 -- a request in flight has waited for request.timeout.ms
 unfoldable pub has_timed_out : ℕ → Core → Bool
-has_timed_out now s = list_any (is_timed_out s.config now) s.requests || is_id_timed_out s.config now s.id_request
+has_timed_out now s =
+    list_any (is_timed_out s.config now) s.requests || is_id_timed_out s.config now s.id_request
 
 -- ---- one partition
 
@@ -48,9 +50,11 @@ expired_front c now t = record {
   told = told_all (Unsent Expired) (items_queued (late_front c now t.queue));
 }
 
--- An open batch that is late fences its partition, and then nothing is queued; else the late front of the queue expires.
+-- An open batch that is late fences its partition, and then nothing is queued; else the late front
+-- of the queue expires.
 unfoldable pub passed : Config → ℕ → Partition → Effect
-passed c now t = if list_any (is_open_late c now) t.open_batches then fenced t else expired_front c now t
+passed c now t =
+    if list_any (is_open_late c now) t.open_batches then fenced t else expired_front c now t
 
 -- ---- the core
 
@@ -62,14 +66,23 @@ abbrev pub ticked_from : ℕ → Bool → Core → Ticks
 ticked_from now reconnect s =
     let rule = passed s.config now in
     let told = told_at_each rule s in
-    record { after = at_each rule s; told = told; answer = record { reports = length told; reconnect = reconnect } }
+    record {
+      after = at_each rule s;
+      told = told;
+      answer = record { reports = length told; reconnect = reconnect };
+    }
 
 -- First, where a request has timed out, all attempts are dropped; then each partition, upwards.
 abbrev pub ticked_now : ℕ → Core → Ticks
-ticked_now now s = if has_timed_out now s then ticked_from now true (dropped now s) else ticked_from now false s
+ticked_now now s =
+    if has_timed_out now s then ticked_from now true (dropped now s) else ticked_from now false s
 
+abbrev pub not_ticked : Core → Ticks
+not_ticked s = record { after = s; told = []; answer = record { reports = 0; reconnect = false } }
+
+-- After the end nothing happens.
 unfoldable pub ticked : ℕ → Core → Ticks
-ticked now s = if s.ended then record { after = s; told = []; answer = record { reports = 0; reconnect = false } } else ticked_now now s
+ticked now s = if s.ended then not_ticked s else ticked_now now s
 
 -- ---- the connection is gone
 

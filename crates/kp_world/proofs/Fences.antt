@@ -1,50 +1,36 @@
 -- A batch is refused for good.
-use Rattle.std.proofs.Common.{◌≡◌, pos, List, [], ◌∷◌, ◌++◌, refl}
+use Rattle.std.proofs.Common.{◌≡◌, pos, [], ◌∷◌, ◌++◌, refl}
 use Rattle.std.specs.Prelude.{codes}
 use Rattle.kp_accum.specs.Config.{default_config}
-use Rattle.kp_accum.specs.declared.config.Config.{Config}
-use Rattle.kp_world.specs.declared.event.Event.{Event}
 use Rattle.kp_world.specs.declared.event.Event.TheVariants.{Accept, Send, Deliver, Reply, Close, End}
 use Rattle.kp_world.specs.declared.event.Treatment.TheVariants.{Judged, Refused}
 use Rattle.kp_world.proofs.Evaluation.{evaluated}
 use Rattle.kp_world.proofs.Schedules.{told, feed}
 
 -- What was in flight behind it is unknown, and its reply settles nothing.
-abbrev a_fence_ends_attempts_config : Config
-a_fence_ends_attempts_config = record default_config { batch_size = 0 }
-
-abbrev a_fence_ends_attempts_schedule : List Event
-a_fence_ends_attempts_schedule =
-    feed 97 ++ feed 98 ++ feed 99 ++ Send ∷ Deliver 0 Judged ∷ Reply 0 ∷ Send ∷ Send
-    ∷ Deliver 1 (Refused (pos 10)) ∷ Reply 1 ∷ Deliver 2 Judged ∷ Reply 2 ∷ []
-
-pub a_fence_ends_attempts : told a_fence_ends_attempts_config 1 1 a_fence_ends_attempts_schedule ≡
-    codes "sent 0 0:0+1\nanswer 0 0:0@0\nreport 0 0 0 delivered 0\nsent 1 0:1+1\n"
+pub a_fence_ends_attempts :
+    told (record default_config { batch_size = 0 }) 1 1 (
+        feed 97 ++ feed 98 ++ feed 99 ++ Send ∷ Deliver 0 Judged ∷ Reply 0 ∷ Send ∷ Send
+        ∷ Deliver 1 (Refused (pos 10)) ∷ Reply 1 ∷ Deliver 2 Judged ∷ Reply 2 ∷ [])
+    ≡ codes "sent 0 0:0+1\nanswer 0 0:0@0\nreport 0 0 0 delivered 0\nsent 1 0:1+1\n"
     ++ codes "sent 2 0:2+1\nanswer 1 0:10@-1\nreport 0 0 1 rejected 10\n"
     ++ codes "report 0 0 2 unknown\nanswer 2 0:45@-1\nstale 2\nlog 0 0 a\naudit 0 0 0 3\n"
 unfolding evaluated
 a_fence_ends_attempts = refl
 
 -- What stood behind it in the queue is not sent; and nothing is accepted once the gate is shut, or sent after the end.
-abbrev what_was_queued_is_fenced_config : Config
-what_was_queued_is_fenced_config = record default_config { batch_size = 0 }
-
-abbrev what_was_queued_is_fenced_schedule : List Event
-what_was_queued_is_fenced_schedule =
-    feed 97 ++ feed 98 ++ Send ∷ Deliver 0 (Refused (pos 10)) ∷ Reply 0 ∷ Close
-    ∷ Accept 0 0 (99 ∷ []) ∷ End ∷ Send ∷ []
-
-pub what_was_queued_is_fenced : told what_was_queued_is_fenced_config 1 1 what_was_queued_is_fenced_schedule ≡
-    codes "sent 0 0:0+1\nanswer 0 0:10@-1\nreport 0 0 0 rejected 10\n"
+pub what_was_queued_is_fenced :
+    told (record default_config { batch_size = 0 }) 1 1 (
+        feed 97 ++ feed 98 ++ Send ∷ Deliver 0 (Refused (pos 10)) ∷ Reply 0 ∷ Close
+        ∷ Accept 0 0 (99 ∷ []) ∷ End ∷ Send ∷ [])
+    ≡ codes "sent 0 0:0+1\nanswer 0 0:10@-1\nreport 0 0 0 rejected 10\n"
     ++ codes "report 0 0 1 fenced\nclosed 0 0\nended\naudit 0 0 0 1\n"
 unfolding evaluated
 what_was_queued_is_fenced = refl
 
-abbrev what_is_queued_at_the_end_is_not_sent_schedule : List Event
-what_is_queued_at_the_end_is_not_sent_schedule =
-    feed 97 ++ End ∷ []
-
-pub what_is_queued_at_the_end_is_not_sent : told default_config 1 1 what_is_queued_at_the_end_is_not_sent_schedule ≡
-    codes "report 0 0 0 ended\n"
+pub what_is_queued_at_the_end_is_not_sent :
+    told default_config 1 1 (
+        feed 97 ++ End ∷ [])
+    ≡ codes "report 0 0 0 ended\n"
 unfolding evaluated
 what_is_queued_at_the_end_is_not_sent = refl

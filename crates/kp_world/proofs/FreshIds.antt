@@ -1,41 +1,29 @@
 -- A partition that has used its sequence numbers goes on under a fresh producer id.
-use Rattle.std.proofs.Common.{◌≡◌, pos, List, [], ◌∷◌, ◌++◌, refl}
+use Rattle.std.proofs.Common.{◌≡◌, pos, [], ◌∷◌, ◌++◌, refl}
 use Rattle.std.specs.Prelude.{codes}
 use Rattle.kp_accum.specs.Config.{default_config}
-use Rattle.kp_accum.specs.declared.config.Config.{Config}
-use Rattle.kp_world.specs.declared.event.Event.{Event}
 use Rattle.kp_world.specs.declared.event.Event.TheVariants.{Now, Tick, Send, Deliver, Reply}
 use Rattle.kp_world.specs.declared.event.Treatment.TheVariants.{Judged, Refused}
 use Rattle.kp_world.proofs.Evaluation.{evaluated}
 use Rattle.kp_world.proofs.Schedules.{told, feed}
 
-abbrev an_id_is_asked_for_at_the_limit_config : Config
-an_id_is_asked_for_at_the_limit_config = record default_config { sequence_limit = 2; batch_size = 0 }
-
-abbrev an_id_is_asked_for_at_the_limit_schedule : List Event
-an_id_is_asked_for_at_the_limit_schedule =
-    feed 97 ++ feed 98 ++ feed 99 ++ Send ∷ Deliver 0 Judged ∷ Reply 0 ∷ Send
-    ∷ Deliver 1 Judged ∷ Reply 1 ∷ Send ∷ Tick ∷ []
-
-pub an_id_is_asked_for_at_the_limit : told an_id_is_asked_for_at_the_limit_config 1 1 an_id_is_asked_for_at_the_limit_schedule ≡
-    codes "sent 0 0:0+1\nanswer 0 0:0@0\nreport 0 0 0 delivered 0\nsent 1 0:1+1\n"
+pub an_id_is_asked_for_at_the_limit :
+    told (record default_config { sequence_limit = 2; batch_size = 0 }) 1 1 (
+        feed 97 ++ feed 98 ++ feed 99 ++ Send ∷ Deliver 0 Judged ∷ Reply 0 ∷ Send
+        ∷ Deliver 1 Judged ∷ Reply 1 ∷ Send ∷ Tick ∷ [])
+    ≡ codes "sent 0 0:0+1\nanswer 0 0:0@0\nreport 0 0 0 delivered 0\nsent 1 0:1+1\n"
     ++ codes "answer 1 0:0@1\nreport 0 0 1 delivered 1\nsent 2 init\nlog 0 0 a\nlog 0 1 b\n"
     ++ codes "audit 0 0 0 2\n"
 unfolding evaluated
 an_id_is_asked_for_at_the_limit = refl
 
 -- Under the fresh id the sequence begins at 0. A packet of the old one comes again, and is stored no second time.
-abbrev the_old_id_is_silent_config : Config
-the_old_id_is_silent_config = record default_config { sequence_limit = 2; batch_size = 0 }
-
-abbrev the_old_id_is_silent_schedule : List Event
-the_old_id_is_silent_schedule =
-    feed 97 ++ feed 98 ++ feed 99 ++ Send ∷ Deliver 0 Judged ∷ Reply 0 ∷ Send
-    ∷ Deliver 1 Judged ∷ Reply 1 ∷ Send ∷ Tick ∷ Deliver 2 Judged ∷ Reply 2 ∷ Send
-    ∷ Deliver 3 Judged ∷ Reply 3 ∷ Deliver 1 Judged ∷ []
-
-pub the_old_id_is_silent : told the_old_id_is_silent_config 1 1 the_old_id_is_silent_schedule ≡
-    codes "sent 0 0:0+1\nanswer 0 0:0@0\nreport 0 0 0 delivered 0\nsent 1 0:1+1\n"
+pub the_old_id_is_silent :
+    told (record default_config { sequence_limit = 2; batch_size = 0 }) 1 1 (
+        feed 97 ++ feed 98 ++ feed 99 ++ Send ∷ Deliver 0 Judged ∷ Reply 0 ∷ Send
+        ∷ Deliver 1 Judged ∷ Reply 1 ∷ Send ∷ Tick ∷ Deliver 2 Judged ∷ Reply 2 ∷ Send
+        ∷ Deliver 3 Judged ∷ Reply 3 ∷ Deliver 1 Judged ∷ [])
+    ≡ codes "sent 0 0:0+1\nanswer 0 0:0@0\nreport 0 0 0 delivered 0\nsent 1 0:1+1\n"
     ++ codes "answer 1 0:0@1\nreport 0 0 1 delivered 1\nsent 2 init\nanswer 2 init 0@1001\n"
     ++ codes "sent 3 0:0+1\nanswer 3 0:0@2\nreport 0 0 2 delivered 2\nanswer 4 0:0@1\n"
     ++ codes "log 0 0 a\nlog 0 1 b\nlog 0 2 c\naudit 0 0 0 3\n"
@@ -43,17 +31,12 @@ unfolding evaluated
 the_old_id_is_silent = refl
 
 -- After its backoff.
-abbrev an_id_that_is_refused_is_asked_for_again_config : Config
-an_id_that_is_refused_is_asked_for_again_config = record default_config { sequence_limit = 2; batch_size = 0 }
-
-abbrev an_id_that_is_refused_is_asked_for_again_schedule : List Event
-an_id_that_is_refused_is_asked_for_again_schedule =
-    feed 97 ++ feed 98 ++ feed 99 ++ Send ∷ Deliver 0 Judged ∷ Reply 0 ∷ Send
-    ∷ Deliver 1 Judged ∷ Reply 1 ∷ Send ∷ Tick ∷ Deliver 2 (Refused (pos 14)) ∷ Reply 2 ∷ Now 99
-    ∷ Send ∷ Now 100 ∷ Send ∷ []
-
-pub an_id_that_is_refused_is_asked_for_again : told an_id_that_is_refused_is_asked_for_again_config 1 1 an_id_that_is_refused_is_asked_for_again_schedule ≡
-    codes "sent 0 0:0+1\nanswer 0 0:0@0\nreport 0 0 0 delivered 0\nsent 1 0:1+1\n"
+pub an_id_that_is_refused_is_asked_for_again :
+    told (record default_config { sequence_limit = 2; batch_size = 0 }) 1 1 (
+        feed 97 ++ feed 98 ++ feed 99 ++ Send ∷ Deliver 0 Judged ∷ Reply 0 ∷ Send
+        ∷ Deliver 1 Judged ∷ Reply 1 ∷ Send ∷ Tick ∷ Deliver 2 (Refused (pos 14)) ∷ Reply 2
+        ∷ Now 99 ∷ Send ∷ Now 100 ∷ Send ∷ [])
+    ≡ codes "sent 0 0:0+1\nanswer 0 0:0@0\nreport 0 0 0 delivered 0\nsent 1 0:1+1\n"
     ++ codes "answer 1 0:0@1\nreport 0 0 1 delivered 1\nsent 2 init\nanswer 2 init 14@-1\n"
     ++ codes "idle\nsent 3 init\nlog 0 0 a\nlog 0 1 b\naudit 0 0 0 2\n"
 unfolding evaluated

@@ -1,9 +1,7 @@
 -- Records that wait take memory, up to buffer.memory.
-use Rattle.std.proofs.Common.{◌≡◌, List, [], ◌∷◌, ◌++◌, refl}
-use Rattle.std.specs.Prelude.{codes}
+use Rattle.std.proofs.Common.{◌≡◌, [], ◌∷◌, ◌++◌, refl}
+use Rattle.std.specs.Prelude.{codes, replicate}
 use Rattle.kp_accum.specs.Config.{default_config}
-use Rattle.kp_accum.specs.declared.config.Config.{Config}
-use Rattle.kp_world.specs.declared.event.Event.{Event}
 use Rattle.kp_world.specs.declared.event.Event.TheVariants.{Accept, Take, Send, Deliver, Reply}
 use Rattle.kp_world.specs.declared.event.Treatment.TheVariants.{Judged}
 use Rattle.kp_world.proofs.Evaluation.{evaluated}
@@ -11,31 +9,19 @@ use Rattle.kp_world.proofs.Schedules.{told, feed}
 
 -- Two records of 69 bytes are all; the third is refused, which makes the first two ready though they linger. They are
 -- told, and the third is taken.
-abbrev a_third_record_waits_for_memory_config : Config
-a_third_record_waits_for_memory_config = record default_config { buffer_memory = 138; linger_ms = 1000 }
-
-abbrev a_third_record_waits_for_memory_schedule : List Event
-a_third_record_waits_for_memory_schedule =
-    feed 97 ++ feed 98 ++ feed 99 ++ Send ∷ Deliver 0 Judged ∷ Reply 0 ∷ Take 0 ∷ Send ∷ []
-
-pub a_third_record_waits_for_memory : told a_third_record_waits_for_memory_config 1 1 a_third_record_waits_for_memory_schedule ≡
-    codes "full 0\nsent 0 0:0+2\nanswer 0 0:0@0\nreport 0 0 0 delivered 0\n"
+pub a_third_record_waits_for_memory :
+    told (record default_config { buffer_memory = 138; linger_ms = 1000 }) 1 1 (
+        feed 97 ++ feed 98 ++ feed 99 ++ Send ∷ Deliver 0 Judged ∷ Reply 0 ∷ Take 0 ∷ Send ∷ [])
+    ≡ codes "full 0\nsent 0 0:0+2\nanswer 0 0:0@0\nreport 0 0 0 delivered 0\n"
     ++ codes "report 0 0 1 delivered 1\nidle\nlog 0 0 a\nlog 0 1 b\naudit 0 0 0 2\n"
 unfolding evaluated
 a_third_record_waits_for_memory = refl
 
--- A record of two bytes has a charge of 70; and there is nothing to take.
-abbrev what_no_request_can_hold_is_not_accepted_config : Config
-what_no_request_can_hold_is_not_accepted_config = record default_config { max_request_size = 100; buffer_memory = 100; batch_size = 0 }
-
-abbrev what_no_request_can_hold_is_not_accepted_schedule : List Event
-what_no_request_can_hold_is_not_accepted_schedule =
-    Accept 0 0 (97 ∷ 97 ∷ 97 ∷ 97 ∷ 97 ∷ 97 ∷ 97 ∷ 97 ∷ 97 ∷ 97 ∷ 97 ∷ 97 ∷ 97 ∷ 97 ∷ 97 ∷ 97 ∷ 97 ∷ 97 ∷ 97 ∷ 97 ∷ 97 ∷ 97 ∷ 97 ∷ 97 ∷ 97 ∷ 97 ∷ 97 ∷ 97 ∷ 97 ∷ 97 ∷ 97 ∷ 97 ∷ 97 ∷ [])
-    ∷ Take 0
-    ∷ Accept 0 0 (97 ∷ 97 ∷ 97 ∷ 97 ∷ 97 ∷ 97 ∷ 97 ∷ 97 ∷ 97 ∷ 97 ∷ 97 ∷ 97 ∷ 97 ∷ 97 ∷ 97 ∷ 97 ∷ 97 ∷ 97 ∷ 97 ∷ 97 ∷ 97 ∷ 97 ∷ 97 ∷ 97 ∷ 97 ∷ 97 ∷ 97 ∷ 97 ∷ 97 ∷ 97 ∷ 97 ∷ 97 ∷ [])
-    ∷ Take 0 ∷ Send ∷ []
-
-pub what_no_request_can_hold_is_not_accepted : told what_no_request_can_hold_is_not_accepted_config 1 1 what_no_request_can_hold_is_not_accepted_schedule ≡
-    codes "large 0 0\nempty 0\nsent 0 0:0+1\naudit 0 0 0 1\n"
+-- With a value of 33 bytes a record has a charge of 101, with one of 32 bytes of 100.
+pub what_no_request_can_hold_is_not_accepted :
+    told (record default_config { max_request_size = 100; batch_size = 0 }) 1 1 (
+        Accept 0 0 (replicate 33 97) ∷ Take 0 ∷ Accept 0 0 (replicate 32 97) ∷ Take 0 ∷ Send
+        ∷ [])
+    ≡ codes "large 0 0\nempty 0\nsent 0 0:0+1\naudit 0 0 0 1\n"
 unfolding evaluated
 what_no_request_can_hold_is_not_accepted = refl

@@ -1,34 +1,25 @@
 -- One request carries the batches of all partitions that may send.
-use Rattle.std.proofs.Common.{◌≡◌, List, [], ◌∷◌, ◌++◌, refl}
+use Rattle.std.proofs.Common.{◌≡◌, [], ◌∷◌, ◌++◌, refl}
 use Rattle.std.specs.Prelude.{codes}
 use Rattle.kp_accum.specs.Config.{default_config}
-use Rattle.kp_accum.specs.declared.config.Config.{Config}
-use Rattle.kp_world.specs.declared.event.Event.{Event}
 use Rattle.kp_world.specs.declared.event.Event.TheVariants.{Accept, Take, Send, Deliver, Reply}
 use Rattle.kp_world.specs.declared.event.Treatment.TheVariants.{Judged}
 use Rattle.kp_world.proofs.Evaluation.{evaluated}
 use Rattle.kp_world.proofs.Schedules.{told}
 
-abbrev a_request_has_a_batch_of_each_partition_schedule : List Event
-a_request_has_a_batch_of_each_partition_schedule =
-    Accept 0 0 (97 ∷ []) ∷ Accept 0 1 (98 ∷ []) ∷ Take 0 ∷ Take 0 ∷ Send ∷ Deliver 0 Judged
-    ∷ Reply 0 ∷ []
-
-pub a_request_has_a_batch_of_each_partition : told default_config 2 1 a_request_has_a_batch_of_each_partition_schedule ≡
-    codes "sent 0 0:0+1 1:0+1\nanswer 0 0:0@0 1:0@0\nreport 0 0 0 delivered 0\n"
+pub a_request_has_a_batch_of_each_partition :
+    told default_config 2 1 (
+        Accept 0 0 (97 ∷ []) ∷ Accept 0 1 (98 ∷ []) ∷ Take 0 ∷ Take 0 ∷ Send
+        ∷ Deliver 0 Judged ∷ Reply 0 ∷ [])
+    ≡ codes "sent 0 0:0+1 1:0+1\nanswer 0 0:0@0 1:0@0\nreport 0 0 0 delivered 0\n"
     ++ codes "report 0 1 0 delivered 0\nlog 0 0 a\nlog 1 0 b\naudit 0 0 0 1\naudit 1 0 0 1\n"
 unfolding evaluated
 a_request_has_a_batch_of_each_partition = refl
 
 -- Two batches of 69 bytes are above 130, so the second goes into a request of its own.
-abbrev a_request_has_as_many_as_fit_config : Config
-a_request_has_as_many_as_fit_config = record default_config { max_request_size = 130; batch_size = 69 }
-
-abbrev a_request_has_as_many_as_fit_schedule : List Event
-a_request_has_as_many_as_fit_schedule =
-    Accept 0 0 (97 ∷ []) ∷ Accept 0 1 (98 ∷ []) ∷ Take 0 ∷ Take 0 ∷ Send ∷ Send ∷ []
-
-pub a_request_has_as_many_as_fit : told a_request_has_as_many_as_fit_config 2 1 a_request_has_as_many_as_fit_schedule ≡
-    codes "sent 0 0:0+1\nsent 1 1:0+1\naudit 0 0 0 1\naudit 1 0 0 1\n"
+pub a_request_has_as_many_as_fit :
+    told (record default_config { max_request_size = 130; batch_size = 69 }) 2 1 (
+        Accept 0 0 (97 ∷ []) ∷ Accept 0 1 (98 ∷ []) ∷ Take 0 ∷ Take 0 ∷ Send ∷ Send ∷ [])
+    ≡ codes "sent 0 0:0+1\nsent 1 1:0+1\naudit 0 0 0 1\naudit 1 0 0 1\n"
 unfolding evaluated
 a_request_has_as_many_as_fit = refl

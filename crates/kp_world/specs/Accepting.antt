@@ -32,10 +32,13 @@ item_for s p value w = record {
 }
 
 abbrev pub is_large : Item → World → Bool
-is_large i w = nat_lt w.core.config.max_request_size (charge_of i) || nat_lt w.core.config.buffer_memory (charge_of i)
+is_large i w =
+    nat_lt w.core.config.max_request_size (charge_of i)
+    || nat_lt w.core.config.buffer_memory (charge_of i)
 
 abbrev pub with_accepted : Item → World → World
-with_accepted i w = record w { accepted = slice_set w.accepted i.sender (accepted_by i.sender w ++ i ∷ []) }
+with_accepted i w =
+    record w { accepted = slice_set w.accepted i.sender (accepted_by i.sender w ++ i ∷ []) }
 
 abbrev pub accepting : Item → World → World
 accepting i w =

@@ -1,4 +1,5 @@
--- The producer's events. Each is a function of the world; None where it names what isn't there, or is the broker's.
+-- The producer's events. Each is a function of the world; None where it names what isn't there, or
+-- is the broker's.
 use Rattle.std.specs.Prelude.{ℕ, Bool, true, not, List, [], ◌∷◌, ◌++◌, map, flat_map, length, Option, Some, None, Result, Ok, Err, slice_get, slice_set, slice_index_or, nat_lt, ◌==◌, ◌&&◌, if◌then◌else◌}
 use Rattle.kp_core.specs.declared.fault.CoreFault.{CoreFault}
 use Rattle.kp_core.specs.declared.fault.CoreFault.TheVariants as fault
@@ -22,7 +23,8 @@ use Rattle.kp_world.specs.World.{World, Reply}
 -- ---- send
 
 abbrev pub sent_part : Sending → SentPart
-sent_part x = record { partition = x.partition; sequence = x.batch.sequence; count = length x.batch.items }
+sent_part x =
+    record { partition = x.partition; sequence = x.batch.sequence; count = length x.batch.items }
 
 abbrev pub sent_line : ℕ → Demand → Line
 sent_line k (Produce xs) = SentBatches k (map sent_part xs)
@@ -36,7 +38,8 @@ abbrev pub handed_at : ℕ → List (List Batch) → List Batch
 handed_at p handed = slice_index_or handed p []
 
 abbrev pub with_sending : Sending → List (List Batch) → List (List Batch)
-with_sending x handed = slice_set handed x.partition (grown_by x.batch (handed_at x.partition handed))
+with_sending x handed =
+    slice_set handed x.partition (grown_by x.batch (handed_at x.partition handed))
 
 -- A batch is handed over when it first goes out.
 unfoldable pub with_sendings : List Sending → List (List Batch) → List (List Batch)
@@ -51,7 +54,8 @@ abbrev pub with_packet : Outgoing → World → World
 with_packet o w = record w { packets = w.packets ++ o ∷ []; handed = handed_with o.demand w.handed }
 
 abbrev pub sending : World → Core → Result (Option Outgoing) CoreFault → World
-sending w core (Ok (Some o)) = noted core (sent_line (length w.packets) o.demand ∷ []) [] (with_packet o w)
+sending w core (Ok (Some o)) =
+    noted core (sent_line (length w.packets) o.demand ∷ []) [] (with_packet o w)
 sending w core (Err fault.Ended) = noted core (Ended ∷ []) [] w
 sending w core _ = noted core (Idle ∷ []) [] w
 
@@ -100,11 +104,14 @@ abbrev pub closing : World → World
 closing w = noted (closed w.core) [] [] (record w { is_shut = true })
 
 unfoldable pub client : Event → World → Option World
-client (event.Accept s p value) w = only_if (has_sender s w && has_partition p w) (accepting (item_for s p value w) w)
-client (event.Take s) w = only_if (has_sender s w) (taking s (slice_get (accepted_by s w) (taken_by s w)) w)
+client (event.Accept s p value) w =
+    only_if (has_sender s w && has_partition p w) (accepting (item_for s p value w) w)
+client (event.Take s) w =
+    only_if (has_sender s w) (taking s (slice_get (accepted_by s w) (taken_by s w)) w)
 client (event.Now moment) w = Some (only_noted [] (record w { moment = moment }))
 client event.Tick w = Some (ticking w)
-client event.Send w = let step = requested w.moment w.core in Some (sending w step.after step.answer)
+client event.Send w =
+    let step = requested w.moment w.core in Some (sending w step.after step.answer)
 client (event.Reply j) w = replying j (slice_get w.replies j) w
 client event.Drop w = Some (noted (disconnected w.moment w.core) [] [] w)
 client event.Close w = Some (closing w)

@@ -19,7 +19,8 @@ pub record Delivery : Type 0 where
 -- ---- batches
 
 -- One part of a packet comes: its partition's log makes a broker's step.
-pub record PartDelivers (before : List History) (x : Sending) (a : PartAnswer) (after : List History) : Type 0 where
+pub record PartDelivers (before : List History) (x : Sending) (a : PartAnswer)
+    (after : List History) : Type 0 where
   pub partition : a.partition ≡ x.partition
   pub log : History
   pub step : BrokerStep (log_at x.partition before) (sent_of x.batch) a.answer log
@@ -39,7 +40,8 @@ PartsDeliver before (x ∷ xs) [] after = ⊥
 abbrev pub IsFresh : List ℕ → ℕ → Type 0
 IsFresh ids id = AllByRecursion (λ drawn. drawn ≡ id → ⊥) ids
 
--- No id was drawn and an error is answered, or a fresh one was drawn and it or an error is answered.
+-- No id was drawn and an error is answered, or a fresh one was drawn and it or an error is
+-- answered.
 abbrev pub IsError : ReplyContent → Type 0
 IsError (Id code id) = (code ≡ pos 0 → ⊥) × (id ≡ negsuc 0)
 IsError (Batches parts) = ⊥
@@ -50,11 +52,13 @@ given id = Id (pos 0) (pos id)
 abbrev pub IdDelivers : List ℕ → ReplyContent → List ℕ → Type 0
 IdDelivers before content after =
     (IsError content × (after ≡ before))
-    ⊎ ((id : ℕ) × IsFresh before id × (after ≡ before ++ id ∷ []) × (IsError content ⊎ (content ≡ given id)))
+    ⊎ ((id : ℕ) × IsFresh before id × (after ≡ before ++ id ∷ [])
+        × (IsError content ⊎ (content ≡ given id)))
 
 -- ---- a packet
 
 unfoldable pub Delivers : World → Demand → Delivery → Type 0
 Delivers w (Produce xs) d =
-    (answers : List PartAnswer) × PartsDeliver w.logs xs answers d.logs × (d.content ≡ Batches answers) × (d.ids ≡ w.ids)
+    (answers : List PartAnswer) × PartsDeliver w.logs xs answers d.logs
+    × (d.content ≡ Batches answers) × (d.ids ≡ w.ids)
 Delivers w (InitProducerId p) d = IdDelivers w.ids d.content d.ids × (d.logs ≡ w.logs)

@@ -3,7 +3,8 @@ use Rattle.std.specs.Prelude.{ℕ, List, ℤ}
 use Rattle.kp_core.specs.declared.audit.Run.{Run}
 use Rattle.kp_core.specs.declared.outcome.Report.{Report}
 
--- A part of a packet: its partition, base sequence and count. A part of a reply: its partition, code and base offset.
+-- A part of a packet: its partition, base sequence and count. A part of a reply: its partition,
+-- code and base offset.
 pub record SentPart : Type 0 where
   pub partition : ℕ
   pub sequence : ℕ

@@ -13,17 +13,20 @@ use Rattle.kp_world.specs.World.{World, Happened}
 
 -- what was told, by sender upwards, of each in order
 abbrev pub reports_in : ℕ → List Told → List Line
-reports_in senders told = flat_map (λ s. map Reported (reports_to s told)) (range_with_len 0 senders)
+reports_in senders told =
+    flat_map (λ s. map Reported (reports_to s told)) (range_with_len 0 senders)
 
 abbrev pub lines_of : ℕ → Happened → List Line
-lines_of senders h = h.answer ++ reports_in senders h.told ++ (if h.flushed then Flushed ∷ [] else [])
+lines_of senders h =
+    h.answer ++ reports_in senders h.told ++ (if h.flushed then Flushed ∷ [] else [])
 
 -- ---- logs and audits
 
 -- this producer's records are those under the partition's ids
 abbrev pub log_line : ℕ → Partition → (ℕ × Stored) → Line
 log_line p t at =
-    if is_under (map pos t.ids) at.1 then Logged p at.0 (unwrap_or at.1.body.value []) else LoggedOther p at.0
+    if is_under (map pos t.ids) at.1 then Logged p at.0 (unwrap_or at.1.body.value [])
+    else LoggedOther p at.0
 
 abbrev pub log_lines : List Partition → (ℕ × History) → List Line
 log_lines ts x = map (log_line x.0 (partition_at x.0 ts)) (enumerate_from 0 x.1.records)

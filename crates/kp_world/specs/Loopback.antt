@@ -1,4 +1,5 @@
--- A packet at the loopback broker, which goes by the sequence rule unless it is told otherwise; and other producers.
+-- A packet at the loopback broker, which goes by the sequence rule unless it is told otherwise; and
+-- other producers.
 use Rattle.std.specs.Prelude.{ℕ, ◌+◌, ℤ, negsuc, List, [], ◌∷◌, ◌++◌, length, slice_set, codes}
 use Rattle.kp_batch.specs.declared.record.Record.{Record}
 use Rattle.kp_log.specs.BrokerStep.{Offered, offered_to, refused_unseen, offered_late}
@@ -20,10 +21,14 @@ treated (Late code) h b = offered_late h b code
 
 -- the parts in the packet's order: the logs then, and the answers
 abbrev pub with_part : Treatment → List History → Sending → List History
-with_part how logs x = slice_set logs x.partition (treated how (log_at x.partition logs) (sent_of x.batch)).history
+with_part how logs x =
+    slice_set logs x.partition (treated how (log_at x.partition logs) (sent_of x.batch)).history
 
 abbrev pub answer_to : Treatment → List History → Sending → PartAnswer
-answer_to how logs x = record { partition = x.partition; answer = (treated how (log_at x.partition logs) (sent_of x.batch)).answer }
+answer_to how logs x = record {
+  partition = x.partition;
+  answer = (treated how (log_at x.partition logs) (sent_of x.batch)).answer;
+}
 
 unfoldable pub logs_with : Treatment → List History → List Sending → List History
 logs_with how logs [] = logs
@@ -46,14 +51,19 @@ abbrev pub error : ℤ → ReplyContent
 error code = Id code (negsuc 0)
 
 abbrev pub id_delivered : Treatment → World → Delivery
-id_delivered Judged w = record { logs = w.logs; ids = with_id w.ids; content = given (next_id w.ids) }
+id_delivered Judged w =
+    record { logs = w.logs; ids = with_id w.ids; content = given (next_id w.ids) }
 id_delivered (Refused code) w = record { logs = w.logs; ids = w.ids; content = error code }
 id_delivered (Late code) w = record { logs = w.logs; ids = with_id w.ids; content = error code }
 
 -- ---- a packet
 
 unfoldable pub delivered : Treatment → World → Demand → Delivery
-delivered how w (Produce xs) = record { logs = logs_with how w.logs xs; ids = w.ids; content = Batches (answers_to how w.logs xs) }
+delivered how w (Produce xs) = record {
+  logs = logs_with how w.logs xs;
+  ids = w.ids;
+  content = Batches (answers_to how w.logs xs);
+}
 delivered how w (InitProducerId p) = id_delivered how w
 
 -- ---- another producer

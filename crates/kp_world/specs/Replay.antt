@@ -21,7 +21,8 @@ stepped e w = client e w
 -- The world after the events, or the number of the first that names what isn't there, from n on.
 unfoldable pub replayed_from : ℕ → List Event → World → Result World ℕ
 replayed_from n [] w = Ok w
-replayed_from n (e ∷ es) w = elim (stepped e w) [ Some v ↦ replayed_from (n + 1) es v | None ↦ Err n ]
+replayed_from n (e ∷ es) w =
+    elim (stepped e w) [ Some v ↦ replayed_from (n + 1) es v | None ↦ Err n ]
 
 unfoldable pub replayed : List Event → World → Result World ℕ
 replayed es w = replayed_from 0 es w

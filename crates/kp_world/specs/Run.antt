@@ -1,4 +1,5 @@
--- All that a schedule can bring about, whatever the network loses, repeats and reorders, for any honest broker.
+-- All that a schedule can bring about, whatever the network loses, repeats and reorders, for any
+-- honest broker.
 use Rattle.std.specs.Prelude.{◌≡◌, ℕ, ◌≤◌, List, [], ◌∷◌, ◌++◌, map, length, Option, Some, Ok, slice_get}
 use Rattle.kp_accum.specs.declared.config.Config.{Config}
 use Rattle.kp_accum.specs.Config.{checked}
@@ -31,7 +32,8 @@ with_delivery o d w = only_noted (answer_line (length w.replies) d.content ∷ [
 
 -- other producers' records come in between
 unfoldable pub with_others_at : ℕ → ℕ → World → Option World
-with_others_at p n w = only_if (has_partition p w) (only_noted [] (record w { logs = logs_with_others p n w.logs }))
+with_others_at p n w =
+    only_if (has_partition p w) (only_noted [] (record w { logs = logs_with_others p n w.logs }))
 
 -- ---- a step
 
@@ -63,6 +65,7 @@ pub record MayBegin (c : Config) (partitions senders : ℕ) : Type 0 where
   pub sender_limit : senders ≤ 64
 
 -- The world is one to which a schedule leads.
-pub record IsReached (c : Config) (partitions senders : ℕ) (es : List Event) (w : World) : Type 0 where
+pub record IsReached (c : Config) (partitions senders : ℕ) (es : List Event) (w : World)
+    : Type 0 where
   pub may_begin : MayBegin c partitions senders
   pub run : Run (opening c partitions senders) es w

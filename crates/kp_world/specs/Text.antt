@@ -19,10 +19,12 @@ abbrev pub number : ℕ → Text
 number n = codes " " ++ decimal n
 
 abbrev pub sent_part_text : SentPart → Text
-sent_part_text x = number x.partition ++ codes ":" ++ decimal x.sequence ++ codes "+" ++ decimal x.count
+sent_part_text x =
+    number x.partition ++ codes ":" ++ decimal x.sequence ++ codes "+" ++ decimal x.count
 
 abbrev pub answer_part_text : AnswerPart → Text
-answer_part_text x = number x.partition ++ codes ":" ++ signed_decimal x.code ++ codes "@" ++ signed_decimal x.base
+answer_part_text x =
+    number x.partition ++ codes ":" ++ signed_decimal x.code ++ codes "@" ++ signed_decimal x.base
 
 abbrev pub outcome_text : Outcome → Text
 outcome_text (Delivered offset) = codes " delivered " ++ signed_decimal offset
@@ -45,16 +47,22 @@ line_text (line.SentBatches k parts) = codes "sent" ++ number k ++ flat_map sent
 line_text (line.SentInit k) = codes "sent" ++ number k ++ codes " init"
 line_text line.Idle = codes "idle"
 line_text line.Ended = codes "ended"
-line_text (line.AnswerBatches j parts) = codes "answer" ++ number j ++ flat_map answer_part_text parts
+line_text (line.AnswerBatches j parts) =
+    codes "answer" ++ number j ++ flat_map answer_part_text parts
 line_text (line.AnswerInit j code id) =
-    codes "answer" ++ number j ++ codes " init " ++ signed_decimal code ++ codes "@" ++ signed_decimal id
+    codes "answer" ++ number j ++ codes " init "
+    ++ signed_decimal code ++ codes "@" ++ signed_decimal id
 line_text (line.Stale j) = codes "stale" ++ number j
 line_text line.Flushing = codes "flushing"
 line_text line.Flushed = codes "flushed"
-line_text (line.Reported r) = codes "report" ++ number r.sender ++ number r.partition ++ number r.number ++ outcome_text r.outcome
-line_text (line.Logged p offset value) = codes "log" ++ number p ++ number offset ++ codes " " ++ printed value
+line_text (line.Reported r) =
+    codes "report" ++ number r.sender ++ number r.partition ++ number r.number
+    ++ outcome_text r.outcome
+line_text (line.Logged p offset value) =
+    codes "log" ++ number p ++ number offset ++ codes " " ++ printed value
 line_text (line.LoggedOther p offset) = codes "other" ++ number p ++ number offset
-line_text (line.Audited p r) = codes "audit" ++ number p ++ number r.sender ++ number r.first ++ number r.count
+line_text (line.Audited p r) =
+    codes "audit" ++ number p ++ number r.sender ++ number r.first ++ number r.count
 
 -- each line, and the byte that ends it
 unfoldable pub text : World → Text

@@ -1,5 +1,5 @@
--- A world: a producer's core with its senders, the packets and replies that ever travelled, the partitions' logs, and
--- what happened so far.
+-- A world: a producer's core with its senders, the packets and replies that ever travelled, the
+-- partitions' logs, and what happened so far.
 use Rattle.std.specs.Prelude.{ℕ, Bool, false, List, [], ◌∷◌, ℤ, replicate, codes}
 use Rattle.kp_accum.specs.declared.config.Config.{Config}
 use Rattle.kp_accum.specs.declared.item.Item.{Item}
@@ -29,7 +29,8 @@ pub record Reply : Type 0 where
 
 -- ---- worlds
 
--- What an event was answered, in a line or none, and what was told in it; and whether it ended a flush.
+-- What an event was answered, in a line or none, and what was told in it; and whether it ended a
+-- flush.
 pub record Happened : Type 0 where
   pub answer : List Line
   pub told : List Told
