@@ -1,5 +1,7 @@
 pub mod Evaluation
 pub mod Schedules
+pub mod KeepingLemmas
+pub mod SendingLemmas
 pub mod Linger
 pub mod Window
 pub mod Reordering
