@@ -2,6 +2,9 @@ pub mod Evaluation
 pub mod Schedules
 pub mod KeepingLemmas
 pub mod SendingLemmas
+pub mod SoundLemmas
+pub mod ReplyLemmas
+pub mod GoodLemmas
 pub mod Linger
 pub mod Window
 pub mod Reordering
