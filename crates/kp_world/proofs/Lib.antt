@@ -5,6 +5,7 @@ pub mod SendingLemmas
 pub mod SoundLemmas
 pub mod ReplyLemmas
 pub mod GoodLemmas
+pub mod RequestLemmas
 pub mod Linger
 pub mod Window
 pub mod Reordering
