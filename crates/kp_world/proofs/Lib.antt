@@ -6,6 +6,7 @@ pub mod SoundLemmas
 pub mod ReplyLemmas
 pub mod GoodLemmas
 pub mod RequestLemmas
+pub mod DeliveryLemmas
 pub mod Linger
 pub mod Window
 pub mod Reordering
