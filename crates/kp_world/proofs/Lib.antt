@@ -7,6 +7,7 @@ pub mod ReplyLemmas
 pub mod GoodLemmas
 pub mod RequestLemmas
 pub mod DeliveryLemmas
+pub mod ReplayLemmas
 pub mod Linger
 pub mod Window
 pub mod Reordering
