@@ -1,31 +1,31 @@
--- What the loopback broker does with a packet is what an honest broker may do, and what holds of every world of a
--- replay holds still.
-use Rattle.std.proofs.Common.{◌≡◌, ◌≢◌, ◌⊎◌, ℕ, suc, zero, ◌+◌, ◌<◌, Bool, true, false, List, [], ◌∷◌, ◌++◌, length, get_or, map, ℤ, pos, negsuc, Some, None, refl, sym, ap, ◌∙◌, subst, inl, inr, ⊎_elim, arith, length-append, Contains}
-use Rattle.std.specs.Prelude.{Option, ◌==◌, slice_set}
+-- What the loopback broker does with a packet is what an honest broker may do, and what holds of
+-- every world of a replay holds still.
+use Rattle.std.proofs.Common.{◌≡◌, ◌⊎◌, ℕ, ◌+◌, ◌<◌, Bool, true, false, List, [], ◌∷◌, ◌++◌, length, map, ℤ, refl, sym, ap, ◌∙◌, subst, inl, inr, ⊎_elim, arith, length-append, Contains}
+use Rattle.std.specs.Prelude.{◌==◌, slice_set}
 use Rattle.std.specs.List.{AllByRecursion}
 use Rattle.std.proofs.lemmas.Bool.{eqb-true, eq-eqb}
 use Rattle.std.proofs.lemmas.List.{length-set, get_or-set_same, get_or-set_other, map-append}
-use Rattle.kp_log.specs.BrokerStep.{BrokerStep, Offered, offered_to, refused_unseen, offered_late}
+use Rattle.kp_log.specs.BrokerStep.{BrokerStep}
 use Rattle.kp_log.specs.HandedOver.{CameBy}
-use Rattle.kp_log.specs.History.{Sent, History, empty_history, with_others}
+use Rattle.kp_log.specs.History.{History, empty_history, with_others}
 use Rattle.kp_log.proofs.KeepingLemmas.{came_offered, came_others}
 use Rattle.kp_log.proofs.LoopbackLemmas.{loopback_step, late_step}
 use Rattle.kp_log.proofs.PlaceLemmas.{In, In-nil, In-cons, In-head, In-tail, In-append_left, In-append_right, In-append_cases, contains_from_In}
 use Rattle.kp_core.specs.Next.{Sending, Demand, Produce, InitProducerId}
 use Rattle.kp_core.specs.Partitions.{partition_at}
-use Rattle.kp_core.specs.Records.{Batch, Partition, IdRequest, Core}
+use Rattle.kp_core.specs.Records.{Batch, Partition, Core}
 use Rattle.kp_core.specs.Requesting.{Outgoing}
 use Rattle.kp_world.specs.declared.event.Treatment.{Treatment}
 use Rattle.kp_world.specs.declared.event.Treatment.TheVariants.{Judged, Refused, Late}
 use Rattle.kp_world.specs.Client.{handed_at}
-use Rattle.kp_world.specs.Delivering.{log_at, Delivery, PartDelivers, PartsDeliver, IsFresh, IsError, given, IdDelivers, Delivers}
-use Rattle.kp_world.specs.Loopback.{treated, with_part, answer_to, logs_with, answers_to, next_id, with_id, error, id_delivered, delivered, other_record, logs_with_others}
+use Rattle.kp_world.specs.Delivering.{log_at, PartsDeliver, IsFresh, given, Delivers}
+use Rattle.kp_world.specs.Loopback.{treated, with_part, logs_with, answers_to, next_id, with_id, error, delivered, other_record, logs_with_others}
 use Rattle.kp_world.specs.Message.{sent_of}
 use Rattle.kp_world.specs.Noting.{noted}
-use Rattle.kp_world.specs.Replay.{MayAnswer, MayTreat}
+use Rattle.kp_world.specs.Replay.{MayTreat}
 use Rattle.kp_world.specs.Run.{with_delivery}
-use Rattle.kp_world.specs.World.{PartAnswer, ReplyContent, Batches, Id, Reply, World, FIRST_ID}
-use Rattle.kp_world.proofs.GoodLemmas.{PartsIn, Went, Given, Good, IsGood}
+use Rattle.kp_world.specs.World.{PartAnswer, ReplyContent, Batches, Reply, World, FIRST_ID}
+use Rattle.kp_world.proofs.GoodLemmas.{PartsIn, Given, Good, IsGood}
 use Rattle.kp_world.proofs.SoundLemmas.{Sound, sents, sound_history, sound_drawn}
 
 -- ---- lists

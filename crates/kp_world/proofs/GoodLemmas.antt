@@ -1,25 +1,23 @@
--- What holds of every world of a replay: each partition agrees with what was handed over for it and with its log,
--- packets have what was handed over, and an id that is on its way to the request that awaits it is nobody's yet.
-use Rattle.std.proofs.Common.{◌≡◌, ◌⊎◌, ℕ, suc, zero, ◌+◌, ◌<◌, ◌≤◌, Bool, true, false, cond, List, [], ◌∷◌, ◌++◌, length, get_or, map, ℤ, pos, negsuc, Some, None, refl, sym, ap, ◌∙◌, subst, inl, inr, ⊎_elim, arith, length-append}
-use Rattle.std.specs.Prelude.{Option, if◌then◌else◌, ◌==◌, ◌||◌, slice_set}
-use Rattle.std.specs.List.{AllByRecursion, list_any}
+-- What holds of every world of a replay: each partition agrees with what was handed over for it and
+-- with its log, packets have what was handed over, and an id that is on its way to the request that
+-- awaits it is nobody's yet.
+use Rattle.std.proofs.Common.{◌≡◌, ℕ, ◌+◌, ◌<◌, Bool, true, false, List, [], ◌∷◌, ◌++◌, length, Some, refl, sym, ap, ◌∙◌, subst, arith, length-append}
+use Rattle.std.specs.Prelude.{if◌then◌else◌, ◌==◌, ◌||◌}
+use Rattle.std.specs.List.{AllByRecursion}
 use Rattle.std.proofs.lemmas.Bool.{eqb-true, eq-eqb}
 use Rattle.std.proofs.lemmas.List.{length-set, get_or-set_same, get_or-set_other}
 use Rattle.kp_log.specs.History.{History}
-use Rattle.kp_log.proofs.PlaceLemmas.{In, In-nil, In-head, In-tail, In-cons, In-append_left, In-append_right, In-append_cases}
-use Rattle.kp_core.specs.Attempts.{lowest_waiting}
-use Rattle.kp_core.specs.HandingOver.{sent_in, handed_over_in}
-use Rattle.kp_core.specs.MaySend.{sends}
-use Rattle.kp_core.specs.Next.{Sending, Demand, Produce, InitProducerId, flags_of}
+use Rattle.kp_log.proofs.PlaceLemmas.{In}
+use Rattle.kp_core.specs.Next.{Sending, Demand, Produce, InitProducerId}
 use Rattle.kp_core.specs.Partitions.{partition_at, is_in}
-use Rattle.kp_core.specs.Records.{Batch, Partition, IdRequest, Core}
-use Rattle.kp_core.specs.Requesting.{Outgoing, partitions_in, sent_out}
+use Rattle.kp_core.specs.Records.{Batch, IdRequest, Core}
+use Rattle.kp_core.specs.Requesting.{Outgoing, partitions_in}
 use Rattle.kp_world.specs.Client.{grown_by, handed_at, with_sending, with_sendings}
 use Rattle.kp_world.specs.Delivering.{log_at, given}
 use Rattle.kp_world.specs.World.{Reply, World, FIRST_ID}
-use Rattle.kp_world.proofs.KeepingLemmas.{Keeps, CoreKeeps, length-changed_at, at-changed_at}
-use Rattle.kp_world.proofs.SendingLemmas.{Again, HandsOver, goes_out_of, IsSent, all_weaker}
-use Rattle.kp_world.proofs.SoundLemmas.{Sound, sound_kept, sound_handed}
+use Rattle.kp_world.proofs.KeepingLemmas.{CoreKeeps}
+use Rattle.kp_world.proofs.SendingLemmas.{all_weaker}
+use Rattle.kp_world.proofs.SoundLemmas.{Sound, sound_kept}
 
 -- ---- what holds
 

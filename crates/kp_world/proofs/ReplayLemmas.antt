@@ -1,8 +1,7 @@
 -- A replay is a run: each event of it is a step that a run may take.
-use Rattle.std.proofs.Common.{◌≡◌, ◌⊎◌, ℕ, suc, zero, ◌+◌, ◌<◌, Bool, true, false, not, List, [], ◌∷◌, ◌++◌, length, get_or, replicate, map, ℤ, pos, negsuc, Some, None, refl, sym, ap, ◌∙◌, subst, inl, inr, ⊎_elim, arith}
-use Rattle.std.specs.Prelude.{Option, Result, Ok, Err, if◌then◌else◌, ◌&&◌, ◌==◌, nat_lt, nat_abs, slice_get}
+use Rattle.std.proofs.Common.{◌≡◌, ℕ, suc, zero, ◌+◌, ◌<◌, Bool, true, false, List, [], ◌∷◌, length, replicate, ℤ, pos, negsuc, Some, None, refl, sym, ap, ◌∙◌, subst, ⊎_elim, arith}
+use Rattle.std.specs.Prelude.{Option, Result, Ok, Err, if◌then◌else◌, ◌&&◌, nat_abs, slice_get}
 use Rattle.std.specs.List.{AllByRecursion}
-use Rattle.std.specs.Ordering.{int_eq}
 use Rattle.std.proofs.lemmas.Bool.{ltb-true}
 use Rattle.std.proofs.lemmas.Bool.Decides.{Decides-int_eq}
 use Rattle.std.proofs.lemmas.List.{get_or-replicate, length-replicate}
@@ -19,7 +18,7 @@ use Rattle.kp_core.specs.MaySend.{wants_id}
 use Rattle.kp_core.specs.Mismatch.{is_given, answers_id}
 use Rattle.kp_core.specs.Opening.{new_core}
 use Rattle.kp_core.specs.Partitions.{partition_at, is_in, new_partition}
-use Rattle.kp_core.specs.Records.{Batch, Partition, IdRequest, Core, Told, Step}
+use Rattle.kp_core.specs.Records.{Batch, Partition, IdRequest, Core}
 use Rattle.kp_core.specs.Replies.{replied, under, under_if_wanted, id_given}
 use Rattle.kp_core.specs.Requesting.{Outgoing, requested}
 use Rattle.kp_core.specs.Tick.{ticked, disconnected, closed}
@@ -28,16 +27,16 @@ use Rattle.kp_world.specs.declared.event.Event.TheVariants as event
 use Rattle.kp_world.specs.declared.event.Treatment.{Treatment}
 use Rattle.kp_world.specs.Accepting.{is_large, with_accepted, accepting, item_for, accepted_by, taking, taking_of, taken_by}
 use Rattle.kp_world.specs.Client.{handed_at, sending, replying, has_sender, has_partition, only_if, ticking, ending, closing, client}
-use Rattle.kp_world.specs.Delivering.{log_at, given, Delivers}
+use Rattle.kp_world.specs.Delivering.{log_at, given}
 use Rattle.kp_world.specs.Line.{Closed, Large}
 use Rattle.kp_world.specs.Loopback.{delivered, logs_with_others}
 use Rattle.kp_world.specs.Message.{response_of, body_of_reply, epoch_for}
 use Rattle.kp_world.specs.Noting.{noted, only_noted}
 use Rattle.kp_world.specs.Replay.{MayTreat, MayHappen, arrived, stepped, replayed_from, replayed}
 use Rattle.kp_world.specs.Run.{with_delivery, with_others_at, Arrives, Steps, Run}
-use Rattle.kp_world.specs.World.{ReplyContent, Batches, Id, Reply, World, names, opening, FIRST_ID, FIRST_CORRELATION}
+use Rattle.kp_world.specs.World.{ReplyContent, Batches, Id, Reply, World, opening, FIRST_ID}
 use Rattle.kp_world.proofs.DeliveryLemmas.{came, others_good}
-use Rattle.kp_world.proofs.GoodLemmas.{Given, Good, IsGood, good_core}
+use Rattle.kp_world.proofs.GoodLemmas.{Good, IsGood, good_core}
 use Rattle.kp_world.proofs.KeepingLemmas.{CoreKeeps, core_appended, core_ticked, core_ended, core_flushed, core_disconnected, core_closed, length-changed_at, at-changed_at}
 use Rattle.kp_world.proofs.ReplyLemmas.{TakesId, replied_cases}
 use Rattle.kp_world.proofs.RequestLemmas.{good_sending}
@@ -54,10 +53,12 @@ good_some x v e g = let same : x ≡ v = cc in subst IsGood same g
 -- ---- accept and take
 
 abbrev large_step : Item → World → Bool → World
-large_step i w b = if b then only_noted (Large i.sender i.partition ∷ []) w else only_noted [] (with_accepted i w)
+large_step i w b =
+    if b then only_noted (Large i.sender i.partition ∷ []) w else only_noted [] (with_accepted i w)
 
 abbrev shut_step : Item → World → Bool → World
-shut_step i w b = if b then only_noted (Closed i.sender i.partition ∷ []) w else large_step i w (is_large i w)
+shut_step i w b =
+    if b then only_noted (Closed i.sender i.partition ∷ []) w else large_step i w (is_large i w)
 
 good_accepting : (i : Item) (w : World) → IsGood w → IsGood (accepting i w)
 unfolding noted
@@ -177,14 +178,18 @@ good_client (event.Take s) w v e g = at_test (has_sender s w) e
     at_test : (b : Bool) → only_if b (taking s (slice_get (accepted_by s w) (taken_by s w)) w) ≡ Some v → IsGood v
     at_test true e' = good_some (taking s (slice_get (accepted_by s w) (taken_by s w)) w) v e' (good_taking s (slice_get (accepted_by s w) (taken_by s w)) w g)
     at_test false e' = absurd cc
-good_client (event.Now moment) w v e g = good_some (only_noted [] (record w { moment = moment })) v e g
+good_client (event.Now moment) w v e g =
+    good_some (only_noted [] (record w { moment = moment })) v e g
 good_client event.Tick w v e g = good_some (ticking w) v e (good_of w (ticked w.moment w.core).after g (core_ticked w.moment w.core))
 good_client event.Send w v e g = good_some (sending w (requested w.moment w.core).after (requested w.moment w.core).answer) v e (good_sending w g)
 good_client (event.Reply j) w v e g = good_replying j w v e g
 good_client event.Drop w v e g = good_some (noted (disconnected w.moment w.core) [] [] w) v e (good_of w (disconnected w.moment w.core) g (core_disconnected w.moment w.core))
-good_client event.Close w v e g = good_some (closing w) v e (good_of w (closed w.core) g (core_closed w.core))
-good_client event.End w v e g = good_some (ending w) v e (good_of w (ended w.core).after g (core_ended w.core))
-good_client event.Flush w v e g = good_some _ v e (good_of w (flushed w.core) g (core_flushed w.core))
+good_client event.Close w v e g =
+    good_some (closing w) v e (good_of w (closed w.core) g (core_closed w.core))
+good_client event.End w v e g =
+    good_some (ending w) v e (good_of w (ended w.core).after g (core_ended w.core))
+good_client event.Flush w v e g =
+    good_some _ v e (good_of w (flushed w.core) g (core_flushed w.core))
 good_client (event.Deliver k how) w v e g = absurd cc
 good_client (event.Other p n) w v e g = absurd cc
 
@@ -256,4 +261,5 @@ good_opening c partitions senders = record {
 pub replay_is_run : (c : Config) (partitions senders : ℕ) (es : List Event) (w : World) → AllByRecursion MayHappen es
     → replayed es (opening c partitions senders) ≡ Ok w → Run (opening c partitions senders) es w
 unfolding replayed
-replay_is_run c partitions senders es w may e = run 0 es (opening c partitions senders) w may (good_opening c partitions senders) e
+replay_is_run c partitions senders es w may e =
+    run 0 es (opening c partitions senders) w may (good_opening c partitions senders) e

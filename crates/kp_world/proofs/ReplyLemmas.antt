@@ -1,9 +1,9 @@
--- What a reply does to the core: it keeps each partition, or gives one of them the id that it asked for.
-use Rattle.std.proofs.Common.{◌≡◌, ◌⊎◌, ℕ, Bool, true, false, List, [], ◌∷◌, ℤ, pos, negsuc, Some, None, refl, sym, ap, ◌∙◌, subst, inl, inr}
+-- What a reply does to the core: it keeps each partition, or gives one of them the id that it asked
+-- for.
+use Rattle.std.proofs.Common.{◌≡◌, ◌⊎◌, ℕ, Bool, true, false, [], ◌∷◌, ℤ, pos, Some, None, refl, ap, ◌∙◌, subst, inl, inr}
 use Rattle.std.specs.Prelude.{Option, if◌then◌else◌, nat_abs, find}
 use Rattle.std.specs.Ordering.{int_eq}
 use Rattle.std.proofs.lemmas.Bool.Decides.{Decides-int_eq}
-use Rattle.kp_frames.specs.declared.produce.PartitionProduceResponse.{PartitionProduceResponse}
 use Rattle.kp_frames.specs.declared.producer_id.InitProducerIdResponse.{InitProducerIdResponse}
 use Rattle.kp_frames.specs.declared.response.Response.{Response}
 use Rattle.kp_frames.specs.declared.response.ResponseBody.{ResponseBody}
@@ -11,7 +11,7 @@ use Rattle.kp_frames.specs.declared.response.ResponseBody.TheVariants.{Produce, 
 use Rattle.kp_core.specs.Awaited.{Awaited, Nothing, Batches, Id, id_awaited, or_id, awaited}
 use Rattle.kp_core.specs.Mismatch.{Answers, answers_for, answers_of, answer_batches, is_given, answers_id}
 use Rattle.kp_core.specs.Partitions.{partition_at}
-use Rattle.kp_core.specs.Records.{Partition, Request, IdRequest, Core, Effect, Step}
+use Rattle.kp_core.specs.Records.{Partition, Request, IdRequest, Core}
 use Rattle.kp_core.specs.Replies.{first_answered, answering, batches_answered, batches_replied, id_given, id_refused, id_answered, id_replied, replied_to, replied, after_end, faulty, known, Replies}
 use Rattle.kp_frames.specs.declared.fault.FrameFault.TheVariants.{Mismatch}
 use Rattle.kp_world.proofs.KeepingLemmas.{Keeps, keeps_same, keeps_answered, CoreKeeps, core_same, core_at_these}
@@ -58,7 +58,8 @@ batches_step now r s answers b = if b then batches_answered now r answers s else
 
 batches_keep : (now : ℕ) (r : Request) (s : Core) (o : Option Answers) → CoreKeeps s (batches_replied now r s o).after
 batches_keep now r s None = core_same s
-batches_keep now r s (Some answers) = at_test (answer_batches r.correlation r.partitions s.partitions answers)
+batches_keep now r s (Some answers) =
+    at_test (answer_batches r.correlation r.partitions s.partitions answers)
   where
     at_test : (b : Bool) → CoreKeeps s (batches_step now r s answers b).after
     at_test true = core_at_these r.partitions (answering now r.correlation answers) (keeps_answering now r.correlation answers) s
@@ -85,7 +86,8 @@ id_cases now s q k body x asked named is = at_valid (answers_id x) refl
     at_valid false v = inl (core_same s)
 
 abbrev reply_step : ℕ → Response → Core → Bool → Replies
-reply_step now response s b = if b then after_end s else replied_to now s (awaited response.correlation s) response.body
+reply_step now response s b =
+    if b then after_end s else replied_to now s (awaited response.correlation s) response.body
 
 pub replied_cases : (now : ℕ) (response : Response) (s : Core)
     → CoreKeeps s (replied now response s).after ⊎ TakesId s response.correlation response.body (replied now response s).after

@@ -1,23 +1,23 @@
 -- What holds of every world of a replay holds still when a request has gone out.
-use Rattle.std.proofs.Common.{◌≡◌, ◌⊎◌, ℕ, ◌+◌, ◌<◌, Bool, true, false, List, [], ◌∷◌, ◌++◌, length, Some, None, refl, sym, ap, ◌∙◌, subst, inl, inr, ⊎_elim, arith}
-use Rattle.std.specs.Prelude.{Option, Result, Ok, Err, if◌then◌else◌, ◌==◌, ◌||◌}
+use Rattle.std.proofs.Common.{◌≡◌, ℕ, ◌<◌, Bool, true, false, List, [], ◌∷◌, ◌++◌, length, Some, None, refl, sym, ap, ◌∙◌, subst, ⊎_elim, arith}
+use Rattle.std.specs.Prelude.{Option, Err, if◌then◌else◌, ◌==◌, ◌||◌}
 use Rattle.std.specs.List.{AllByRecursion}
 use Rattle.std.proofs.lemmas.Bool.{eqb-true, eq-eqb}
 use Rattle.kp_log.specs.History.{History}
 use Rattle.kp_log.proofs.PlaceLemmas.{In, In-nil, In-cons, In-head, In-append_left, In-append_right, In-append_cases}
 use Rattle.kp_core.specs.HandingOver.{sent_in, handed_over_in}
-use Rattle.kp_core.specs.MaySend.{new_batch, sends}
+use Rattle.kp_core.specs.MaySend.{sends}
 use Rattle.kp_core.specs.Next.{Sending, Demand, Produce, InitProducerId, flags_of, next_demand}
-use Rattle.kp_core.specs.Partitions.{partition_at, changed_at, is_in}
-use Rattle.kp_core.specs.Records.{Batch, Partition, IdRequest, Core, Step}
+use Rattle.kp_core.specs.Partitions.{partition_at, is_in}
+use Rattle.kp_core.specs.Records.{Batch, Partition, IdRequest, Core}
 use Rattle.kp_core.specs.Requesting.{Outgoing, Requested, nothing_out, goes_out, requested_for, requested, partitions_in, sent_out, is_spent}
 use Rattle.kp_core.specs.declared.fault.CoreFault.TheVariants as fault
-use Rattle.kp_world.specs.Client.{grown_by, handed_at, with_sendings, handed_with, with_packet, sending}
+use Rattle.kp_world.specs.Client.{grown_by, handed_at, with_sendings, sending}
 use Rattle.kp_world.specs.Delivering.{log_at}
 use Rattle.kp_world.specs.Noting.{noted}
 use Rattle.kp_world.specs.World.{Reply, World}
-use Rattle.kp_world.proofs.GoodLemmas.{PartsIn, Went, Given, Good, IsGood, good_core, length-with_sendings, at-with_sendings}
-use Rattle.kp_world.proofs.KeepingLemmas.{OpenIn, Keeps, core_same, length-changed_at, at-changed_at}
+use Rattle.kp_world.proofs.GoodLemmas.{PartsIn, Went, Good, IsGood, length-with_sendings, at-with_sendings}
+use Rattle.kp_world.proofs.KeepingLemmas.{length-changed_at, at-changed_at}
 use Rattle.kp_world.proofs.SendingLemmas.{Again, HandsOver, goes_out_of, IsSent, all_weaker, demand_is_sent}
 use Rattle.kp_world.proofs.SoundLemmas.{Sound, sound_kept, sound_handed}
 
@@ -38,7 +38,8 @@ grown_known b handed below = at_test (b.number == length handed) refl
     at_test false is = refl
 
 grown_new : (b : Batch) (handed : List Batch) → b.number ≡ length handed → grown_by b handed ≡ handed ++ b ∷ []
-grown_new b handed same = ap (λ (t : Bool). if t then handed ++ b ∷ [] else handed) (eq-eqb b.number (length handed) same)
+grown_new b handed same =
+    ap (λ (t : Bool). if t then handed ++ b ∷ [] else handed) (eq-eqb b.number (length handed) same)
 
 sent_again : (ids : List ℕ) (t : Partition) (b : Batch) (handed : List Batch) (h : History) (t' : Partition) → Sound ids t handed h → Again t t' b → Sent ids t b handed h t'
 sent_again ids t b handed h t' s a =
@@ -105,7 +106,8 @@ pub record Went_out (ids : List ℕ) (t : Partition) (handed : List Batch) (h : 
 went_out : (now : ℕ) (s : Core) (logs : List History) (handed : List (List Batch)) (packets : List Outgoing) (replies : List Reply) (ids : List ℕ) (xs : List Sending)
     → Good s logs handed packets replies ids → AllByRecursion (IsSent now s) xs → (p : ℕ) → p < length logs
     → Went_out ids (partition_at p s.partitions) (handed_at p handed) (log_at p logs) (partition_at p (sent_out now s (Produce xs)).partitions) (handed_at p (with_sendings xs handed))
-went_out now s logs handed packets replies ids xs g all p h = at_test (is_in p (partitions_in xs)) refl
+went_out now s logs handed packets replies ids xs g all p h =
+    at_test (is_in p (partitions_in xs)) refl
   where
     t : Partition
     t = partition_at p s.partitions
@@ -215,7 +217,8 @@ good_id now s logs handed packets replies ids p g = record {
 }
 
 abbrev spent_step : World → Demand → Bool → Requested
-spent_step w d b = if b then nothing_out w.core (Err fault.CorrelationSpent) else goes_out w.moment w.core d
+spent_step w d b =
+    if b then nothing_out w.core (Err fault.CorrelationSpent) else goes_out w.moment w.core d
 
 abbrev end_step : World → Bool → Requested
 end_step w b = if b then nothing_out w.core (Err fault.Ended) else requested_for w.moment w.core (next_demand w.moment w.core)

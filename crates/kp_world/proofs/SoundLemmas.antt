@@ -1,19 +1,17 @@
 -- A partition, what was handed over for it, and its log: they agree, whatever happens.
-use Rattle.std.proofs.Common.{◌≡◌, ◌⊎◌, ℕ, suc, zero, ◌+◌, ◌<◌, Bool, true, false, cond, List, [], ◌∷◌, ◌++◌, length, map, ℤ, pos, Some, None, refl, sym, ap, ◌∙◌, subst, inl, inr, ⊎_elim, arith, length-append, Contains}
+use Rattle.std.proofs.Common.{◌≡◌, ℕ, ◌+◌, ◌<◌, Bool, true, false, List, [], ◌∷◌, ◌++◌, length, map, pos, Some, None, refl, sym, ap, ◌∙◌, subst, ⊎_elim, arith, length-append}
 use Rattle.std.specs.Prelude.{Option, unwrap_or, ◌==◌}
 use Rattle.std.specs.List.{AllByRecursion, last_or}
-use Rattle.std.specs.Ordering.{int_eq}
-use Rattle.std.proofs.lemmas.Bool.{eqb-true, eq-eqb}
+use Rattle.std.proofs.lemmas.Bool.{eqb-true}
 use Rattle.std.proofs.lemmas.List.{map-append, length-map}
 use Rattle.std.proofs.lemmas.List.Concat.{flat_map-append}
-use Rattle.kp_batch.specs.declared.record.Record.{Record}
 use Rattle.kp_accum.specs.Queue.{Pending, body_of}
 use Rattle.kp_log.specs.HandedOver.{Follows, AreInSequence, CameBy}
 use Rattle.kp_log.specs.History.{Sent, History, stored_of, records_of, empty_history}
 use Rattle.kp_log.specs.Log.{count_of}
 use Rattle.kp_log.proofs.KeepingLemmas.{nothing_handed, one_more_handed, came_empty, came_of_more}
 use Rattle.kp_log.proofs.LogLemmas.{count_of-append, count_of_own, count_of_others}
-use Rattle.kp_log.proofs.PlaceLemmas.{In, In-nil, In-head, In-tail, In-cons, In-append_left, In-append_right, In-append_cases, contains_from_In}
+use Rattle.kp_log.proofs.PlaceLemmas.{In, In-nil, In-head, In-tail, In-cons, In-append_left, In-append_right, In-append_cases}
 use Rattle.kp_log.proofs.SequenceLemmas.{ids_apart}
 use Rattle.kp_core.specs.HandingOver.{opened_in, handed_over_in}
 use Rattle.kp_core.specs.MaySend.{new_batch}
