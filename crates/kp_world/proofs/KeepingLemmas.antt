@@ -15,7 +15,7 @@ use Rattle.kp_core.specs.declared.outcome.Reason.{Reason}
 use Rattle.kp_core.specs.declared.outcome.Reason.TheVariants.{Fenced, Ended}
 use Rattle.kp_core.specs.declared.verdict.Verdict.{Verdict}
 use Rattle.kp_core.specs.declared.verdict.Verdict.TheVariants.{Stored, Duplicate, Retry, Reject}
-use Rattle.kp_core.specs.Answered.{without_attempt, waiting_since, judged, answered_if, answered, verdict_of}
+use Rattle.kp_core.specs.Answered.{without_attempt, waiting_since, settled, answered_if, answered, verdict_of}
 use Rattle.kp_core.specs.Appending.{turned_away, refused, queued, with_queued, would_exhaust, appended}
 use Rattle.kp_core.specs.Attempts.{awaits, awaiting, dropped_batch, without_attempts, dropped}
 use Rattle.kp_core.specs.Fence.{fenced, given_up, end_of, ended}
@@ -128,17 +128,17 @@ keeps_without k t = record {
   queue = λ h. h;
 }
 
-keeps_judged : (now k : ℕ) (t : Partition) (o : Open) (a : PartitionProduceResponse) (v : Verdict) → Keeps t (judged now k t o a v).after
-keeps_judged now k t o a Stored = record { number = refl; sequence = refl; ids = refl; opens = (keeps_without k t).opens; queue = λ h. h }
-keeps_judged now k t o a Duplicate = record { number = refl; sequence = refl; ids = refl; opens = (keeps_without k t).opens; queue = λ h. h }
-keeps_judged now k t o a Retry = record {
+keeps_settled : (now k : ℕ) (t : Partition) (o : Open) (a : PartitionProduceResponse) (v : Verdict) → Keeps t (settled now k t o a v).after
+keeps_settled now k t o a Stored = record { number = refl; sequence = refl; ids = refl; opens = (keeps_without k t).opens; queue = λ h. h }
+keeps_settled now k t o a Duplicate = record { number = refl; sequence = refl; ids = refl; opens = (keeps_without k t).opens; queue = λ h. h }
+keeps_settled now k t o a Retry = record {
   number = refl;
   sequence = refl;
   ids = refl;
   opens = λ handed h. opens_map (waiting_since now k) (same_waiting now k) handed t.open_batches h;
   queue = λ h. h;
 }
-keeps_judged now k t o a Reject = keeps_more t (without_attempt k t) (fenced (without_attempt k t)).after (keeps_without k t) (keeps_fenced (without_attempt k t))
+keeps_settled now k t o a Reject = keeps_more t (without_attempt k t) (fenced (without_attempt k t)).after (keeps_without k t) (keeps_fenced (without_attempt k t))
 
 pub keeps_answered : (now k : ℕ) (t : Partition) (a : PartitionProduceResponse) → Keeps t (answered now k t a).after
 unfolding answered
@@ -146,7 +146,7 @@ keeps_answered now k t a = at_option (awaiting k t)
   where
     at_option : (o : Option Open) → Keeps t (answered_if now k t a o).after
     at_option None = keeps_same t
-    at_option (Some o) = keeps_judged now k t o a (verdict_of a.error_code)
+    at_option (Some o) = keeps_settled now k t o a (verdict_of a.error_code)
 
 queue_marked : (q : List Pending) → AllByRecursion HasItems q → AllByRecursion HasItems (map marked_by_flush q)
 queue_marked [] h = tt
