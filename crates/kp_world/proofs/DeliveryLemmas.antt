@@ -177,11 +177,11 @@ came_id Judged w o p may g b = (
           absurd (omega arith);
     }
 came_id (Refused code) w o p may g b = (
-  (inl ((may.0, refl), refl), refl),
+  (inl (may.0, refl), refl),
   with_reply w.core w.logs w.logs w.handed w.packets w.replies w.ids w.ids (reply o (error code)) g refl g.each (λ id i. i) g.drawn (gives_none (length w.logs) w.ids w.core (reply o (error code)) b (not_given code)),
 )
 came_id (Late code) w o p may g b = (
-  (inr (next_id w.ids, fresh_next w.ids g.drawn, refl, inl (may.0, refl)), refl),
+  (inr (next_id w.ids, fresh_next w.ids g.drawn, refl, inl may.0), refl),
   with_reply w.core w.logs w.logs w.handed w.packets w.replies w.ids (with_id w.ids) (reply o (error code)) g refl
       (λ q h. sound_drawn w.ids (next_id w.ids) (partition_at q w.core.partitions) (handed_at q w.handed) (log_at q w.logs) (g.each q h))
       (λ id i. In-append_left id w.ids (next_id w.ids ∷ []) i) (drawn_next w.ids g.drawn) (gives_none (length w.logs) (with_id w.ids) w.core (reply o (error code)) b (not_given code)),

@@ -110,8 +110,11 @@ content_given (Id code id) x e g v =
     let same : answer_of code id ≡ x = cc in
     let known : GivenId code id = given_id code id (subst (λ (y : InitProducerIdResponse). is_given y ≡ true) (sym same) g) (subst (λ (y : InitProducerIdResponse). answers_id y ≡ true) (sym same) v) in
     let number : nat_abs x.producer_id ≡ known.number = ap (λ (y : InitProducerIdResponse). nat_abs y.producer_id) (sym same) ∙ ap (λ (z : ℤ). nat_abs z) known.id_is in
-    let this : Id code id ≡ Id (pos 0) (pos known.number) = ap (λ (z : ℤ). Id z id) known.code_is ∙ ap (λ (z : ℤ). Id (pos 0) z) known.id_is in
-    this ∙ ap (λ (n : ℕ). given n) (sym number)
+    let code_is : code ≡ pos 0 = known.code_is in
+    let id_is : id ≡ pos known.number = known.id_is in
+    let this : Id code id ≡ Id (pos 0) (pos known.number) = cc in
+    let back : given known.number ≡ given (nat_abs x.producer_id) = cc in
+    this ∙ back
 
 good_taken : (w : World) (r : Reply) (s : Core) → IsGood w → In r w.replies → TakesId w.core (response_of r).correlation (response_of r).body s
     → Good s w.logs w.handed w.packets w.replies w.ids
