@@ -3,3 +3,4 @@ pub mod Scenes
 pub mod ReplyFacts
 pub mod RequestFacts
 pub mod DueFacts
+pub mod OutcomeLemmas

@@ -2,7 +2,7 @@
 use Rattle.std.proofs.Common.{◌≡◌, pos, [], ◌∷◌, ◌++◌, refl}
 use Rattle.std.specs.Prelude.{codes}
 use Rattle.kp_accum.specs.Config.{default_config}
-use Rattle.kp_world.specs.declared.event.Event.TheVariants.{Now, Tick, Send, Deliver, Reply}
+use Rattle.kp_world.specs.declared.event.Event.TheVariants.{Accept, Take, Now, Tick, Send, Deliver, Reply}
 use Rattle.kp_world.specs.declared.event.Treatment.TheVariants.{Judged, Refused}
 use Rattle.kp_world.proofs.Evaluation.{evaluated}
 use Rattle.kp_world.proofs.Schedules.{told, feed}
@@ -16,6 +16,15 @@ pub an_id_is_asked_for_at_the_limit :
     ++ codes "audit 0 0 0 2\n"
 unfolding evaluated
 an_id_is_asked_for_at_the_limit = refl
+
+-- While the last batch under the old id is open, none is asked for.
+pub an_id_waits_for_what_is_open :
+    told (record default_config { sequence_limit = 2; batch_size = 0 }) 1 1 (
+    feed 97 ++ feed 98 ++ feed 99 ++ Send ∷ Deliver 0 Judged ∷ Reply 0 ∷ Send ∷ Send ∷ [])
+    ≡ codes "sent 0 0:0+1\nanswer 0 0:0@0\nreport 0 0 0 delivered 0\nsent 1 0:1+1\nidle\n"
+    ++ codes "log 0 0 a\naudit 0 0 0 2\n"
+unfolding evaluated
+an_id_waits_for_what_is_open = refl
 
 -- Under the fresh id the sequence begins at 0. A packet of the old one comes again, and is stored
 -- no second time.
@@ -66,6 +75,20 @@ pub an_id_that_comes_too_late_is_never_used :
     ++ codes "answer 2 init 0@1001\nsent 3 init\nlog 0 0 a\nlog 0 1 b\naudit 0 0 0 2\n"
 unfolding evaluated
 an_id_that_comes_too_late_is_never_used = refl
+
+-- Where one may be in flight, the other partition waits for the id; and then it comes first, after
+-- the last one used.
+pub an_id_request_counts_as_a_request :
+    told (record default_config { max_in_flight_requests_per_connection = 1; sequence_limit = 2; batch_size = 0 }) 2 1 (
+    feed 97 ++ feed 98 ++ feed 99 ++ Send ∷ Deliver 0 Judged ∷ Reply 0 ∷ Send
+    ∷ Deliver 1 Judged ∷ Reply 1 ∷ Send ∷ Accept 0 1 (100 ∷ []) ∷ Take 0 ∷ Send
+    ∷ Deliver 2 Judged ∷ Reply 2 ∷ Send ∷ [])
+    ≡ codes "sent 0 0:0+1\nanswer 0 0:0@0\nreport 0 0 0 delivered 0\nsent 1 0:1+1\n"
+    ++ codes "answer 1 0:0@1\nreport 0 0 1 delivered 1\nsent 2 init\nidle\n"
+    ++ codes "answer 2 init 0@1001\nsent 3 1:0+1 0:0+1\nlog 0 0 a\nlog 0 1 b\n"
+    ++ codes "audit 0 0 0 3\naudit 1 0 0 1\n"
+unfolding evaluated
+an_id_request_counts_as_a_request = refl
 
 -- Each delivery draws an id of its own, and the first reply is the one that counts.
 pub a_second_id_is_stale :
