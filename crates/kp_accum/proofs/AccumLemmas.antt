@@ -4,6 +4,7 @@ use Rattle.std.specs.Prelude.{Ok, not, nat_le, sum_by, if◌then◌else◌, repl
 use Rattle.std.specs.List.{AllByRecursion}
 use Rattle.std.proofs.lemmas.List.Sums.{sum_by-set, sum_by-cons}
 use Rattle.std.proofs.lemmas.List.{length-map, take_all, drop_all, append-nil, get_or_default}
+use Rattle.kp_batch.specs.Spelling.{measured}
 use Rattle.kp_accum.specs.declared.config.Config.{Config}
 use Rattle.kp_accum.specs.declared.item.Item.{Item}
 use Rattle.kp_accum.specs.Config.{checked}
@@ -85,15 +86,7 @@ marked_in-with_item c i (b ∷ []) = at_join-marked c i b (joins c i b)
 marked_in-with_item c i (b ∷ b' ∷ bs) =
     omega (arith, marked_in-cons b (with_item c i (b' ∷ bs)), marked_in-cons b (b' ∷ bs), marked_in-with_item c i (b' ∷ bs))
 
--- no more are marked than there are
-at_most_one : (z : Bool) → (if z then 1 else 0) ≤ 1
-at_most_one true = omega arith
-at_most_one false = omega arith
-
-pub marked_in-le : (qs : List Pending) → marked_in qs ≤ length qs
-marked_in-le [] = omega arith
-marked_in-le (b ∷ bs) = omega (arith, marked_in-cons b bs, marked_in-le bs, at_most_one b.marked)
-
+-- where all are marked, they are as many as there are
 pub marked_in-all : (qs : List Pending) → marked_in (map marked_by_flush qs) ≡ length qs
 marked_in-all [] = refl
 marked_in-all (b ∷ bs) = ap suc (marked_in-all bs)
@@ -109,10 +102,6 @@ pub all_marked-as_many : (queues : List (List Pending)) → sum_by length (map (
 all_marked-as_many [] = refl
 all_marked-as_many (q ∷ qs) =
     omega (arith, length-map q marked_by_flush, all_marked-as_many qs, sum_by-cons {X = List Pending} length (map marked_by_flush q) (map (map marked_by_flush) qs), sum_by-cons {X = List Pending} length q qs)
-
-pub marked-le : (queues : List (List Pending)) → sum_by marked_in queues ≤ sum_by length queues
-marked-le [] = omega arith
-marked-le (q ∷ qs) = omega (arith, marked_in-le q, marked-le qs, sum_by-cons marked_in q qs, sum_by-cons {X = List Pending} length q qs)
 
 pub sound-new : (c : Config) (limit n : ℕ) → checked c ≡ Ok tt → limit ≡ c.buffer_memory → IsSound c (replicate n []) limit 0 0
 sound-new c limit n e l = record {
@@ -151,6 +140,11 @@ appended-is c queues used i old new after lt here is e =
     ∙ ap (λ (n : ℕ). record { config = c; queues = set queues i.partition (with_item c i (get_or queues i.partition [])); used = n }) e
 
 -- ---- memory
+
+-- a size that is told is within a small limit where the size is
+pub within-is : (n told limit : ℕ) → told ≡ measured n → limit ≤ 8388608 → nat_le told limit ≡ nat_le n limit
+unfolding measured
+within-is n told limit e small = grind (arith, nat_tests)
 
 -- In what follows a is the accumulator of these fields, and n is the charge that is told of an item that may be appended.
 

@@ -1,6 +1,6 @@
 //! All partitions' batches that wait, within the memory that there may be for them.
 
-ghost use Rattle.std.specs.Prelude.{◌≡◌, ◌≤◌, ◌<◌, ◌-◌, length, drop, replicate, [], Ok, IfSome, IfErr, IfOk, OnOk, OnErr, false, slice_get};
+ghost use Rattle.std.specs.Prelude.{◌≡◌, ◌≤◌, ◌<◌, ◌-◌, length, drop, replicate, [], Ok, IfSome, IfErr, IfOk, OnOk, OnErr, IsTrue, false, slice_get, nat_lt, nat_le, ◌&&◌};
 ghost use Rattle.std.specs.Option.{option_copied};
 ghost use Rattle.kp_accum.specs.Config.{checked};
 ghost use Rattle.kp_accum.specs.Queue.{charge_of, size_of};
@@ -57,11 +57,28 @@ impl Accum {
         })
     }
 
-    /// Puts the item last in its partition. Where it is refused it comes back, and nothing has changed.
+    /// How many partitions there are.
+    pub fn partitions(&self) -> usize
+        ensures { result ≡ length self.now.queues }
+    {
+        self.queues.len()
+    }
+
+    /// Whether the item may be appended: its partition is there, and the batch that holds it alone fits into a request.
+    pub fn may_append(&self, item: &Item) -> bool
+        ensures partition { IsTrue result → item.now.partition < length self.now.queues }
+        ensures request { IsTrue result → charge_of item.now ≤ self.now.config.max_request_size }
+        ensures exact { result ≡ (nat_lt item.now.partition (length self.now.queues) && nat_le (charge_of item.now) self.now.config.max_request_size) }
+    {
+        (item.partition as usize) < self.queues.len()
+            && item.charge() <= self.config.max_request_size
+    }
+
+    /// Puts the item last in its partition. Where it is refused it comes back, and nothing has changed. An item whose
+    /// charge is above `buffer.memory` is always refused.
     pub fn append(&mut self, item: Item) -> Result<(), (AppendFault, Item)>
         requires here { item.partition < length self.old.queues }
         requires request { charge_of item ≤ self.old.config.max_request_size }
-        requires memory { charge_of item ≤ self.old.config.buffer_memory }
         ensures ok { OnOk result (self.new ≡ appended item self.old) }
         ensures room { OnOk result (is_exhausted item self.old ≡ false) }
         ensures refused { IfErr result (λ e. e ≡ (refusal item self.old, item)) }
@@ -85,30 +102,30 @@ impl Accum {
     }
 
     /// Whether the partition's front batch is ready to be sent at the moment `now`; not where there is none.
-    pub fn front_ready(&self, p: u32, now: u64, flags: Flags) -> bool
-        requires { p < length self.now.queues }
-        ensures { result ≡ is_ready self.now.config flags now (queue self.now p) }
+    pub fn front_ready(&self, partition: u32, now: u64, flags: Flags) -> bool
+        requires { partition < length self.now.queues }
+        ensures { result ≡ is_ready self.now.config flags now (queue self.now partition) }
     {
-        self.queues[p as usize].is_ready(&self.config, flags, now)
+        self.queues[partition as usize].is_ready(&self.config, flags, now)
     }
 
     /// The partition's front batch.
-    pub fn front(&self, p: u32) -> Option<&Pending>
-        requires { p < length self.now.queues }
-        ensures value { option_copied result ≡ slice_get (queue self.now p) 0 }
+    pub fn front(&self, partition: u32) -> Option<&Pending>
+        requires { partition < length self.now.queues }
+        ensures value { option_copied result ≡ slice_get (queue self.now partition) 0 }
         ensures fits { IfSome result (λ b. size_of b.now.items ≤ self.now.config.max_request_size) }
     {
-        self.queues[p as usize].front()
+        self.queues[partition as usize].front()
     }
 
     /// Takes the partition's front batch away. What its items take of the memory stays taken.
-    pub fn take_front(&mut self, p: u32) -> Option<Pending>
-        requires { p < length self.old.queues }
-        ensures front { result ≡ slice_get (queue self.old p) 0 }
-        ensures rest { self.new ≡ with_queue p (drop 1 (queue self.old p)) self.old }
+    pub fn take_front(&mut self, partition: u32) -> Option<Pending>
+        requires { partition < length self.old.queues }
+        ensures front { result ≡ slice_get (queue self.old partition) 0 }
+        ensures rest { self.new ≡ with_queue partition (drop 1 (queue self.old partition)) self.old }
         ensures fits { IfSome result (λ b. size_of b.items ≤ self.old.config.max_request_size) }
     {
-        let front = self.queues[p as usize].take_front()?;
+        let front = self.queues[partition as usize].take_front()?;
         self.batches -= 1;
         self.marked -= front.is_marked() as usize;
         Some(front)
@@ -116,14 +133,17 @@ impl Accum {
 
     /// As `take_front`, where the front batch's delivery timeout is over at the moment `now`.
     #[tactic(auto, unfolding(crate::specs::Ready::expired, crate::specs::Ready::unexpired))]
-    pub fn expire(&mut self, p: u32, now: u64) -> Option<Pending>
-        requires { p < length self.old.queues }
-        ensures front { result ≡ expired self.old.config now (queue self.old p) }
-        ensures rest { self.new ≡ with_queue p (unexpired self.old.config now (queue self.old p)) self.old }
+    pub fn expire(&mut self, partition: u32, now: u64) -> Option<Pending>
+        requires { partition < length self.old.queues }
+        ensures front { result ≡ expired self.old.config now (queue self.old partition) }
+        ensures rest { self.new ≡ with_queue partition (unexpired self.old.config now (queue self.old partition)) self.old }
         ensures fits { IfSome result (λ b. size_of b.items ≤ self.old.config.max_request_size) }
     {
-        if self.queues[p as usize].front()?.is_late(&self.config, now) {
-            self.take_front(p)
+        if self.queues[partition as usize]
+            .front()?
+            .is_late(&self.config, now)
+        {
+            self.take_front(partition)
         } else {
             None
         }

@@ -39,6 +39,7 @@ impl Item {
     pub fn charge(&self) -> u64
         ensures value { result ≡ measured (charge_of self.now) }
         ensures exact { charge_of self.now ≤ SIZE_LIMIT → result ≡ charge_of self.now }
+        ensures told { result ≤ SIZE_LIMIT → result ≡ charge_of self.now }
     {
         charge(&self.body)
     }
