@@ -81,7 +81,11 @@ pub(crate) fn queues(
     accum.mark();
     let mut sum = 0u64;
     for partition in 0..partitions {
-        while let Some(batch) = next_out(&mut accum, partition, way) {
+        // a batch has an item at least, so there are at most so many
+        for _ in 0..times {
+            let Some(batch) = next_out(&mut accum, partition, way) else {
+                break;
+            };
             sum = sum.wrapping_add(batch.size());
             release(&mut accum, &batch);
         }
