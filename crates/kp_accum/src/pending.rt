@@ -81,16 +81,22 @@ impl Pending {
         items
     }
 
-    /// A batch that this item begins.
-    pub(crate) fn begun_by(alloc: Global, item: Item) -> Result<Pending, AllocFailed<Item>>
+    /// A batch that this item begins, with room for so many items, and for this one at least.
+    pub(crate) fn begun_by(
+        alloc: Global,
+        room: usize,
+        item: Item,
+    ) -> Result<Pending, AllocFailed<Item>>
         requires { charge_of item ≤ SIZE_LIMIT }
         ensures ok { IfOk result (λ b. b ≡ begun_by item) }
         ensures back { IfErr result (λ failed. failed.value ≡ item) }
     {
+        let Ok(mut items) = Vec::with_capacity(alloc, room.max(1)) else {
+            return Err(AllocFailed { value: item });
+        };
         let begun = item.at;
         let size = item.charge();
-        let mut items = Vec::new(alloc);
-        items.push(item)?;
+        items.push_reserved(item);
         Ok(Pending {
             begun,
             items,

@@ -22,7 +22,11 @@ use std::marker::Model;
 pub struct Queue {
     alloc: Global,
     batches: VecDeque<Pending>,
+    /// How many batches are marked: those at the front.
     marked: usize,
+    /// How many items the batch had that was closed last. The next one begins with room for as many: under load a
+    /// batch is mostly as long as the one before it.
+    room: usize,
 }
 
 impl Model for Queue {
@@ -58,6 +62,7 @@ impl Queue {
             alloc,
             batches: VecDeque::new(alloc),
             marked: 0,
+            room: 0,
         }
     }
 
@@ -80,10 +85,14 @@ impl Queue {
             let last = self.batches.len() - 1;
             return self.batches[last].join(size, item);
         }
+        let room = self
+            .batches
+            .back()
+            .map_or(self.room, |last| last.items().len());
         if self.batches.reserve(1).is_err() {
             return Err(AllocFailed { value: item });
         }
-        let batch = Pending::begun_by(self.alloc, item)?;
+        let batch = Pending::begun_by(self.alloc, room, item)?;
         self.batches.push_back_reserved(batch);
         Ok(())
     }
@@ -117,6 +126,7 @@ impl Queue {
         ensures rest { self.new ≡ drop 1 self.old }
     {
         let front = self.batches.pop_front()?;
+        self.room = front.items().len();
         if front.is_marked() {
             self.marked -= 1;
         }

@@ -1,3 +1,11 @@
 pub mod LogLemmas
 pub mod RuleLemmas
 pub mod JudgeLemmas
+pub mod HistoryFacts
+pub mod PlaceLemmas
+pub mod SequenceLemmas
+pub mod OffsetLemmas
+pub mod RulingLemmas
+pub mod LoopbackLemmas
+pub mod KeepingLemmas
+pub mod TieLemmas

@@ -96,7 +96,7 @@ outcome log b = outcome_at log b _ _ refl refl
 -- ---- a batch that comes again
 
 -- the last of some batches end with the one that was put behind them
-last_kept_push : (spans : List Span) (s : Span)
+pub last_kept_push : (spans : List Span) (s : Span)
     → last_kept (spans ++ s ∷ []) ≡ drop (length spans + 1 - 5) spans ++ s ∷ []
 last_kept_push spans s =
     let within : length spans + 1 - 5 ≤ length spans = omega arith in

@@ -4,7 +4,7 @@
 //! read, `request N` writes a Produce request with 16 KiB for each of four partitions, `response N` reads a response
 //! for four partitions, `byte N` cuts a stream of a hundred frames of 100 bytes that comes byte by byte, `whole N` cuts
 //! it where it comes whole, and `waiting N` takes N frames that wait, between each two of which a byte comes. `make N`
-//! makes N items of 100 bytes, and `queue N` appends as many to a partition, marks them, takes them out with their
+//! makes and keeps N items of 100 bytes, and `queue N` appends as many to a partition, marks them, takes them out with their
 //! batches and releases their memory; `expire N` has them expire. `queues N` and `expires N` do so for 64 partitions.
 #![tactic(auto)]
 
