@@ -1,10 +1,11 @@
 -- Sizes of batches that wait, and where an item goes.
-use Rattle.std.proofs.Common.{◌≡◌, ◌∙◌, ℕ, zero, suc, ◌-◌, ◌<◌, ◌≤◌, true, false, List, [], ◌∷◌, ◌++◌, length, map, get_or, set, refl, sym, ap, arith}
+use Rattle.std.proofs.Common.{◌≡◌, ◌∙◌, ℕ, zero, suc, ◌+◌, ◌-◌, ◌^◌, ◌<◌, ◌≤◌, true, false, List, [], ◌∷◌, ◌++◌, length, map, get_or, set, refl, sym, ap, arith}
 use Rattle.std.specs.Prelude.{Ok, if◌then◌else◌}
-use Rattle.std.proofs.lemmas.List.{length-append, map-append}
+use Rattle.std.proofs.lemmas.List.{length-append, length-map, map-append}
+use Rattle.std.proofs.lemmas.List.Sums.{sum_by-cons, sum_by-append}
 use Rattle.std.proofs.lemmas.Bool.Decides.{nat_tests}
-use Rattle.kp_batch.specs.Spelling.{measured, size_of_batch}
-use Rattle.kp_batch.proofs.SizeLemmas.{small_measured}
+use Rattle.kp_batch.specs.Spelling.{measured, size_of_batch, base_timestamp}
+use Rattle.kp_batch.proofs.SizeLemmas.{small_measured, size_of_batch-is, many_records}
 use Rattle.kp_accum.specs.declared.config.Config.{Config}
 use Rattle.kp_accum.specs.declared.item.Item.{Item}
 use Rattle.kp_accum.specs.Config.{checked, is_outside}
@@ -36,6 +37,34 @@ pub charge_of-is : (i : Item) → charge_of i ≡ size_of_batch (i.body ∷ [])
 unfolding size_of
 charge_of-is i = refl
 
+-- each item has a byte at least
+pub length-small : (items : List Item) → length items ≤ size_of items
+length-small items =
+    let records = map body_of items in
+    omega (arith, size_of-is items, size_of_batch-is records, many_records (base_timestamp records) 0 records, length-map items body_of)
+
+pub measured_one : (i : Item) (charge : ℕ) → charge ≡ charge_of i → charge ≤ 2147483647 → IsMeasured charge charge (i ∷ [])
+measured_one i charge e fits = record {
+  some = omega arith;
+  size_is = e;
+  fits = fits;
+  charge_is = omega (arith, e, sum_by-cons charge_of i []);
+  charge_fits = omega arith;
+}
+
+pub measured_more : (items : List Item) (i : Item) (before size charge sum : ℕ) → IsMeasured before sum items → size ≡ size_of (items ++ i ∷ []) → size ≤ 2147483647 → charge ≡ charge_of i → charge ≤ 2147483647 → IsMeasured size (sum + charge) (items ++ i ∷ [])
+measured_more items i before size charge sum m e fits one small = record {
+  some = omega (arith, length-append items (i ∷ []));
+  size_is = e;
+  fits = fits;
+  charge_is = omega (arith, m.charge_is, one, sum_by-append charge_of items (i ∷ []), sum_by-cons charge_of i []);
+  charge_fits = omega (arith, m.charge_fits, length-append items (i ∷ []));
+}
+
+-- a sum of charges does not wrap
+pub charge_small : (items : List Item) (size sum charge : ℕ) → IsMeasured size sum items → charge ≤ 2147483647 → sum + charge < 2 ^ 64
+charge_small items size sum charge m small = omega (arith, m.charge_fits, m.fits, m.size_is, length-small items)
+
 -- ---- joining
 
 -- Here n is the size that is told with the item.
@@ -47,12 +76,8 @@ joins_within c i b n a e few le =
     let size = size_of-last b.items i in
     grind (arith, nat_tests)
 
-pub measured_within : (c : Config) (i : Item) (b : Pending) (n : ℕ) → IsAllowed c → n ≡ measured (size_of_batch (map body_of b.items ++ i.body ∷ [])) → n ≤ c.batch_size → IsMeasured n (b.items ++ i ∷ [])
-measured_within c i b n a e le = record {
-  some = omega (arith, length-append b.items (i ∷ []));
-  size_is = small_measured n (size_of_batch (map body_of b.items ++ i.body ∷ [])) e (omega (arith, a.batch, le)) ∙ sym (size_of-last b.items i);
-  fits = omega (arith, a.batch, le);
-}
+pub size_within : (c : Config) (i : Item) (b : Pending) (n : ℕ) → IsAllowed c → n ≡ measured (size_of_batch (map body_of b.items ++ i.body ∷ [])) → n ≤ c.batch_size → n ≡ size_of (b.items ++ i ∷ [])
+size_within c i b n a e le = small_measured n (size_of_batch (map body_of b.items ++ i.body ∷ [])) e (omega (arith, a.batch, le)) ∙ sym (size_of-last b.items i)
 
 pub joins_not_above : (c : Config) (i : Item) (b : Pending) (n : ℕ) → IsAllowed c → n ≡ measured (size_of_batch (map body_of b.items ++ i.body ∷ [])) → c.batch_size < n → joins c i b ≡ false
 unfolding joins measured

@@ -93,7 +93,7 @@ impl Accum {
         }
         let queue = &mut self.queues[item.partition as usize];
         let batches = queue.len();
-        if let Err(refused) = queue.append(&self.config, item) {
+        if let Err(refused) = queue.append(&self.config, charge, item) {
             return Err((AppendFault::OutOfMemory, refused.value));
         }
         self.batches += queue.len() - batches;

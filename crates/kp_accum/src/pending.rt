@@ -1,6 +1,6 @@
 //! A batch that waits to be sent.
 
-ghost use Rattle.std.specs.Prelude.{◌≡◌, ◌≤◌, ◌<◌, ◌++◌, ◌∷◌, [], length, Ok, IfSome, IfErr, IfOk, OnOk, OnErr, is_some};
+ghost use Rattle.std.specs.Prelude.{◌≡◌, ◌≤◌, ◌<◌, ◌++◌, ◌∷◌, [], length, Ok, IfSome, IfErr, IfOk, OnOk, OnErr, is_some, sum_by};
 ghost use Rattle.kp_accum.specs.Config.{checked};
 ghost use Rattle.kp_accum.specs.Queue.{size_of, charge_of, joins, joined_by, begun_by, marked_by_flush};
 ghost use Rattle.kp_accum.specs.Ready.{is_over, is_full, is_late};
@@ -18,6 +18,7 @@ pub struct Pending {
     begun: u64,
     items: Vec<Item>,
     size: u64,
+    charge: u64,
     marked: bool,
 }
 
@@ -29,7 +30,7 @@ impl Model for Pending {
 
     ghost view = { λ b. record { begun = b.begun; items = b.items.items; marked = b.marked } };
 
-    ghost invariant = { λ b. IsMeasured b.size b.items.items };
+    ghost invariant = { λ b. IsMeasured b.size b.charge b.items.items };
 }
 
 /// Whether so long has passed since then. The sum does not wrap.
@@ -65,6 +66,13 @@ impl Pending {
         self.size
     }
 
+    /// The memory that its items take: the sum of their charges.
+    pub fn charge(&self) -> u64
+        ensures { result ≡ sum_by charge_of self.now.items }
+    {
+        self.charge
+    }
+
     /// Whether a flush waits for it.
     pub fn is_marked(&self) -> bool
         ensures { result ≡ self.now.marked }
@@ -81,13 +89,15 @@ impl Pending {
         items
     }
 
-    /// A batch that this item begins, with room for so many items, and for this one at least.
+    /// A batch that this item begins, which has this charge, with room for so many items and for this one at least.
     pub(crate) fn begun_by(
         alloc: Global,
         room: usize,
+        charge: u64,
         item: Item,
     ) -> Result<Pending, AllocFailed<Item>>
-        requires { charge_of item ≤ SIZE_LIMIT }
+        requires is_its { charge ≡ charge_of item }
+        requires fits { charge ≤ SIZE_LIMIT }
         ensures ok { IfOk result (λ b. b ≡ begun_by item) }
         ensures back { IfErr result (λ failed. failed.value ≡ item) }
     {
@@ -95,12 +105,12 @@ impl Pending {
             return Err(AllocFailed { value: item });
         };
         let begun = item.at;
-        let size = item.charge();
         items.push_reserved(item);
         Ok(Pending {
             begun,
             items,
-            size,
+            size: charge,
+            charge,
             marked: false,
         })
     }
@@ -109,7 +119,7 @@ impl Pending {
     pub(crate) fn size_with(&self, config: &Config, item: &Item) -> Option<u64>
         requires { checked config.now ≡ Ok tt }
         ensures joins { is_some result ≡ joins config.now item.now self.now }
-        ensures size { IfSome result (λ size. IsMeasured size (self.now.items ++ item.now ∷ [])) }
+        ensures size { IfSome result (λ size. (size ≡ size_of (self.now.items ++ item.now ∷ [])) × (size ≤ SIZE_LIMIT)) }
     {
         if self.items.len() as u64 >= config.sequence_limit {
             return None;
@@ -122,9 +132,17 @@ impl Pending {
         }
     }
 
-    /// Puts the item last, where the size with it is this.
-    pub(crate) fn join(&mut self, size: u64, item: Item) -> Result<(), AllocFailed<Item>>
-        requires { IsMeasured size (self.old.items ++ item ∷ []) }
+    /// Puts the item last, where the size with it is this, and it has this charge.
+    pub(crate) fn join(
+        &mut self,
+        size: u64,
+        charge: u64,
+        item: Item,
+    ) -> Result<(), AllocFailed<Item>>
+        requires size_is { size ≡ size_of (self.old.items ++ item ∷ []) }
+        requires size_fits { size ≤ SIZE_LIMIT }
+        requires charge_is { charge ≡ charge_of item }
+        requires charge_fits { charge ≤ SIZE_LIMIT }
         ensures ok { OnOk result (self.new ≡ joined_by item self.old) }
         ensures err { OnErr result (self.new ≡ self.old) }
         ensures back { IfErr result (λ failed. failed.value ≡ item) }
@@ -132,6 +150,7 @@ impl Pending {
     {
         self.items.push(item)?;
         self.size = size;
+        self.charge += charge;
         Ok(())
     }
 

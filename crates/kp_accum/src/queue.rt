@@ -4,9 +4,8 @@ ghost use Rattle.std.specs.Prelude.{◌≡◌, ◌≤◌, ◌<◌, ◌-◌, ◌+
 ghost use Rattle.std.specs.Option.{option_copied};
 ghost use Rattle.kp_accum.specs.Config.{checked};
 ghost use Rattle.kp_accum.specs.Queue as seen;
-ghost use Rattle.kp_accum.specs.Queue.{charge_of, joins, with_item, marked_by_flush, marked_in};
+ghost use Rattle.kp_accum.specs.Queue.{charge_of, size_of, joins, with_item, marked_by_flush, marked_in};
 ghost use Rattle.kp_accum.specs.Ready.{is_ready, expired, unexpired};
-ghost use Rattle.kp_accum.specs.Measured.{IsMeasured};
 
 use crate::config::Config;
 use crate::flags::Flags;
@@ -48,7 +47,8 @@ fn last_size_with(batches: &VecDeque<Pending>, config: &Config, item: &Item) -> 
     ensures joins { (d : seen.Pending) → 0 < length batches.now.items
         → is_some result ≡ joins config.now item.now (slice_index_or batches.now.items (length batches.now.items - 1) d) }
     ensures size { (d : seen.Pending) → IfSome result (λ size.
-        IsMeasured size ((slice_index_or batches.now.items (length batches.now.items - 1) d).items ++ item.now ∷ [])) }
+        size ≡ size_of ((slice_index_or batches.now.items (length batches.now.items - 1) d).items ++ item.now ∷ [])) }
+    ensures fits { IfSome result (λ size. size ≤ SIZE_LIMIT) }
 {
     batches.back()?.size_with(config, item)
 }
@@ -73,17 +73,24 @@ impl Queue {
         self.batches.len()
     }
 
-    /// Puts the item last: into the last batch, or into a new one. Where memory is refused, the item comes back.
-    pub fn append(&mut self, config: &Config, item: Item) -> Result<(), AllocFailed<Item>>
+    /// Puts the item, which has this charge, last: into the last batch, or into a new one. Where memory is refused, the
+    /// item comes back.
+    pub fn append(
+        &mut self,
+        config: &Config,
+        charge: u64,
+        item: Item,
+    ) -> Result<(), AllocFailed<Item>>
         requires allowed { checked config.now ≡ Ok tt }
-        requires fits { charge_of item ≤ SIZE_LIMIT }
+        requires is_its { charge ≡ charge_of item }
+        requires fits { charge ≤ SIZE_LIMIT }
         ensures ok { OnOk result (self.new ≡ with_item config.now item self.old) }
         ensures err { OnErr result (self.new ≡ self.old) }
         ensures back { IfErr result (λ failed. failed.value ≡ item) }
     {
         if let Some(size) = last_size_with(&self.batches, config, &item) {
             let last = self.batches.len() - 1;
-            return self.batches[last].join(size, item);
+            return self.batches[last].join(size, charge, item);
         }
         let room = self
             .batches
@@ -92,7 +99,7 @@ impl Queue {
         if self.batches.reserve(1).is_err() {
             return Err(AllocFailed { value: item });
         }
-        let batch = Pending::begun_by(self.alloc, room, item)?;
+        let batch = Pending::begun_by(self.alloc, room, charge, item)?;
         self.batches.push_back_reserved(batch);
         Ok(())
     }

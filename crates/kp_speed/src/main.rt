@@ -4,8 +4,9 @@
 //! read, `request N` writes a Produce request with 16 KiB for each of four partitions, `response N` reads a response
 //! for four partitions, `byte N` cuts a stream of a hundred frames of 100 bytes that comes byte by byte, `whole N` cuts
 //! it where it comes whole, and `waiting N` takes N frames that wait, between each two of which a byte comes. `make N`
-//! makes and keeps N items of 100 bytes, and `queue N` appends as many to a partition, marks them, takes them out with their
-//! batches and releases their memory; `expire N` has them expire. `queues N` and `expires N` do so for 64 partitions.
+//! makes and keeps N items of 100 bytes, and `queue N` appends as many to a partition, marks them, takes them out with
+//! their batches and releases their memory; `expire N` has them expire. `makes N`, `queues N` and `expires N` do so in 64
+//! lists and partitions.
 #![tactic(auto)]
 
 mod messages;
@@ -36,7 +37,8 @@ fn answer(alloc: Global, line: &str) -> Result<Option<u64>, AllocError> {
         "byte" => cuts_bytes(alloc, times).map(Some),
         "whole" => cuts_whole(alloc, times).map(Some),
         "waiting" => takes_waiting(alloc, times).map(Some),
-        "make" => makes(alloc, times).map(Some),
+        "make" => makes(alloc, 1, times).map(Some),
+        "makes" => makes(alloc, 64, times).map(Some),
         "queue" => queues(alloc, 1, times, Way::Taken).map(Some),
         "queues" => queues(alloc, 64, times, Way::Taken).map(Some),
         "expire" => queues(alloc, 1, times, Way::Expired).map(Some),

@@ -52,16 +52,23 @@ fn item_of(alloc: Global, partitions: u32, number: u32) -> Result<Item, AllocErr
     })
 }
 
-/// So many items made, each looked at as it is before an append, kept in a list with room for them, and dropped. It is
-/// what the same items cost without an accumulator.
-pub(crate) fn makes(alloc: Global, times: u32) -> Result<u64, AllocError> {
-    let accum = accum_of(alloc, 1)?;
-    let mut items = Vec::with_capacity(alloc, times as usize)?;
+/// So many items made, each looked at as it is before an append, kept in turn in so many lists with room for them, and
+/// dropped list by list. It is what the same items cost without an accumulator.
+pub(crate) fn makes(alloc: Global, partitions: u32, times: u32) -> Result<u64, AllocError> {
+    let accum = accum_of(alloc, partitions)?;
+    let each = times.checked_div(partitions).ok_or(AllocError)?;
+    let mut lists = Vec::with_capacity(alloc, partitions as usize)?;
+    for _ in 0..partitions {
+        lists.push(Vec::with_capacity(alloc, each as usize + 1)?)?;
+    }
     let mut sum = 0u64;
     for number in 0..times {
-        let item = item_of(alloc, 1, number)?;
+        let item = item_of(alloc, partitions, number)?;
         sum = sum.wrapping_add(u64::from(accum.may_append(&item)));
-        items.push(item)?;
+        lists
+            .get_mut(item.partition as usize)
+            .ok_or(AllocError)?
+            .push(item)?;
     }
     Ok(sum)
 }
@@ -110,10 +117,7 @@ fn next_out(accum: &mut Accum, partition: u32, way: Way) -> Option<Pending> {
 }
 
 fn release(accum: &mut Accum, batch: &Pending) {
-    for item in batch.items() {
-        let charge = item.charge();
-        if charge <= accum.used() {
-            accum.release(charge);
-        }
+    if batch.charge() <= accum.used() {
+        accum.release(batch.charge());
     }
 }

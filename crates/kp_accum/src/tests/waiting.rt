@@ -107,6 +107,7 @@ fn batches_of_77_bytes_linger_for_5_ms(rt: HostRuntime) -> Result<(), Fail> {
     let full = take(&mut accum).ok_or("a front batch")?;
     assert!(rt; has(&full, &[0, 1]));
     assert_eq!(rt; full.size(), 77);
+    assert_eq!(rt; full.charge(), 138);
     assert!(rt; !is_ready(&accum, 4, NONE));
     assert!(rt; is_ready(&accum, 5, NONE));
     assert!(rt; is_ready(&accum, 0, PRESSED));
@@ -263,9 +264,10 @@ fn a_queue_alone_does_as_one_in_an_accumulator(rt: HostRuntime) -> Result<(), Fa
     assert!(rt; queue.front().is_none());
     for (number, value) in b"abc".iter().enumerate() {
         let next = item(rt.alloc(), number as u64, *value, 0)?;
-        if config.check() == Ok(()) && next.charge() <= 100 {
+        let charge = next.charge();
+        if config.check() == Ok(()) && charge <= 100 {
             queue
-                .append(&config, next)
+                .append(&config, charge, next)
                 .map_err(|_| Fail::new("no memory"))?;
         }
     }

@@ -24,8 +24,13 @@ returns-then-self-clause-refused c =
     let told = exhausted-is a item _ _ _ _ _ _ _ _ c.self.view_is c.self.invariant one c.has_room.ensures in
     ap (λ (fault : AppendFault). (fault, item)) (sym (refusal-memory item a (told ∙ ap not c.if-not-has_room.false)))
 
+pub append-requires-clause-is_its : goal.append-requires-clause-is_its
+append-requires-clause-is_its c = c.charge-charge.ensures.exact (charge-small c.args.self.now c.args.item _ _ _ _ _ _ c.self.view_is c.self.invariant c.requires.request)
+
 pub append-requires-clause-fits : goal.append-requires-clause-fits
-append-requires-clause-fits c = charge-small c.args.self.now c.args.item _ _ _ _ _ _ c.self.view_is c.self.invariant c.requires.request
+append-requires-clause-fits c =
+    let small = charge-small c.args.self.now c.args.item _ _ _ _ _ _ c.self.view_is c.self.invariant c.requires.request in
+    omega (arith, small, c.charge-charge.ensures.exact small)
 
 pub returns-in-Err-clause-refused : goal.returns-in-Err-clause-refused
 returns-in-Err-clause-refused c =

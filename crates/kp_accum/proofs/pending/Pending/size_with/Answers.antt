@@ -1,5 +1,5 @@
 use Rattle.std.proofs.Common.{◌≡◌, ◌∙◌, length, sym, arith, rules}
-use Rattle.kp_accum.proofs.QueueLemmas.{allowed, size_of-is, joins_within, measured_within, joins_not_above, joins_not_many}
+use Rattle.kp_accum.proofs.QueueLemmas.{allowed, size_of-is, joins_within, size_within, joins_not_above, joins_not_many}
 use Rattle.kp_accum.proofs.pending.Pending.size_with.Goals as goal
 
 pub returns-then-len-config-clause-joins : goal.returns-then-len-config-clause-joins
@@ -21,7 +21,7 @@ pub returns-then-size-config-clause-size : goal.returns-then-size-config-clause-
 returns-then-size-config-clause-size c =
     let same : c.as_slice.result.now ≡ c.args.self.now.items = search rules in
     let told = rw same at c.size_with-size.ensures in
-    measured_within c.args.config.now c.args.item.now c.args.self.now c.size_with-size.result (allowed c.args.config.now c.requires) told c.if-size-config.true
+    (size_within c.args.config.now c.args.item.now c.args.self.now c.size_with-size.result (allowed c.args.config.now c.requires) told c.if-size-config.true, omega (arith, (allowed c.args.config.now c.requires).batch, c.if-size-config.true))
 
 pub returns-else-size-config-clause-joins : goal.returns-else-size-config-clause-joins
 returns-else-size-config-clause-joins c =
