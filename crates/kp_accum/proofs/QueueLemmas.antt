@@ -1,8 +1,8 @@
 -- Sizes of batches that wait, and where an item goes.
 use Rattle.std.proofs.Common.{◌≡◌, ◌∙◌, ℕ, zero, suc, ◌+◌, ◌-◌, ◌^◌, ◌<◌, ◌≤◌, true, false, List, [], ◌∷◌, ◌++◌, length, map, get_or, set, refl, sym, ap, arith}
 use Rattle.std.specs.Prelude.{Ok, if◌then◌else◌}
-use Rattle.std.proofs.lemmas.List.{length-append, length-map, map-append}
-use Rattle.std.proofs.lemmas.List.Sums.{sum_by-cons, sum_by-append}
+use Rattle.std.proofs.lemmas.List.{length-map, map-append}
+use Rattle.std.proofs.lemmas.List.Sums.{sum_by-cons}
 use Rattle.std.proofs.lemmas.Bool.Decides.{nat_tests}
 use Rattle.kp_batch.specs.Spelling.{measured, size_of_batch, base_timestamp}
 use Rattle.kp_batch.proofs.SizeLemmas.{small_measured, size_of_batch-is, many_records}
@@ -50,15 +50,6 @@ measured_one i charge e fits = record {
   fits = fits;
   charge_is = omega (arith, e, sum_by-cons charge_of i []);
   charge_fits = omega arith;
-}
-
-pub measured_more : (items : List Item) (i : Item) (before size charge sum : ℕ) → IsMeasured before sum items → size ≡ size_of (items ++ i ∷ []) → size ≤ 2147483647 → charge ≡ charge_of i → charge ≤ 2147483647 → IsMeasured size (sum + charge) (items ++ i ∷ [])
-measured_more items i before size charge sum m e fits one small = record {
-  some = omega (arith, length-append items (i ∷ []));
-  size_is = e;
-  fits = fits;
-  charge_is = omega (arith, m.charge_is, one, sum_by-append charge_of items (i ∷ []), sum_by-cons charge_of i []);
-  charge_fits = omega (arith, m.charge_fits, length-append items (i ∷ []));
 }
 
 -- a sum of charges does not wrap
