@@ -3,5 +3,4 @@ pub mod Faults
 pub mod Lines
 pub mod Offered
 pub mod Packed
-pub mod Printed
 pub mod Report

@@ -3,7 +3,7 @@ use Rattle.std.specs.Prelude.{ℕ, suc, List, [], ◌∷◌, ◌++◌, length, m
 use Rattle.std.specs.Fmt.{signed_decimal}
 use Rattle.kp_batch.specs.declared.record.Record.{Record}
 use Rattle.kp_batch.specs.Spelling.{size_of_batch}
-use Rattle.kp_cli.specs.Printed.{printed}
+use Rattle.kp_wire.specs.Printed.{printed}
 
 -- a value's record, at the moment 0
 abbrev pub record_of : List ℕ → Record

@@ -3,7 +3,7 @@
 ghost use Rattle.std.specs.Prelude.{◌≡◌, ◌<◌, ◌≤◌, ◌/◌, ◌++◌, IfOk, OnOk, length, take, slice_index, false};
 ghost use Rattle.std.specs.Fmt.{digit_glyph};
 ghost use Rattle.kp_cli.specs.Packed.{answer_line, batch_line, log_line};
-ghost use Rattle.kp_cli.specs.Printed.{escaped, is_plain, printed};
+ghost use Rattle.kp_wire.specs.Printed.{escaped, is_plain, printed};
 
 use itoa::{Buffer, Integer};
 use std::alloc::AllocError;

@@ -7,3 +7,4 @@ pub mod Register
 pub mod Hash
 pub mod Fields
 pub mod Sizes
+pub mod Printed

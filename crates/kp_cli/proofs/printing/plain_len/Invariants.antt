@@ -1,5 +1,5 @@
 use Rattle.std.proofs.Common.{◌≡◌, take}
-use Rattle.kp_cli.specs.Printed.{printed}
+use Rattle.kp_wire.specs.Printed.{printed}
 use Rattle.kp_cli.proofs.printing.plain_len.Given as goal
 
 abbrev pub invariant-loop-i : goal.invariant-loop-i

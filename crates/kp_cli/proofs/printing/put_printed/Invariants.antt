@@ -1,5 +1,5 @@
 use Rattle.std.proofs.Common.{◌≡◌, ◌++◌, length}
-use Rattle.kp_cli.specs.Printed.{printed}
+use Rattle.kp_wire.specs.Printed.{printed}
 use Rattle.kp_cli.proofs.printing.put_printed.Given as goal
 
 abbrev pub invariant-loop-rest : goal.invariant-loop-rest

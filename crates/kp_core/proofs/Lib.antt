@@ -1,0 +1,5 @@
+pub mod Evaluation
+pub mod Scenes
+pub mod ReplyFacts
+pub mod RequestFacts
+pub mod DueFacts

@@ -1,0 +1,64 @@
+-- A packet at the broker: what any honest one may do with it.
+use Rattle.std.specs.Prelude.{◌≡◌, ◌⊎◌, ℕ, pos, negsuc, List, [], ◌∷◌, ◌++◌, slice_index_or, slice_set}
+use Rattle.std.specs.List.{AllByRecursion}
+use Rattle.kp_log.specs.BrokerStep.{BrokerStep}
+use Rattle.kp_log.specs.History.{History, empty_history}
+use Rattle.kp_core.specs.Next.{Sending, Demand, Produce, InitProducerId}
+use Rattle.kp_world.specs.Message.{sent_of}
+use Rattle.kp_world.specs.World.{PartAnswer, ReplyContent, Batches, Id, World}
+
+abbrev pub log_at : ℕ → List History → History
+log_at p logs = slice_index_or logs p empty_history
+
+-- The logs and the ids drawn once a packet came, and what was answered.
+pub record Delivery : Type 0 where
+  pub logs : List History
+  pub ids : List ℕ
+  pub content : ReplyContent
+
+-- ---- batches
+
+-- One part of a packet comes: its partition's log makes a broker's step.
+pub record PartDelivers (before : List History) (x : Sending) (a : PartAnswer)
+    (after : List History) : Type 0 where
+  pub partition : a.partition ≡ x.partition
+  pub log : History
+  pub step : BrokerStep (log_at x.partition before) (sent_of x.batch) a.answer log
+  pub after_is : after ≡ slice_set before x.partition log
+
+-- each part, in the packet's order
+unfoldable pub PartsDeliver : List History → List Sending → List PartAnswer → List History → Type 0
+PartsDeliver before [] [] after = after ≡ before
+PartsDeliver before (x ∷ xs) (a ∷ answers) after =
+    (middle : List History) × PartDelivers before x a middle × PartsDeliver middle xs answers after
+PartsDeliver before [] (a ∷ answers) after = ⊥
+PartsDeliver before (x ∷ xs) [] after = ⊥
+
+-- ---- ids
+
+-- the id was never drawn before
+abbrev pub IsFresh : List ℕ → ℕ → Type 0
+IsFresh ids id = AllByRecursion (λ drawn. drawn ≡ id → ⊥) ids
+
+-- No id was drawn and an error is answered, or a fresh one was drawn and it or an error is
+-- answered.
+abbrev pub IsError : ReplyContent → Type 0
+IsError (Id code id) = (code ≡ pos 0 → ⊥) × (id ≡ negsuc 0)
+IsError (Batches parts) = ⊥
+
+abbrev pub given : ℕ → ReplyContent
+given id = Id (pos 0) (pos id)
+
+abbrev pub IdDelivers : List ℕ → ReplyContent → List ℕ → Type 0
+IdDelivers before content after =
+    (IsError content × (after ≡ before))
+    ⊎ ((id : ℕ) × IsFresh before id × (after ≡ before ++ id ∷ [])
+    × (IsError content ⊎ (content ≡ given id)))
+
+-- ---- a packet
+
+unfoldable pub Delivers : World → Demand → Delivery → Type 0
+Delivers w (Produce xs) d =
+    (answers : List PartAnswer) × PartsDeliver w.logs xs answers d.logs
+    × (d.content ≡ Batches answers) × (d.ids ≡ w.ids)
+Delivers w (InitProducerId p) d = IdDelivers w.ids d.content d.ids × (d.logs ≡ w.logs)

@@ -1,0 +1,12 @@
+pub mod Line
+pub mod World
+pub mod Message
+pub mod Noting
+pub mod Accepting
+pub mod Client
+pub mod Delivering
+pub mod Loopback
+pub mod Run
+pub mod Replay
+pub mod Lines
+pub mod Text

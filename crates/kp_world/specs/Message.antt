@@ -1,0 +1,45 @@
+-- Replies as messages, and packets as a broker sees them.
+use Rattle.std.specs.Prelude.{ℤ, pos, negsuc, [], ◌∷◌, map, if◌then◌else◌}
+use Rattle.std.specs.Ordering.{int_eq}
+use Rattle.kp_accum.specs.Queue.{body_of}
+use Rattle.kp_frames.specs.declared.produce.PartitionProduceResponse.{PartitionProduceResponse}
+use Rattle.kp_frames.specs.declared.response.Response.{Response}
+use Rattle.kp_frames.specs.declared.response.ResponseBody.{ResponseBody}
+use Rattle.kp_frames.specs.declared.response.ResponseBody.TheVariants.{Produce, InitProducerId}
+use Rattle.kp_log.specs.History.{Sent}
+use Rattle.kp_core.specs.Records.{Batch as HandedBatch}
+use Rattle.kp_world.specs.World.{PartAnswer, ReplyContent, Batches, Id, Reply, names}
+
+-- a batch as a broker sees it
+abbrev pub sent_of : HandedBatch → Sent
+sent_of b = record { id = b.id; sequence = b.sequence; bodies = map body_of b.items }
+
+-- ---- replies
+
+-- a broker that stamps no records answers -1 for the time of the append
+abbrev pub part_response : PartAnswer → PartitionProduceResponse
+part_response p = record {
+  partition = pos p.partition;
+  error_code = p.answer.code;
+  base_offset = p.answer.base;
+  log_append_time_ms = negsuc 0;
+}
+
+-- with an id goes epoch 0, with an error -1
+abbrev pub epoch_for : ℤ → ℤ
+epoch_for code = if int_eq code (pos 0) then pos 0 else negsuc 0
+
+abbrev pub body_of_reply : ReplyContent → ResponseBody
+body_of_reply (Batches parts) = Produce (record {
+  topics = (record { topic = names.topic; partitions = map part_response parts }) ∷ [];
+  throttle_time_ms = pos 0;
+})
+body_of_reply (Id code id) = InitProducerId (record {
+  throttle_time_ms = pos 0;
+  error_code = code;
+  producer_id = id;
+  producer_epoch = epoch_for code;
+})
+
+abbrev pub response_of : Reply → Response
+response_of r = record { correlation = pos r.correlation; body = body_of_reply r.content }

@@ -1,0 +1,71 @@
+-- All that a schedule can bring about, whatever the network loses, repeats and reorders, for any
+-- honest broker.
+use Rattle.std.specs.Prelude.{◌≡◌, ℕ, ◌≤◌, List, [], ◌∷◌, ◌++◌, map, length, Option, Some, Ok, slice_get}
+use Rattle.kp_accum.specs.declared.config.Config.{Config}
+use Rattle.kp_accum.specs.Config.{checked}
+use Rattle.kp_core.specs.Requesting.{Outgoing}
+use Rattle.kp_world.specs.declared.event.Event.{Event}
+use Rattle.kp_world.specs.declared.event.Event.TheVariants.{Deliver, Other}
+use Rattle.kp_world.specs.Client.{client, has_partition, only_if}
+use Rattle.kp_world.specs.Delivering.{Delivery, Delivers}
+use Rattle.kp_world.specs.Line.{Line, AnswerPart, AnswerBatches, AnswerInit}
+use Rattle.kp_world.specs.Loopback.{logs_with_others}
+use Rattle.kp_world.specs.Noting.{only_noted}
+use Rattle.kp_world.specs.World.{PartAnswer, ReplyContent, Batches, Id, World, opening}
+
+-- ---- a packet comes
+
+abbrev pub answer_part : PartAnswer → AnswerPart
+answer_part p = record { partition = p.partition; code = p.answer.code; base = p.answer.base }
+
+abbrev pub answer_line : ℕ → ReplyContent → Line
+answer_line j (Batches parts) = AnswerBatches j (map answer_part parts)
+answer_line j (Id code id) = AnswerInit j code id
+
+-- What was answered to the packet is the next reply.
+unfoldable pub with_delivery : Outgoing → Delivery → World → World
+with_delivery o d w = only_noted (answer_line (length w.replies) d.content ∷ []) (record w {
+  logs = d.logs;
+  ids = d.ids;
+  replies = w.replies ++ (record { correlation = o.correlation; content = d.content }) ∷ [];
+})
+
+-- other producers' records come in between
+unfoldable pub with_others_at : ℕ → ℕ → World → Option World
+with_others_at p n w =
+    only_if (has_partition p w) (only_noted [] (record w { logs = logs_with_others p n w.logs }))
+
+-- ---- a step
+
+-- Any packet that ever went out comes, and the broker does with it what it may.
+pub record Arrives (w : World) (k : ℕ) (v : World) : Type 0 where
+  pub packet : Outgoing
+  pub went_out : slice_get w.packets k ≡ Some packet
+  pub delivery : Delivery
+  pub honest : Delivers w packet.demand delivery
+  pub after_is : v ≡ with_delivery packet delivery w
+
+unfoldable pub Steps : World → Event → World → Type 0
+Steps w (Deliver k treatment) v = Arrives w k v
+Steps w (Other p n) v = with_others_at p n w ≡ Some v
+Steps w e v = client e w ≡ Some v
+
+-- ---- a run: a list of steps
+
+unfoldable pub Run : World → List Event → World → Type 0
+Run w [] v = v ≡ w
+Run w (e ∷ es) v = (middle : World) × Steps w e middle × Run middle es v
+
+-- What a schedule may begin with.
+pub record MayBegin (c : Config) (partitions senders : ℕ) : Type 0 where
+  pub config : checked c ≡ Ok tt
+  pub some_partitions : 1 ≤ partitions
+  pub partition_limit : partitions ≤ 1024
+  pub some_senders : 1 ≤ senders
+  pub sender_limit : senders ≤ 64
+
+-- The world is one to which a schedule leads.
+pub record IsReached (c : Config) (partitions senders : ℕ) (es : List Event) (w : World)
+    : Type 0 where
+  pub may_begin : MayBegin c partitions senders
+  pub run : Run (opening c partitions senders) es w

@@ -1,0 +1,77 @@
+-- A world: a producer's core with its senders, the packets and replies that ever travelled, the
+-- partitions' logs, and what happened so far.
+use Rattle.std.specs.Prelude.{ℕ, Bool, false, List, [], ◌∷◌, ℤ, replicate, codes}
+use Rattle.kp_accum.specs.declared.config.Config.{Config}
+use Rattle.kp_accum.specs.declared.item.Item.{Item}
+use Rattle.kp_log.specs.BrokerStep.{Answered}
+use Rattle.kp_log.specs.History.{History, empty_history}
+use Rattle.kp_core.specs.declared.names.Names.{Names}
+use Rattle.kp_core.specs.Opening.{new_core}
+use Rattle.kp_core.specs.Records.{Batch, Core, Told}
+use Rattle.kp_core.specs.Requesting.{Outgoing}
+use Rattle.kp_world.specs.Line.{Line}
+
+-- ---- replies
+
+-- what was answered to a packet's batch of this partition
+pub record PartAnswer : Type 0 where
+  pub partition : ℕ
+  pub answer : Answered
+
+-- what was answered to a packet: by partition in the packet's order, or with an id
+pub data ReplyContent : Type 0 where
+  Batches : List PartAnswer → ReplyContent
+  Id : (code id : ℤ) → ReplyContent
+
+pub record Reply : Type 0 where
+  pub correlation : ℕ
+  pub content : ReplyContent
+
+-- ---- worlds
+
+-- What an event was answered, in a line or none, and what was told in it; and whether it ended a
+-- flush.
+pub record Happened : Type 0 where
+  pub answer : List Line
+  pub told : List Told
+  pub flushed : Bool
+
+pub record World : Type 0 where
+  pub core : Core
+  pub accepted : List (List Item)  -- by sender, in order
+  pub taken : List ℕ  -- by sender, how many of these were taken and appended
+  pub handed : List (List Batch)  -- by partition, all batches that were handed over, in order
+  pub packets : List Outgoing  -- all that ever went out; a packet's number is its place
+  pub replies : List Reply  -- all that were ever given; a reply's number is its place
+  pub logs : List History  -- by partition
+  pub ids : List ℕ  -- all producer ids that were ever drawn
+  pub moment : ℕ
+  pub is_shut : Bool  -- no record is accepted
+  pub past : List Happened  -- event by event
+
+-- ---- the opening world
+
+abbrev pub names : Names
+names = record { topic = codes "t"; client = codes "kp" }
+
+abbrev pub FIRST_ID : ℕ
+FIRST_ID = 1000
+
+abbrev pub FIRST_CORRELATION : ℕ
+FIRST_CORRELATION = 2
+
+-- nothing was accepted, sent or stored
+unfoldable pub opening : Config → ℕ → ℕ → World
+opening c partitions senders = record {
+  core = new_core c names partitions senders FIRST_ID FIRST_CORRELATION;
+  accepted = replicate senders [];
+  taken = replicate senders 0;
+  handed = replicate partitions [];
+  packets = [];
+  replies = [];
+  logs = replicate partitions empty_history;
+  ids = FIRST_ID ∷ [];
+  moment = 0;
+  is_shut = false;
+  past = [];
+}

@@ -1,0 +1,7 @@
+//! Worlds: a producer, its network and a broker, and all that a schedule of events can bring about.
+#![tactic(auto)]
+
+mod event;
+pub mod laws;
+
+pub use event::{Event, Treatment};
