@@ -6,12 +6,13 @@ use Rattle.std.proofs.lemmas.Bool.{ltb-true}
 use Rattle.std.proofs.lemmas.Bool.Decides.{Decides-int_eq}
 use Rattle.std.proofs.lemmas.List.{get_or-replicate, length-replicate}
 use Rattle.kp_accum.specs.declared.config.Config.{Config}
+use Rattle.kp_accum.specs.declared.fault.AppendFault.{AppendFault}
 use Rattle.kp_accum.specs.declared.item.Item.{Item}
 use Rattle.kp_frames.specs.declared.producer_id.InitProducerIdResponse.{InitProducerIdResponse}
 use Rattle.kp_frames.specs.declared.response.ResponseBody.TheVariants as body
 use Rattle.kp_log.specs.History.{History, empty_history}
 use Rattle.kp_log.proofs.PlaceLemmas.{In, In-nil, In-head, In-tail, In-cons}
-use Rattle.kp_core.specs.Appending.{Appended, TakenIn, BufferFull, appended}
+use Rattle.kp_core.specs.Appending.{appended}
 use Rattle.kp_core.specs.Fence.{ended}
 use Rattle.kp_core.specs.Flush.{flushed}
 use Rattle.kp_core.specs.MaySend.{wants_id}
@@ -77,9 +78,9 @@ unfolding noted
 good_taking s None w g = g
 good_taking s (Some i) w g = at_answer (appended i w.core).answer
   where
-    at_answer : (a : Appended) → IsGood (taking_of s (appended i w.core).after (appended i w.core).told a w)
-    at_answer TakenIn = good_of w (appended i w.core).after g (core_appended i w.core)
-    at_answer BufferFull = good_of w (appended i w.core).after g (core_appended i w.core)
+    at_answer : (a : Result (Unit {0}) AppendFault) → IsGood (taking_of s (appended i w.core).after (appended i w.core).told a w)
+    at_answer (Ok x) = good_of w (appended i w.core).after g (core_appended i w.core)
+    at_answer (Err x) = good_of w (appended i w.core).after g (core_appended i w.core)
 
 -- ---- a reply that gives an id
 
