@@ -1,5 +1,5 @@
 -- A replay is a run: each event of it is a step that a run may take.
-use Rattle.std.proofs.Common.{◌≡◌, ℕ, suc, zero, ◌+◌, ◌<◌, Bool, true, false, List, [], ◌∷◌, length, replicate, ℤ, pos, negsuc, Some, None, refl, sym, ap, ◌∙◌, subst, ⊎_elim, arith}
+use Rattle.std.proofs.Common.{◌≡◌, ℕ, suc, zero, ◌+◌, ◌<◌, Bool, true, false, List, [], ◌∷◌, length, replicate, ℤ, pos, negsuc, Some, None, refl, sym, ◌∙◌, subst, ⊎_elim, arith}
 use Rattle.std.specs.Prelude.{Option, Result, Ok, Err, if◌then◌else◌, ◌&&◌, nat_abs, slice_get}
 use Rattle.std.specs.List.{AllByRecursion}
 use Rattle.std.proofs.lemmas.Bool.{ltb-true}
@@ -130,7 +130,8 @@ content_given (Id code id) x e g v =
     let id_is : id ≡ pos known.number = known.id_is in
     let this : Id code id ≡ Id (pos 0) (pos known.number) = cc in
     let back : given known.number ≡ given (nat_abs x.producer_id) = cc in
-    this ∙ back
+    let whole : Id code id ≡ given (nat_abs x.producer_id) = cc in
+    whole
 
 good_taken : (w : World) (r : Reply) (s : Core) → IsGood w → In r w.replies
     → TakesId w.core (response_of r).correlation (response_of r).body s
