@@ -27,7 +27,7 @@ use Rattle.kp_core.specs.Attempts.{awaits, awaiting, dropped_batch, without_atte
 use Rattle.kp_core.specs.Awaited.{Awaited, Nothing, Batches, Id, id_awaited, or_id, awaited}
 use Rattle.kp_core.specs.Fence.{told_given_up, fenced, given_up, end_of, ended}
 use Rattle.kp_core.specs.Mismatch.{Answers, is_for, answers_for, answers_of, answer_batches, answers_id}
-use Rattle.kp_core.specs.Causes.{IsOpenIn, IsQueuedIn, IsAnswered}
+use Rattle.kp_core.specs.Causes.{IsAtLateFront, IsOpenIn, IsQueuedIn, IsAnswered}
 use Rattle.kp_core.specs.OutcomeRule.{Call, Append, Tick, Reply, End, told_by, MayTell}
 use Rattle.kp_core.specs.Partitions.{partition_at, items_open, items_queued}
 use Rattle.kp_core.specs.Records.{Open, Partition, Request, IdRequest, Core, Told, Step}
@@ -253,7 +253,7 @@ all_dropped_tell c now at (t ∷ ts) =
     ∙ ap (λ (xs : List Told). (passed c now t).told ++ xs) (all_dropped_tell c now at ts)
 
 late_contained : (c : Config) (now : ℕ) (q : List Pending) (b : Pending)
-    → Contains (late_front c now q) b → Contains q b × (is_late c now b ≡ true)
+    → Contains (late_front c now q) b → IsAtLateFront c now q b
 unfolding late_front
 late_contained c now [] b h = absurd (omega (arith, h.1))
 late_contained c now (x ∷ q) b h = at_test (is_late c now x) refl h
@@ -261,14 +261,26 @@ late_contained c now (x ∷ q) b h = at_test (is_late c now x) refl h
   where
     at_place : is_late c now x ≡ true → (k : ℕ) → k < length (x ∷ late_front c now q)
         → get_or (x ∷ late_front c now q) k b ≡ b
-        → (Contains (late_front c now q) b → Contains q b × (is_late c now b ≡ true))
-        → Contains (x ∷ q) b × (is_late c now b ≡ true)
-    at_place is zero l e later = ((0, omega arith, e), subst (λ (y : Pending). is_late c now y ≡ true) e is)
-    at_place is (suc k) l e later = let r = later (k, omega arith, e) in (contains_tail b x q r.0, r.1)
+        → (Contains (late_front c now q) b → IsAtLateFront c now q b) → IsAtLateFront c now (x ∷ q) b
+    at_place is zero l e later = record {
+      earlier = [];
+      later = q;
+      split = ap (λ (y : Pending). y ∷ q) e;
+      ahead = tt;
+      late = subst (λ (y : Pending). is_late c now y ≡ true) e is;
+    }
+    at_place is (suc k) l e later =
+        let r : IsAtLateFront c now q b = later (k, omega arith, e) in
+        record {
+          earlier = x ∷ r.earlier;
+          later = r.later;
+          split = ap (λ (ys : List Pending). x ∷ ys) r.split;
+          ahead = (is, r.ahead);
+          late = r.late;
+        }
 
     at_test : (t : Bool) → is_late c now x ≡ t → Contains (if t then x ∷ late_front c now q else []) b
-        → (Contains (late_front c now q) b → Contains q b × (is_late c now b ≡ true))
-        → Contains (x ∷ q) b × (is_late c now b ≡ true)
+        → (Contains (late_front c now q) b → IsAtLateFront c now q b) → IsAtLateFront c now (x ∷ q) b
     at_test true is h' later = at_place is h'.0 h'.1 h'.2 later
     at_test false is h' later = absurd (omega (arith, h'.1))
 
@@ -293,8 +305,14 @@ passed_all s now p = subst (AllByRecursion (MayBeTold s (Tick now)))
         (late_front s.config now (partition_at p s.partitions).queue)
         (λ b c. all_contained (λ (i : Item). MayBeTold s (Tick now)
         (record { item = i; outcome = Unsent reason.Expired })) b.items
-        (λ i h. let r = late_contained s.config now (partition_at p s.partitions).queue b c
-        in (p, record { batch = b; is_queued = r.0; late = r.1; has = h }))))
+        (λ i h. (
+          p,
+          record {
+            batch = b;
+            front = late_contained s.config now (partition_at p s.partitions).queue b c;
+            has = h;
+          },
+        ))))
 
 abbrev now_step : ℕ → Core → Bool → Ticks
 now_step now s b = if b then ticked_from now true (dropped now s) else ticked_from now false s

@@ -1,5 +1,7 @@
 -- Where an item stands, and what a reply says of it.
-use Rattle.std.specs.Prelude.{◌≡◌, ℕ, pos, true, List, Some, Contains, slice_get}
+use Rattle.std.specs.Prelude.{◌∷◌, ◌++◌, ◌≡◌, ℕ, pos, true, List, Some, Contains, slice_get}
+use Rattle.std.specs.List.{AllByRecursion}
+use Rattle.kp_accum.specs.declared.config.Config.{Config}
 use Rattle.kp_accum.specs.declared.item.Item.{Item}
 use Rattle.kp_accum.specs.Queue.{Pending}
 use Rattle.kp_accum.specs.Ready.{is_late}
@@ -27,11 +29,18 @@ pub record IsQueuedIn (t : Partition) (i : Item) : Type 0 where
   pub is_queued : Contains t.queue batch
   pub has : Contains batch.items i
 
--- the same, in a batch whose delivery timeout is over
-pub record ExpiresIn (s : Core) (now : ℕ) (t : Partition) (i : Item) : Type 0 where
+-- the batch is late, and so is each before it in the queue
+pub record IsAtLateFront (c : Config) (now : ℕ) (queue : List Pending) (batch : Pending) : Type 0 where
+  pub earlier : List Pending
+  pub later : List Pending
+  pub split : queue ≡ earlier ++ batch ∷ later
+  pub ahead : AllByRecursion (λ b. is_late c now b ≡ true) earlier
+  pub late : is_late c now batch ≡ true
+
+-- the item is queued in a batch that comes to the queue's front, and is late there
+pub record ExpiresIn (c : Config) (now : ℕ) (t : Partition) (i : Item) : Type 0 where
   pub batch : Pending
-  pub is_queued : Contains t.queue batch
-  pub late : is_late s.config now batch ≡ true
+  pub front : IsAtLateFront c now t.queue batch
   pub has : Contains batch.items i
 
 -- ---- replies

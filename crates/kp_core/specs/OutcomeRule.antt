@@ -57,7 +57,7 @@ TellsEnded s End i = (p : ℕ) × IsQueuedIn (partition_at p s.partitions) i
 TellsEnded s call i = ⊥
 
 abbrev pub TellsExpired : Core → Call → Item → Type 0
-TellsExpired s (Tick now) i = (p : ℕ) × ExpiresIn s now (partition_at p s.partitions) i
+TellsExpired s (Tick now) i = (p : ℕ) × ExpiresIn s.config now (partition_at p s.partitions) i
 TellsExpired s call i = ⊥
 
 -- The reply settles the item's batch by this verdict, and what is told fits its answer.
