@@ -14,3 +14,4 @@ pub mod Memory
 pub mod Requests
 pub mod FreshIds
 pub mod Flushing
+pub mod FateLemmas
