@@ -15,3 +15,4 @@ pub mod Requests
 pub mod FreshIds
 pub mod Flushing
 pub mod FateLemmas
+pub mod ConservationLemmas
