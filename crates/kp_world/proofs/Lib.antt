@@ -16,3 +16,4 @@ pub mod FreshIds
 pub mod Flushing
 pub mod FateLemmas
 pub mod ConservationLemmas
+pub mod TellingLemmas
