@@ -18,7 +18,8 @@ pub a_fence_ends_attempts :
 unfolding evaluated
 a_fence_ends_attempts = refl
 
--- What stood behind it in the queue is not sent; and nothing is accepted once the gate is shut, or sent after the end.
+-- What stood behind it in the queue is not sent; and nothing is accepted once the gate is shut, or
+-- sent after the end.
 pub what_was_queued_is_fenced :
     told (record default_config { batch_size = 0 }) 1 1 (
         feed 97 ++ feed 98 ++ Send ∷ Deliver 0 (Refused (pos 10)) ∷ Reply 0 ∷ Close
@@ -34,3 +35,11 @@ pub what_is_queued_at_the_end_is_not_sent :
     ≡ codes "report 0 0 0 ended\n"
 unfolding evaluated
 what_is_queued_at_the_end_is_not_sent = refl
+
+pub after_the_end_no_reply_counts :
+    told default_config 1 1 (
+        feed 97 ++ Send ∷ Deliver 0 Judged ∷ End ∷ Reply 0 ∷ Send ∷ [])
+    ≡ codes "sent 0 0:0+1\nanswer 0 0:0@0\nreport 0 0 0 unknown\nended\nended\nlog 0 0 a\n"
+    ++ codes "audit 0 0 0 1\n"
+unfolding evaluated
+after_the_end_no_reply_counts = refl

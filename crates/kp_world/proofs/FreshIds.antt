@@ -17,7 +17,8 @@ pub an_id_is_asked_for_at_the_limit :
 unfolding evaluated
 an_id_is_asked_for_at_the_limit = refl
 
--- Under the fresh id the sequence begins at 0. A packet of the old one comes again, and is stored no second time.
+-- Under the fresh id the sequence begins at 0. A packet of the old one comes again, and is stored
+-- no second time.
 pub the_old_id_is_silent :
     told (record default_config { sequence_limit = 2; batch_size = 0 }) 1 1 (
         feed 97 ++ feed 98 ++ feed 99 ++ Send ∷ Deliver 0 Judged ∷ Reply 0 ∷ Send
@@ -41,3 +42,40 @@ pub an_id_that_is_refused_is_asked_for_again :
     ++ codes "idle\nsent 3 init\nlog 0 0 a\nlog 0 1 b\naudit 0 0 0 2\n"
 unfolding evaluated
 an_id_that_is_refused_is_asked_for_again = refl
+
+-- It is dropped, and goes out again after its backoff.
+pub an_id_request_times_out :
+    told (record default_config { sequence_limit = 2; batch_size = 0 }) 1 1 (
+        feed 97 ++ feed 98 ++ feed 99 ++ Send ∷ Deliver 0 Judged ∷ Reply 0 ∷ Send
+        ∷ Deliver 1 Judged ∷ Reply 1 ∷ Send ∷ Tick ∷ Now 30000 ∷ Tick ∷ Send ∷ Now 30100 ∷ Send
+        ∷ [])
+    ≡ codes "sent 0 0:0+1\nanswer 0 0:0@0\nreport 0 0 0 delivered 0\nsent 1 0:1+1\n"
+    ++ codes "answer 1 0:0@1\nreport 0 0 1 delivered 1\nsent 2 init\nreconnect\nidle\n"
+    ++ codes "sent 3 init\nlog 0 0 a\nlog 0 1 b\naudit 0 0 0 2\n"
+unfolding evaluated
+an_id_request_times_out = refl
+
+-- The batch that wanted it has expired when it comes; the next batch wants another.
+pub an_id_that_comes_too_late_is_never_used :
+    told (record default_config { sequence_limit = 2; batch_size = 0; request_timeout_ms = 120000 }) 1 1 (
+        feed 97 ++ feed 98 ++ feed 99 ++ Send ∷ Deliver 0 Judged ∷ Reply 0 ∷ Send
+        ∷ Deliver 1 Judged ∷ Reply 1 ∷ Now 1 ∷ Send ∷ Now 120000 ∷ Tick ∷ Deliver 2 Judged
+        ∷ Reply 2 ∷ feed 100 ++ Send ∷ [])
+    ≡ codes "sent 0 0:0+1\nanswer 0 0:0@0\nreport 0 0 0 delivered 0\nsent 1 0:1+1\n"
+    ++ codes "answer 1 0:0@1\nreport 0 0 1 delivered 1\nsent 2 init\nreport 0 0 2 expired\n"
+    ++ codes "answer 2 init 0@1001\nsent 3 init\nlog 0 0 a\nlog 0 1 b\naudit 0 0 0 2\n"
+unfolding evaluated
+an_id_that_comes_too_late_is_never_used = refl
+
+-- Each delivery draws an id of its own, and the first reply is the one that counts.
+pub a_second_id_is_stale :
+    told (record default_config { sequence_limit = 2; batch_size = 0 }) 1 1 (
+        feed 97 ++ feed 98 ++ feed 99 ++ Send ∷ Deliver 0 Judged ∷ Reply 0 ∷ Send
+        ∷ Deliver 1 Judged ∷ Reply 1 ∷ Send ∷ Tick ∷ Deliver 2 Judged ∷ Deliver 2 Judged
+        ∷ Reply 2 ∷ Reply 3 ∷ Send ∷ [])
+    ≡ codes "sent 0 0:0+1\nanswer 0 0:0@0\nreport 0 0 0 delivered 0\nsent 1 0:1+1\n"
+    ++ codes "answer 1 0:0@1\nreport 0 0 1 delivered 1\nsent 2 init\nanswer 2 init 0@1001\n"
+    ++ codes "answer 3 init 0@1002\nstale 3\nsent 3 0:0+1\nlog 0 0 a\nlog 0 1 b\n"
+    ++ codes "audit 0 0 0 3\n"
+unfolding evaluated
+a_second_id_is_stale = refl

@@ -1,7 +1,7 @@
 -- What a call on the core leaves as it is in each partition: what was handed over, and that what is
 -- open was. Only handing over, and a fresh id, do more.
-use Rattle.std.proofs.Common.{◌≡◌, ◌⊎◌, ℕ, suc, zero, ◌+◌, ◌<◌, Bool, true, false, not, cond, List, [], ◌∷◌, ◌++◌, length, get_or, map, ℤ, pos, Some, None, refl, sym, ap, ◌∙◌, subst, inl, inr, arith, length-append}
-use Rattle.std.specs.Prelude.{Option, if◌then◌else◌, nat_abs}
+use Rattle.std.proofs.Common.{◌≡◌, ℕ, suc, zero, ◌+◌, ◌<◌, Bool, true, false, not, cond, List, [], ◌∷◌, length, get_or, map, Some, None, refl, sym, ap, ◌∙◌, subst, arith, length-append}
+use Rattle.std.specs.Prelude.{Option, if◌then◌else◌}
 use Rattle.std.specs.List.{AllByRecursion, filter, enumerate_from, list_any}
 use Rattle.std.proofs.lemmas.List.{get_or-map, length-map}
 use Rattle.kp_accum.specs.declared.config.Config.{Config}
@@ -42,7 +42,8 @@ pub record Keeps (t t' : Partition) : Type 0 where
   pub queue : AllByRecursion HasItems t.queue → AllByRecursion HasItems t'.queue
 
 pub keeps_same : (t : Partition) → Keeps t t
-keeps_same t = record { number = refl; sequence = refl; ids = refl; opens = λ handed h. h; queue = λ h. h }
+keeps_same t =
+    record { number = refl; sequence = refl; ids = refl; opens = λ handed h. h; queue = λ h. h }
 
 pub keeps_more : (t u v : Partition) → Keeps t u → Keeps u v → Keeps t v
 keeps_more t u v k l = record {
@@ -55,7 +56,8 @@ keeps_more t u v k l = record {
 
 opens_map : (f : Open → Open) → ((o : Open) → (f o).batch ≡ o.batch) → (handed : List Batch) (os : List Open) → OpenIn handed os → OpenIn handed (map f os)
 opens_map f same handed [] h = tt
-opens_map f same handed (o ∷ os) h = (subst (λ b. In b handed) (sym (same o)) h.0, opens_map f same handed os h.1)
+opens_map f same handed (o ∷ os) h =
+    (subst (λ b. In b handed) (sym (same o)) h.0, opens_map f same handed os h.1)
 
 opens_filter : (p : Open → Bool) (handed : List Batch) (os : List Open) → OpenIn handed os → OpenIn handed (filter p os)
 opens_filter p handed [] h = tt
@@ -76,11 +78,13 @@ keeps_dropped now t = record {
 
 pub keeps_fenced : (t : Partition) → Keeps t (fenced t).after
 unfolding fenced
-keeps_fenced t = record { number = refl; sequence = refl; ids = refl; opens = λ handed h. tt; queue = λ h. tt }
+keeps_fenced t =
+    record { number = refl; sequence = refl; ids = refl; opens = λ handed h. tt; queue = λ h. tt }
 
 pub keeps_given_up : (t : Partition) → Keeps t (given_up t).after
 unfolding given_up
-keeps_given_up t = record { number = refl; sequence = refl; ids = refl; opens = λ handed h. tt; queue = λ h. tt }
+keeps_given_up t =
+    record { number = refl; sequence = refl; ids = refl; opens = λ handed h. tt; queue = λ h. tt }
 
 queue_behind_late : (c : Config) (now : ℕ) (q : List Pending) → AllByRecursion HasItems q → AllByRecursion HasItems (behind_late c now q)
 unfolding behind_late
@@ -181,7 +185,8 @@ keeps_queued c i t = record {
 -- what a function of places makes of a list, at a place
 pub by_place : {X Y : Type 0} (g : (ℕ × X) → Y) (xs : List X) (k p : ℕ) (d : Y) (e : X) → p < length xs → get_or (map g (enumerate_from k xs)) p d ≡ g (k + p, get_or xs p e)
 by_place g [] k p d e h = absurd (omega arith)
-by_place g (x ∷ xs) k zero d e h = let same : k ≡ k + 0 = omega arith in ap (λ (n : ℕ). g (n, x)) same
+by_place g (x ∷ xs) k zero d e h =
+    let same : k ≡ k + 0 = omega arith in ap (λ (n : ℕ). g (n, x)) same
 by_place g (x ∷ xs) k (suc p) d e h =
     let within : p < length xs = omega arith in
     let same : k + 1 + p ≡ k + suc p = omega arith in
@@ -205,7 +210,8 @@ at-changed_at ps f ts p h =
 
 pub keeps_changed : (ps : List ℕ) (f : ℕ → Partition → Partition) → ((p : ℕ) (t : Partition) → Keeps t (f p t))
     → (ts : List Partition) (p : ℕ) → p < length ts → Keeps (partition_at p ts) (partition_at p (changed_at ps f ts))
-keeps_changed ps f k ts p h = subst (Keeps (partition_at p ts)) (sym (at-changed_at ps f ts p h)) (at_test (is_in p ps))
+keeps_changed ps f k ts p h =
+    subst (Keeps (partition_at p ts)) (sym (at-changed_at ps f ts p h)) (at_test (is_in p ps))
   where
     at_test : (b : Bool) → Keeps (partition_at p ts) (if b then f p (partition_at p ts) else partition_at p ts)
     at_test true = k p (partition_at p ts)

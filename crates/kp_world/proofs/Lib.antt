@@ -1,10 +1,9 @@
 pub mod Evaluation
 pub mod Schedules
-pub mod KeepingLemmas
-pub mod SendingLemmas
 pub mod Linger
 pub mod Window
 pub mod Reordering
+pub mod Retries
 pub mod Repeats
 pub mod OldBatches
 pub mod Senders
@@ -14,6 +13,14 @@ pub mod Memory
 pub mod Requests
 pub mod FreshIds
 pub mod Flushing
+pub mod KeepingLemmas
+pub mod SendingLemmas
+pub mod SoundLemmas
+pub mod ReplyLemmas
+pub mod GoodLemmas
+pub mod RequestLemmas
+pub mod DeliveryLemmas
+pub mod ReplayLemmas
 pub mod FateLemmas
 pub mod ConservationLemmas
 pub mod TellingLemmas

@@ -7,7 +7,8 @@ use Rattle.kp_world.specs.declared.event.Treatment.TheVariants.{Judged, Late}
 use Rattle.kp_world.proofs.Evaluation.{evaluated}
 use Rattle.kp_world.proofs.Schedules.{told, feed}
 
--- The batch is stored, and its answer says that the time ran out. It goes out again, and is answered with its offset.
+-- The batch is stored, and its answer says that the time ran out. It goes out again, and is
+-- answered with its offset.
 pub a_repeat_is_stored_once :
     told default_config 1 1 (
         feed 97 ++ Send ∷ Deliver 0 (Late (pos 7)) ∷ Reply 0 ∷ Now 100 ∷ Send

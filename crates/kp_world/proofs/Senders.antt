@@ -7,8 +7,8 @@ use Rattle.kp_world.specs.declared.event.Treatment.TheVariants.{Judged}
 use Rattle.kp_world.proofs.Evaluation.{evaluated}
 use Rattle.kp_world.proofs.Schedules.{told, feed}
 
--- The other producer has two records appended between the first batch and the second, which has a record of each
--- sender.
+-- The other producer has two records appended between the first batch and the second, which has a
+-- record of each sender.
 pub offsets_are_not_sequence_numbers :
     told default_config 1 2 (
         feed 97 ++ Send ∷ Deliver 0 Judged ∷ Reply 0 ∷ Other 0 2 ∷ Accept 1 0 (98 ∷ [])

@@ -1,5 +1,6 @@
--- What goes out of each partition when a request does: a batch that was handed over, or the front batch.
-use Rattle.std.proofs.Common.{◌≡◌, ◌⊎◌, ℕ, suc, zero, ◌+◌, ◌-◌, ◌<◌, ◌≤◌, Bool, true, false, cond, List, [], ◌∷◌, ◌++◌, length, get_or, take, drop, map, Some, None, refl, sym, ap, ◌∙◌, subst, inl, inr, arith}
+-- What goes out of each partition when a request does: a batch that was handed over, or the front
+-- batch.
+use Rattle.std.proofs.Common.{◌≡◌, ◌⊎◌, ℕ, suc, zero, ◌+◌, ◌-◌, ◌<◌, ◌≤◌, Bool, true, false, cond, List, [], ◌∷◌, ◌++◌, length, get_or, take, drop, Some, None, refl, sym, ap, ◌∙◌, subst, inl, inr, arith}
 use Rattle.std.specs.Prelude.{Option, if◌then◌else◌, find, option_map, filter_map, nat_le}
 use Rattle.std.specs.List.{AllByRecursion, enumerate_from, cons_option}
 use Rattle.kp_accum.specs.declared.config.Config.{Config}
@@ -9,10 +10,10 @@ use Rattle.kp_log.proofs.PlaceLemmas.{In}
 use Rattle.kp_core.specs.Attempts.{has_window, is_waiting, lowest_waiting}
 use Rattle.kp_core.specs.HandingOver.{again_in, handed_over_in, sent_again_in, sent_first_in, sent_in}
 use Rattle.kp_core.specs.MaySend.{is_rested, may_hand_over, new_batch, sends_new, sends_first, sends}
-use Rattle.kp_core.specs.Next.{Sending, Demand, Produce, InitProducerId, flags_of, turned, used_up_to, in_turn, sending_of, fitting, next_batches, next_asking, produce_of, demand_of, next_demand}
+use Rattle.kp_core.specs.Next.{Sending, Produce, flags_of, used_up_to, in_turn, sending_of, fitting, next_batches, next_asking, produce_of, demand_of, next_demand}
 use Rattle.kp_core.specs.Partitions.{partition_at, new_partition}
 use Rattle.kp_core.specs.Records.{Batch, Open, Partition, Core}
-use Rattle.kp_world.proofs.KeepingLemmas.{HasItems, OpenIn, Keeps}
+use Rattle.kp_world.proofs.KeepingLemmas.{OpenIn, Keeps}
 
 -- ---- one partition
 
@@ -32,7 +33,8 @@ pub record HandsOver (t t' : Partition) (b : Batch) : Type 0 where
 
 find_open : (handed : List Batch) (os : List Open) (o : Open) → find is_waiting os ≡ Some o → OpenIn handed os → In o.batch handed
 find_open handed [] o e h = absurd cc
-find_open handed (x ∷ os) o e h = at_test (is_waiting x) e (λ (e' : find is_waiting os ≡ Some o). find_open handed os o e' h.1)
+find_open handed (x ∷ os) o e h =
+    at_test (is_waiting x) e (λ (e' : find is_waiting os ≡ Some o). find_open handed os o e' h.1)
   where
     at_test : (b : Bool) → cond b (Some x) (find is_waiting os) ≡ Some o → (find is_waiting os ≡ Some o → In o.batch handed) → In o.batch handed
     at_test true same later = let is : x ≡ o = cc in subst (λ (y : Open). In y.batch handed) is h.0

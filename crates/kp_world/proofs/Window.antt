@@ -7,8 +7,9 @@ use Rattle.kp_world.specs.declared.event.Treatment.TheVariants.{Judged}
 use Rattle.kp_world.proofs.Evaluation.{evaluated}
 use Rattle.kp_world.proofs.Schedules.{told, feed}
 
--- The second batch waits for the first to be acknowledged; then five are in flight. The lowest of these is lost, and
--- holds back the one that would be the fifth behind it, until it was sent again and acknowledged.
+-- The second batch waits for the first to be acknowledged; then five are in flight. The lowest of
+-- these is lost, and holds back the one that would be the fifth behind it, until it was sent again
+-- and acknowledged.
 pub a_lost_batch_holds_the_window :
     told (record default_config { batch_size = 0 }) 1 1 (
         feed 97 ++ feed 98 ++ feed 99 ++ feed 100 ++ feed 101 ++ feed 102 ++ feed 103 ++ Send

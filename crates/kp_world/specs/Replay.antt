@@ -1,13 +1,32 @@
 -- What a schedule brings about with the loopback broker.
-use Rattle.std.specs.Prelude.{ℕ, ◌+◌, List, [], ◌∷◌, Option, Some, None, Result, Ok, Err, slice_get}
+use Rattle.std.specs.Prelude.{◌≢◌, ℤ, ℕ, ◌+◌, List, [], ◌∷◌, Option, Some, None, Result, Ok, Err, slice_get}
+use Rattle.kp_log.specs.BrokerStep.{NO_ERROR, DUPLICATE_SEQUENCE_NUMBER}
 use Rattle.kp_core.specs.Requesting.{Outgoing}
 use Rattle.kp_world.specs.declared.event.Event.{Event}
 use Rattle.kp_world.specs.declared.event.Event.TheVariants.{Deliver, Other}
 use Rattle.kp_world.specs.declared.event.Treatment.{Treatment}
+use Rattle.kp_world.specs.declared.event.Treatment.TheVariants.{Judged, Refused, Late}
 use Rattle.kp_world.specs.Client.{client}
 use Rattle.kp_world.specs.Loopback.{delivered}
 use Rattle.kp_world.specs.Run.{with_delivery, with_others_at}
 use Rattle.kp_world.specs.World.{World}
+
+-- ---- what a schedule may ask of the broker
+
+-- The code says nothing of the batch.
+abbrev pub MayAnswer : ℤ → Type 0
+MayAnswer code = (code ≢ NO_ERROR) × (code ≢ DUPLICATE_SEQUENCE_NUMBER)
+
+abbrev pub MayTreat : Treatment → Type 0
+MayTreat Judged = Unit {0}
+MayTreat (Refused code) = MayAnswer code
+MayTreat (Late code) = MayAnswer code
+
+abbrev pub MayHappen : Event → Type 0
+MayHappen (Deliver k how) = MayTreat how
+MayHappen _ = Unit {0}
+
+-- ---- the replay
 
 abbrev pub arrived : ℕ → Treatment → Option Outgoing → World → Option World
 arrived k how None w = None

@@ -1,0 +1,191 @@
+-- A partition, what was handed over for it, and its log: they agree, whatever happens.
+use Rattle.std.proofs.Common.{◌≡◌, ℕ, ◌+◌, ◌<◌, Bool, true, false, List, [], ◌∷◌, ◌++◌, length, map, pos, Some, None, refl, sym, ap, ◌∙◌, subst, ⊎_elim, arith, length-append}
+use Rattle.std.specs.Prelude.{Option, unwrap_or, ◌==◌}
+use Rattle.std.specs.List.{AllByRecursion, last_or}
+use Rattle.std.proofs.lemmas.Bool.{eqb-true}
+use Rattle.std.proofs.lemmas.List.{map-append, length-map}
+use Rattle.std.proofs.lemmas.List.Concat.{flat_map-append}
+use Rattle.kp_accum.specs.Queue.{Pending, body_of}
+use Rattle.kp_log.specs.HandedOver.{Follows, AreInSequence, CameBy}
+use Rattle.kp_log.specs.History.{Sent, History, stored_of, records_of, empty_history}
+use Rattle.kp_log.specs.Log.{count_of}
+use Rattle.kp_log.proofs.KeepingLemmas.{nothing_handed, one_more_handed, came_empty, came_of_more}
+use Rattle.kp_log.proofs.LogLemmas.{count_of-append, count_of_own, count_of_others}
+use Rattle.kp_log.proofs.PlaceLemmas.{In, In-nil, In-head, In-tail, In-cons, In-append_left, In-append_right, In-append_cases}
+use Rattle.kp_log.proofs.SequenceLemmas.{ids_apart}
+use Rattle.kp_core.specs.HandingOver.{opened_in, handed_over_in}
+use Rattle.kp_core.specs.MaySend.{new_batch}
+use Rattle.kp_core.specs.Partitions.{new_partition, present_id}
+use Rattle.kp_core.specs.Records.{Batch, Open, Partition}
+use Rattle.kp_core.specs.Replies.{under}
+use Rattle.kp_world.specs.Message.{sent_of}
+use Rattle.kp_world.proofs.KeepingLemmas.{HasItems, OpenIn, Keeps}
+use Rattle.kp_world.proofs.SendingLemmas.{all_weaker, HandsOver}
+
+-- the batches as a broker sees them
+abbrev pub sents : List Batch → List Sent
+sents handed = map sent_of handed
+
+-- how many records of these batches are under the last of these ids
+abbrev pub count_under : List ℕ → List Batch → ℕ
+count_under ids handed = count_of (pos (unwrap_or (last_or None ids) 0)) (records_of (sents handed))
+
+-- A partition, of all ids that were drawn, with what was handed over for it, and its history.
+pub record Sound (drawn : List ℕ) (t : Partition) (handed : List Batch) (h : History) : Type 0 where
+  pub number : t.next_number ≡ length handed
+  pub sequence : t.next_sequence ≡ count_under t.ids handed
+  pub in_sequence : AreInSequence (sents handed)
+  pub came : CameBy (sents handed) h
+  pub numbers : (b : Batch) → In b handed → b.number < length handed
+  pub under : (b : Batch) → In b handed → In b.id t.ids
+  pub present : In (present_id t) t.ids
+  pub drawn_all : (id : ℕ) → In id t.ids → In id drawn
+  pub opens : OpenIn handed t.open_batches
+  pub queue : AllByRecursion HasItems t.queue
+
+-- ---- what keeps it
+
+pub sound_kept : (drawn : List ℕ) (t t' : Partition) (handed : List Batch) (h : History) → Sound drawn t handed h → Keeps t t' → Sound drawn t' handed h
+sound_kept drawn t t' handed h s k = record {
+  number = k.number ∙ s.number;
+  sequence = k.sequence ∙ (s.sequence ∙ ap (λ (ids : List ℕ). count_under ids handed) (sym k.ids));
+  in_sequence = s.in_sequence;
+  came = s.came;
+  numbers = s.numbers;
+  under = λ b i. subst (λ (ids : List ℕ). In b.id ids) (sym k.ids) (s.under b i);
+  present = subst (λ (ids : List ℕ). In (unwrap_or (last_or None ids) 0) ids) (sym k.ids) s.present;
+  drawn_all = λ id i. s.drawn_all id (subst (λ (ids : List ℕ). In id ids) k.ids i);
+  opens = k.opens handed s.opens;
+  queue = k.queue s.queue;
+}
+
+pub sound_history : (drawn : List ℕ) (t : Partition) (handed : List Batch) (h h' : History) → Sound drawn t handed h → CameBy (sents handed) h' → Sound drawn t handed h'
+sound_history drawn t handed h h' s c = record {
+  number = s.number;
+  sequence = s.sequence;
+  in_sequence = s.in_sequence;
+  came = c;
+  numbers = s.numbers;
+  under = s.under;
+  present = s.present;
+  drawn_all = s.drawn_all;
+  opens = s.opens;
+  queue = s.queue;
+}
+
+pub sound_drawn : (drawn : List ℕ) (id : ℕ) (t : Partition) (handed : List Batch) (h : History) → Sound drawn t handed h → Sound (drawn ++ id ∷ []) t handed h
+sound_drawn drawn id t handed h s = record {
+  number = s.number;
+  sequence = s.sequence;
+  in_sequence = s.in_sequence;
+  came = s.came;
+  numbers = s.numbers;
+  under = s.under;
+  present = s.present;
+  drawn_all = λ i at. In-append_left i drawn (id ∷ []) (s.drawn_all i at);
+  opens = s.opens;
+  queue = s.queue;
+}
+
+-- ---- the beginning
+
+pub sound_new : (id : ℕ) → Sound (id ∷ []) (new_partition id) [] empty_history
+sound_new id = record {
+  number = refl;
+  sequence = refl;
+  in_sequence = nothing_handed;
+  came = came_empty [];
+  numbers = λ b i. absurd (In-nil b i);
+  under = λ b i. absurd (In-nil b i);
+  present = In-head id [];
+  drawn_all = λ i at. at;
+  opens = tt;
+  queue = tt;
+}
+
+-- ---- a batch is handed over
+
+abbrev new : Partition → Pending → Sent
+new t front = sent_of (new_batch t front)
+
+one_more : (handed : List Batch) (b : Batch) → sents (handed ++ b ∷ []) ≡ sents handed ++ sent_of b ∷ []
+one_more handed b = map-append sent_of handed (b ∷ [])
+
+count_one_more : (id : ℕ) (handed : List Batch) (b : Batch) → b.id ≡ id
+    → count_of (pos id) (records_of (sents (handed ++ b ∷ []))) ≡ count_of (pos id) (records_of (sents handed)) + length b.items
+count_one_more id handed b same =
+    let split : records_of (sents (handed ++ b ∷ [])) ≡ records_of (sents handed) ++ records_of (sent_of b ∷ []) = ap records_of (one_more handed b) ∙ flat_map-append stored_of (sents handed) (sent_of b ∷ []) in
+    let parts : count_of (pos id) (records_of (sents (handed ++ b ∷ []))) ≡ count_of (pos id) (records_of (sents handed)) + count_of (pos id) (records_of (sent_of b ∷ [])) = ap (count_of (pos id)) split ∙ count_of-append (pos id) (records_of (sents handed)) (records_of (sent_of b ∷ [])) in
+    let last : count_of (pos id) (stored_of (sent_of b) ++ []) ≡ count_of (pos id) (stored_of (sent_of b)) + 0 = count_of-append (pos id) (stored_of (sent_of b)) [] in
+    let own : count_of (pos id) (stored_of (sent_of b)) ≡ length (map body_of b.items) = ap (λ (n : ℕ). count_of (pos n) (stored_of (sent_of b))) (sym same) ∙ count_of_own (pos b.id) (map body_of b.items) in
+    let size : length (map body_of b.items) ≡ length b.items = length-map b.items body_of in
+    omega (arith, parts, last, own, size)
+
+opens_more : (handed : List Batch) (b : Batch) (os : List Open) → OpenIn handed os → OpenIn (handed ++ b ∷ []) os
+opens_more handed b os h = all_weaker (λ (o : Open). In o.batch handed) (λ (o : Open). In o.batch (handed ++ b ∷ [])) (λ o i. In-append_left o.batch handed (b ∷ []) i) os h
+
+opens_last : (handed : List Batch) (o : Open) (os : List Open) → In o.batch handed → OpenIn handed os → OpenIn handed (os ++ o ∷ [])
+opens_last handed o [] i h = (i, tt)
+opens_last handed o (x ∷ os) i h = (h.0, opens_last handed o os i h.1)
+
+pub sound_handed : (drawn : List ℕ) (t t' : Partition) (b : Batch) (handed : List Batch) (h : History) → Sound drawn t handed h → HandsOver t t' b → Sound drawn t' (handed ++ b ∷ []) h
+unfolding handed_over_in
+sound_handed drawn t t' b handed h s o = subst (λ (u : Partition). Sound drawn u (handed ++ b ∷ []) h) (sym o.after_is) (subst (λ (c : Batch). Sound drawn (handed_over_in o.request t (o.front ∷ o.rest)) (handed ++ c ∷ []) h) (sym o.batch) it)
+  where
+    first : AllByRecursion HasItems (o.front ∷ o.rest)
+    first = subst (AllByRecursion HasItems) o.queue s.queue
+
+    some : 0 < length (map body_of o.front.items)
+    some = let size : length (map body_of o.front.items) ≡ length o.front.items = length-map o.front.items body_of in let any : 0 < length o.front.items = first.0 in omega arith
+
+    follows : Follows (sents handed) (new t o.front)
+    follows = record { some_records = some; sequence = s.sequence }
+
+    all : length (handed ++ new_batch t o.front ∷ []) ≡ length handed + 1
+    all = length-append handed (new_batch t o.front ∷ [])
+
+    it : Sound drawn (handed_over_in o.request t (o.front ∷ o.rest)) (handed ++ new_batch t o.front ∷ []) h
+    it = record {
+      number = let n : t.next_number ≡ length handed = s.number in omega (arith, all, n);
+      sequence = let n : t.next_sequence ≡ count_under t.ids handed = s.sequence in let m : count_under t.ids (handed ++ new_batch t o.front ∷ []) ≡ count_under t.ids handed + length o.front.items = count_one_more (present_id t) handed (new_batch t o.front) refl in omega (arith, n, m);
+      in_sequence = subst AreInSequence (sym (one_more handed (new_batch t o.front))) (one_more_handed (sents handed) (new t o.front) s.in_sequence follows);
+      came = subst (λ (ss : List Sent). CameBy ss h) (sym (one_more handed (new_batch t o.front))) (came_of_more (sents handed) (new t o.front) h s.came);
+      numbers = λ x i. ⊎_elim (λ (j : In x handed). let n : x.number < length handed = s.numbers x j in omega (arith, all, n)) (λ (j : In x (new_batch t o.front ∷ [])). ⊎_elim (λ (same : x ≡ new_batch t o.front). let n : t.next_number ≡ length handed = s.number in let m : x.number ≡ t.next_number = ap (λ (y : Batch). y.number) same in omega (arith, all, n, m)) (λ (z : In x []). absurd (In-nil x z)) (In-cons x (new_batch t o.front) [] j)) (In-append_cases x handed (new_batch t o.front ∷ []) i);
+      under = λ x i. ⊎_elim (λ (j : In x handed). s.under x j) (λ (j : In x (new_batch t o.front ∷ [])). ⊎_elim (λ (same : x ≡ new_batch t o.front). subst (λ (y : Batch). In y.id t.ids) (sym same) s.present) (λ (z : In x []). absurd (In-nil x z)) (In-cons x (new_batch t o.front) [] j)) (In-append_cases x handed (new_batch t o.front ∷ []) i);
+      present = s.present;
+      drawn_all = s.drawn_all;
+      opens = opens_last (handed ++ new_batch t o.front ∷ []) (opened_in o.request t o.front) t.open_batches (In-append_right (new_batch t o.front) handed (new_batch t o.front ∷ []) (In-head (new_batch t o.front) [])) (opens_more handed (new_batch t o.front) t.open_batches s.opens);
+      queue = first.1;
+    }
+
+-- ---- a fresh id
+
+count_none : (id : ℕ) (handed : List Batch) → ((b : Batch) → In b handed → b.id ≡ id → ⊥) → count_of (pos id) (records_of (sents handed)) ≡ 0
+count_none id [] h = refl
+count_none id (b ∷ handed) h =
+    let rest : count_of (pos id) (records_of (sents handed)) ≡ 0 = count_none id handed (λ c i e. h c (In-tail c b handed i) e) in
+    let parts : count_of (pos id) (records_of (sents (b ∷ handed))) ≡ count_of (pos id) (stored_of (sent_of b)) + count_of (pos id) (records_of (sents handed)) = count_of-append (pos id) (stored_of (sent_of b)) (records_of (sents handed)) in
+    let none : count_of (pos id) (stored_of (sent_of b)) ≡ 0 = count_of_others (pos id) (pos b.id) (map body_of b.items) (ids_apart b.id id (at_test (b.id == id) refl)) in
+    omega (arith, rest, parts, none)
+  where
+    at_test : (t : Bool) → (b.id == id) ≡ t → (b.id == id) ≡ false
+    at_test true is = absurd (h b (In-head b handed) (eqb-true b.id id is))
+    at_test false is = is
+
+last_is : (o : Option ℕ) (ids : List ℕ) (id : ℕ) → last_or o (ids ++ id ∷ []) ≡ Some id
+last_is o [] id = refl
+last_is o (x ∷ ids) id = last_is (Some x) ids id
+
+pub sound_fresh : (drawn : List ℕ) (id : ℕ) (t : Partition) (handed : List Batch) (h : History) → Sound drawn t handed h → In id drawn → (In id t.ids → ⊥) → Sound drawn (under id t) handed h
+sound_fresh drawn id t handed h s known fresh = record {
+  number = s.number;
+  sequence = sym (ap (λ (o : Option ℕ). count_of (pos (unwrap_or o 0)) (records_of (sents handed))) (last_is None t.ids id) ∙ count_none id handed (λ b i e. fresh (subst (λ (n : ℕ). In n t.ids) e (s.under b i))));
+  in_sequence = s.in_sequence;
+  came = s.came;
+  numbers = s.numbers;
+  under = λ b i. In-append_left b.id t.ids (id ∷ []) (s.under b i);
+  present = subst (λ (o : Option ℕ). In (unwrap_or o 0) (t.ids ++ id ∷ [])) (sym (last_is None t.ids id)) (In-append_right id t.ids (id ∷ []) (In-head id []));
+  drawn_all = λ i at. ⊎_elim (λ (j : In i t.ids). s.drawn_all i j) (λ (j : In i (id ∷ [])). ⊎_elim (λ (same : i ≡ id). subst (λ (n : ℕ). In n drawn) (sym same) known) (λ (z : In i []). absurd (In-nil i z)) (In-cons i id [] j)) (In-append_cases i t.ids (id ∷ []) at);
+  opens = s.opens;
+  queue = s.queue;
+}
