@@ -24,3 +24,4 @@ pub mod ReplayLemmas
 pub mod FateLemmas
 pub mod ConservationLemmas
 pub mod TellingLemmas
+pub mod DistinctLemmas
