@@ -25,3 +25,4 @@ pub mod FateLemmas
 pub mod ConservationLemmas
 pub mod TellingLemmas
 pub mod DistinctLemmas
+pub mod AccountLemmas
