@@ -26,3 +26,4 @@ pub mod ConservationLemmas
 pub mod TellingLemmas
 pub mod DistinctLemmas
 pub mod AccountLemmas
+pub mod TakingLemmas
