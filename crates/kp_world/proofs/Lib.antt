@@ -27,3 +27,4 @@ pub mod TellingLemmas
 pub mod DistinctLemmas
 pub mod AccountLemmas
 pub mod TakingLemmas
+pub mod HandingLemmas

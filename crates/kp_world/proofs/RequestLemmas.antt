@@ -30,14 +30,14 @@ pub record Sent (ids : List ℕ) (t : Partition) (b : Batch) (handed : List Batc
   pub known : In b (grown_by b handed)
   pub same_ids : t'.ids ≡ t.ids
 
-grown_known : (b : Batch) (handed : List Batch) → b.number < length handed → grown_by b handed ≡ handed
+pub grown_known : (b : Batch) (handed : List Batch) → b.number < length handed → grown_by b handed ≡ handed
 grown_known b handed below = at_test (b.number == length handed) refl
   where
     at_test : (t : Bool) → (b.number == length handed) ≡ t → (if t then handed ++ b ∷ [] else handed) ≡ handed
     at_test true is = let same : b.number ≡ length handed = eqb-true b.number (length handed) is in absurd (omega arith)
     at_test false is = refl
 
-grown_new : (b : Batch) (handed : List Batch) → b.number ≡ length handed → grown_by b handed ≡ handed ++ b ∷ []
+pub grown_new : (b : Batch) (handed : List Batch) → b.number ≡ length handed → grown_by b handed ≡ handed ++ b ∷ []
 grown_new b handed same =
     ap (λ (t : Bool). if t then handed ++ b ∷ [] else handed) (eq-eqb b.number (length handed) same)
 
@@ -70,7 +70,7 @@ sent_new ids t b handed h t' s o =
 -- ---- all partitions
 
 -- a partition that is in the request has a batch there
-in_request : (now : ℕ) (s : Core) (xs : List Sending) (p : ℕ) → AllByRecursion (IsSent now s) xs → is_in p (partitions_in xs) ≡ true → (x : Sending) × IsSent now s x × (x.partition ≡ p)
+pub in_request : (now : ℕ) (s : Core) (xs : List Sending) (p : ℕ) → AllByRecursion (IsSent now s) xs → is_in p (partitions_in xs) ≡ true → (x : Sending) × IsSent now s x × (x.partition ≡ p)
 in_request now s [] p all e = absurd cc
 in_request now s (x ∷ xs) p all e = at_test (x.partition == p) refl e (λ (e' : is_in p (partitions_in xs) ≡ true). in_request now s xs p all.1 e')
   where
@@ -79,7 +79,7 @@ in_request now s (x ∷ xs) p all e = at_test (x.partition == p) refl e (λ (e' 
     at_test true is e' later = (x, all.0, eqb-true x.partition p is)
     at_test false is e' later = later e'
 
-only_this : (now : ℕ) (s : Core) (xs : List Sending) (x : Sending) → AllByRecursion (IsSent now s) xs → IsSent now s x → AllByRecursion (λ (y : Sending). y.partition ≡ x.partition → y.batch ≡ x.batch) xs
+pub only_this : (now : ℕ) (s : Core) (xs : List Sending) (x : Sending) → AllByRecursion (IsSent now s) xs → IsSent now s x → AllByRecursion (λ (y : Sending). y.partition ≡ x.partition → y.batch ≡ x.batch) xs
 only_this now s xs x all is = all_weaker (IsSent now s) (λ (y : Sending). y.partition ≡ x.partition → y.batch ≡ x.batch) one xs all
   where
     one : (y : Sending) → IsSent now s y → y.partition ≡ x.partition → y.batch ≡ x.batch
@@ -88,7 +88,7 @@ only_this now s xs x all is = all_weaker (IsSent now s) (λ (y : Sending). y.par
         let both : Some y.batch ≡ Some x.batch = sym mine ∙ is.sends in
         cc
 
-none_here : (now : ℕ) (s : Core) (p : ℕ) (b : Batch) (xs : List Sending) → is_in p (partitions_in xs) ≡ false → AllByRecursion (λ (y : Sending). y.partition ≡ p → y.batch ≡ b) xs
+pub none_here : (now : ℕ) (s : Core) (p : ℕ) (b : Batch) (xs : List Sending) → is_in p (partitions_in xs) ≡ false → AllByRecursion (λ (y : Sending). y.partition ≡ p → y.batch ≡ b) xs
 none_here now s p b [] e = tt
 none_here now s p b (x ∷ xs) e = at_test (x.partition == p) refl e (λ (e' : is_in p (partitions_in xs) ≡ false). none_here now s p b xs e')
   where
@@ -216,11 +216,11 @@ good_id now s logs handed packets replies ids p g = record {
   asked = λ q e. let asked : (record { correlation = s.correlation; sent = now; partition = p }) ≡ q = cc in let same : s.correlation ≡ q.correlation = ap (λ (x : IdRequest). x.correlation) asked in omega arith;
 }
 
-abbrev spent_step : World → Demand → Bool → Requested
+abbrev pub spent_step : World → Demand → Bool → Requested
 spent_step w d b =
     if b then nothing_out w.core (Err fault.CorrelationSpent) else goes_out w.moment w.core d
 
-abbrev end_step : World → Bool → Requested
+abbrev pub end_step : World → Bool → Requested
 end_step w b = if b then nothing_out w.core (Err fault.Ended) else requested_for w.moment w.core (next_demand w.moment w.core)
 
 pub good_sending : (w : World) → IsGood w → IsGood (sending w (requested w.moment w.core).after (requested w.moment w.core).answer)
