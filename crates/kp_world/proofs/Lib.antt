@@ -28,3 +28,4 @@ pub mod DistinctLemmas
 pub mod AccountLemmas
 pub mod TakingLemmas
 pub mod HandingLemmas
+pub mod AccountRunLemmas
