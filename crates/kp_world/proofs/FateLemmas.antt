@@ -124,7 +124,7 @@ rising_apart_back (x ∷ xs) ys h = both ys (rising_apart_back xs ys h.1) (all_b
 out_of_apart : (ys xs : List Item) → Apart xs ys → without ys xs ≡ xs
 out_of_apart ys xs h = filter_all (is_out ys) xs (all_weaker (λ i. has_number ys i.number ≡ false) (λ i. is_out ys i ≡ true) (λ i e. ap not e) xs h)
 
-in_itself : (xs : List Item) → AllByRecursion (λ i. has_number xs i.number ≡ true) xs
+pub in_itself : (xs : List Item) → AllByRecursion (λ i. has_number xs i.number ≡ true) xs
 in_itself [] = tt
 in_itself (x ∷ xs) = (
   ap (λ z. z || has_number xs x.number) (eq-eqb x.number x.number refl),

@@ -29,3 +29,4 @@ pub mod AccountLemmas
 pub mod TakingLemmas
 pub mod HandingLemmas
 pub mod AccountRunLemmas
+pub mod AccountedLemmas
