@@ -30,3 +30,5 @@ pub mod TakingLemmas
 pub mod HandingLemmas
 pub mod AccountRunLemmas
 pub mod AccountedLemmas
+pub mod GateLemmas
+pub mod AccountLaws

@@ -1,6 +1,6 @@
 -- What became of the items that were accepted: handed over, told, or still waiting.
-use Rattle.std.specs.Prelude.{◌≡◌, ℕ, Bool, true, false, List, map, filter, flat_map, drop, not, ◌==◌, ◌&&◌, ◌||◌}
-use Rattle.std.specs.List.{list_any}
+use Rattle.std.specs.Prelude.{◌≡◌, ℕ, Bool, true, false, List, map, filter, flat_map, length, drop, not, ◌==◌, ◌&&◌, ◌||◌}
+use Rattle.std.specs.List.{AllByRecursion, list_any, range_with_len}
 use Rattle.kp_accum.specs.declared.item.Item.{Item}
 use Rattle.kp_core.specs.declared.outcome.Outcome.{Outcome}
 use Rattle.kp_core.specs.declared.outcome.Outcome.TheVariants.{Unsent}
@@ -67,3 +67,13 @@ has_left w i = not (is_among i (told_unsent w)) && not (still_waits w i)
 abbrev pub AreAccountedFor : ℕ → ℕ → World → Type 0
 AreAccountedFor s p w =
     of_sender s (items_handed p w) ≡ filter (has_left w) (for_partition p (accepted_by s w))
+
+-- An item's number is its place among those that its sender had accepted for its partition.
+pub record ArePlaced (s p : ℕ) (w : World) : Type 0 where
+  pub senders : AllByRecursion (λ i. i.sender ≡ s) (accepted_by s w)
+  pub numbers : map (λ i. i.number) (for_partition p (accepted_by s w))
+      ≡ range_with_len 0 (length (for_partition p (accepted_by s w)))
+
+-- No item that was told Unsent was handed over.
+abbrev pub IsNeverSent : ℕ → World → Type 0
+IsNeverSent p w = AllByRecursion (λ i. is_among i (told_unsent w) ≡ false) (items_handed p w)
