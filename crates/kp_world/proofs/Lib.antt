@@ -21,3 +21,14 @@ pub mod GoodLemmas
 pub mod RequestLemmas
 pub mod DeliveryLemmas
 pub mod ReplayLemmas
+pub mod FateLemmas
+pub mod ConservationLemmas
+pub mod TellingLemmas
+pub mod DistinctLemmas
+pub mod AccountLemmas
+pub mod TakingLemmas
+pub mod HandingLemmas
+pub mod AccountRunLemmas
+pub mod AccountedLemmas
+pub mod GateLemmas
+pub mod AccountLaws

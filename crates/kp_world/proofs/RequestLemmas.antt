@@ -31,7 +31,7 @@ pub record Sent (ids : List ℕ) (t : Partition) (b : Batch) (handed : List Batc
   pub known : In b (grown_by b handed)
   pub same_ids : t'.ids ≡ t.ids
 
-grown_known : (b : Batch) (handed : List Batch) → b.number < length handed → grown_by b handed ≡ handed
+pub grown_known : (b : Batch) (handed : List Batch) → b.number < length handed → grown_by b handed ≡ handed
 grown_known b handed below = at_test (b.number == length handed) refl
   where
     at_test : (t : Bool) → (b.number == length handed) ≡ t → (if t then handed ++ b ∷ [] else handed) ≡ handed
@@ -39,7 +39,7 @@ grown_known b handed below = at_test (b.number == length handed) refl
         in absurd (omega arith)
     at_test false is = refl
 
-grown_new : (b : Batch) (handed : List Batch) → b.number ≡ length handed → grown_by b handed ≡ handed ++ b ∷ []
+pub grown_new : (b : Batch) (handed : List Batch) → b.number ≡ length handed → grown_by b handed ≡ handed ++ b ∷ []
 grown_new b handed same =
     ap (λ (t : Bool). if t then handed ++ b ∷ [] else handed) (eq-eqb b.number (length handed) same)
 
@@ -74,7 +74,7 @@ sent_new ids t b handed h t' s o =
 -- ---- all partitions
 
 -- a partition that is in the request has a batch there
-in_request : (now : ℕ) (s : Core) (xs : List Sending) (p : ℕ) → AllByRecursion (IsSent now s) xs
+pub in_request : (now : ℕ) (s : Core) (xs : List Sending) (p : ℕ) → AllByRecursion (IsSent now s) xs
     → is_in p (partitions_in xs) ≡ true → (x : Sending) × IsSent now s x × (x.partition ≡ p)
 in_request now s [] p all e = absurd cc
 in_request now s (x ∷ xs) p all e = at_test (x.partition == p) refl e
@@ -86,7 +86,7 @@ in_request now s (x ∷ xs) p all e = at_test (x.partition == p) refl e
     at_test true is e' later = (x, all.0, eqb-true x.partition p is)
     at_test false is e' later = later e'
 
-only_this : (now : ℕ) (s : Core) (xs : List Sending) (x : Sending)
+pub only_this : (now : ℕ) (s : Core) (xs : List Sending) (x : Sending)
     → AllByRecursion (IsSent now s) xs → IsSent now s x
     → AllByRecursion (λ (y : Sending). y.partition ≡ x.partition → y.batch ≡ x.batch) xs
 only_this now s xs x all is = all_weaker (IsSent now s) (λ (y : Sending). y.partition ≡ x.partition
@@ -100,7 +100,7 @@ only_this now s xs x all is = all_weaker (IsSent now s) (λ (y : Sending). y.par
         let both : Some y.batch ≡ Some x.batch = sym mine ∙ is.sends in
         cc
 
-none_here : (now : ℕ) (s : Core) (p : ℕ) (b : Batch) (xs : List Sending)
+pub none_here : (now : ℕ) (s : Core) (p : ℕ) (b : Batch) (xs : List Sending)
     → is_in p (partitions_in xs) ≡ false
     → AllByRecursion (λ (y : Sending). y.partition ≡ p → y.batch ≡ b) xs
 none_here now s p b [] e = tt
@@ -355,11 +355,11 @@ good_id now s logs handed packets replies ids p g = record {
       ≡ q.correlation = ap (λ (x : IdRequest). x.correlation) asked in omega arith;
 }
 
-abbrev spent_step : World → Demand → Bool → Requested
+abbrev pub spent_step : World → Demand → Bool → Requested
 spent_step w d b =
     if b then nothing_out w.core (Err fault.CorrelationSpent) else goes_out w.moment w.core d
 
-abbrev end_step : World → Bool → Requested
+abbrev pub end_step : World → Bool → Requested
 end_step w b = if b then nothing_out w.core (Err fault.Ended) else requested_for w.moment w.core
     (next_demand w.moment w.core)
 

@@ -31,7 +31,7 @@ pub record HandsOver (t t' : Partition) (b : Batch) : Type 0 where
   pub batch : b ≡ new_batch t front
   pub after_is : t' ≡ handed_over_in request t (front ∷ rest)
 
-find_open : (handed : List Batch) (os : List Open) (o : Open) → find is_waiting os ≡ Some o
+pub find_open : (handed : List Batch) (os : List Open) (o : Open) → find is_waiting os ≡ Some o
     → OpenIn handed os → In o.batch handed
 find_open handed [] o e h = absurd cc
 find_open handed (x ∷ os) o e h =
@@ -42,7 +42,7 @@ find_open handed (x ∷ os) o e h =
     at_test true same later = let is : x ≡ o = cc in subst (λ (y : Open). In y.batch handed) is h.0
     at_test false same later = later same
 
-opens_again : (k : ℕ) (handed : List Batch) (os : List Open) → OpenIn handed os → OpenIn handed (sent_again_in k os)
+pub opens_again : (k : ℕ) (handed : List Batch) (os : List Open) → OpenIn handed os → OpenIn handed (sent_again_in k os)
 unfolding sent_again_in
 opens_again k handed [] h = tt
 opens_again k handed (o ∷ os) h = at_test (is_waiting o) (opens_again k handed os h.1)

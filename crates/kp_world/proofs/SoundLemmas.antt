@@ -134,12 +134,12 @@ count_one_more id handed b same =
     let size : length (map body_of b.items) ≡ length b.items = length-map b.items body_of in
     omega (arith, parts, last, own, size)
 
-opens_more : (handed : List Batch) (b : Batch) (os : List Open) → OpenIn handed os → OpenIn (handed ++ b ∷ []) os
+pub opens_more : (handed : List Batch) (b : Batch) (os : List Open) → OpenIn handed os → OpenIn (handed ++ b ∷ []) os
 opens_more handed b os h = all_weaker (λ (o : Open). In o.batch handed)
     (λ (o : Open). In o.batch (handed ++ b ∷ [])) (λ o i. In-append_left o.batch handed (b ∷ []) i)
     os h
 
-opens_last : (handed : List Batch) (o : Open) (os : List Open) → In o.batch handed
+pub opens_last : (handed : List Batch) (o : Open) (os : List Open) → In o.batch handed
     → OpenIn handed os → OpenIn handed (os ++ o ∷ [])
 opens_last handed o [] i h = (i, tt)
 opens_last handed o (x ∷ os) i h = (h.0, opens_last handed o os i h.1)

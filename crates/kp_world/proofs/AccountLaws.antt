@@ -1,0 +1,40 @@
+-- The laws of every run on what was accepted.
+use Rattle.std.proofs.Common.{◌≡◌, ℕ, ◌<◌, List, [], length, replicate, map, refl, sym, ap, ◌∙◌, subst}
+use Rattle.std.specs.List.{AllByRecursion, range_with_len}
+use Rattle.std.proofs.lemmas.List.{length-replicate}
+use Rattle.kp_accum.specs.declared.config.Config.{Config}
+use Rattle.kp_accum.specs.declared.item.Item.{Item}
+use Rattle.kp_core.specs.Records.{Batch}
+use Rattle.kp_world.specs.declared.event.Event.{Event}
+use Rattle.kp_world.specs.Accepting.{accepted_by, for_partition}
+use Rattle.kp_world.specs.Accounts.{AreAccountedFor, ArePlaced, IsNeverSent}
+use Rattle.kp_world.specs.Run.{Run, IsReached}
+use Rattle.kp_world.specs.World.{World, opening}
+use Rattle.kp_world.proofs.AccountLemmas.{IsAccounted}
+use Rattle.kp_world.proofs.AccountRunLemmas.{accounts_run, accounts_opening}
+use Rattle.kp_world.proofs.AccountedLemmas.{accounted_for, handed_is_sent, numbers_are}
+use Rattle.kp_world.proofs.GateLemmas.{follows_run}
+
+reached : (c : Config) (partitions senders : ℕ) (es : List Event) (w : World) → IsReached c partitions senders es w → IsAccounted w
+reached c partitions senders es w r = accounts_run es (opening c partitions senders) w r.run (accounts_opening c partitions senders)
+
+handed_count : (c : Config) (partitions senders : ℕ) → length (opening c partitions senders).handed ≡ partitions
+unfolding opening
+handed_count c partitions senders = length-replicate {A = List Batch} partitions []
+
+within : (c : Config) (partitions senders : ℕ) (es : List Event) (w : World) (p : ℕ) → IsReached c partitions senders es w → p < partitions → p < length w.core.partitions
+within c partitions senders es w p r l =
+    let a = reached c partitions senders es w r in
+    let count : length w.core.partitions ≡ partitions = sym a.handed_count ∙ (follows_run es (opening c partitions senders) w r.run).count ∙ handed_count c partitions senders in
+    subst (λ (n : ℕ). p < n) (sym count) l
+
+pub accounted : (c : Config) (partitions senders : ℕ) (es : List Event) (w : World) (s p : ℕ) → IsReached c partitions senders es w → p < partitions → AreAccountedFor s p w
+accounted c partitions senders es w s p r l = accounted_for s p w (reached c partitions senders es w r) (within c partitions senders es w p r l)
+
+pub placed : (c : Config) (partitions senders : ℕ) (es : List Event) (w : World) (s p : ℕ) → IsReached c partitions senders es w → ArePlaced s p w
+placed c partitions senders es w s p r =
+    let a = (reached c partitions senders es w r).senders s in
+    record { senders = a.own; numbers = numbers_are 0 (for_partition p (accepted_by s w)) (a.numbered p) }
+
+pub never_sent : (c : Config) (partitions senders : ℕ) (es : List Event) (w : World) (p : ℕ) → IsReached c partitions senders es w → p < partitions → IsNeverSent p w
+never_sent c partitions senders es w p r l = handed_is_sent p w (reached c partitions senders es w r) (within c partitions senders es w p r l)

@@ -1,0 +1,260 @@
+-- What a rule does to the items of a partition: it tells some of those that were not told, and keeps
+-- the others in order.
+use Rattle.std.proofs.Common.{◌≡◌, ℕ, zero, suc, ◌+◌, ◌<◌, ◌≤◌, Bool, true, false, not, cond, List, [], ◌∷◌, ◌++◌, length, get_or, map, ℤ, pos, Some, None, refl, sym, ap, ◌∙◌, subst, arith, append_assoc}
+use Rattle.std.specs.Prelude.{Option, if◌then◌else◌, find, flat_map, ◌+ℤ◌, ◌==◌, ◌||◌}
+use Rattle.std.specs.List.{AllByRecursion, filter, list_any, enumerate_from}
+use Rattle.std.proofs.lemmas.Bool.{eqb-true, eq-eqb}
+use Rattle.std.proofs.lemmas.List.{append-nil, map-append}
+use Rattle.std.proofs.lemmas.List.Concat.{flat_map-append}
+use Rattle.std.proofs.lemmas.List.Elements.{filter-append}
+use Rattle.kp_accum.specs.declared.config.Config.{Config}
+use Rattle.kp_accum.specs.declared.item.Item.{Item}
+use Rattle.kp_accum.specs.Queue.{Pending, marked_by_flush}
+use Rattle.kp_accum.specs.Ready.{is_late}
+use Rattle.kp_frames.specs.declared.produce.PartitionProduceResponse.{PartitionProduceResponse}
+use Rattle.kp_core.specs.declared.outcome.Outcome.{Outcome}
+use Rattle.kp_core.specs.declared.outcome.Outcome.TheVariants.{Unknown, DeliveredNoOffset, Delivered, Rejected, Unsent}
+use Rattle.kp_core.specs.declared.outcome.Reason.{Reason}
+use Rattle.kp_core.specs.declared.outcome.Reason.TheVariants as reason
+use Rattle.kp_core.specs.declared.verdict.Verdict.{Verdict}
+use Rattle.kp_core.specs.declared.verdict.Verdict.TheVariants.{Stored, Duplicate, Retry, Reject}
+use Rattle.kp_core.specs.declared.attempt.Attempt.TheVariants.{Waiting}
+use Rattle.kp_core.specs.Answered.{without_attempt, acknowledged, to_retry, waiting_since, settled, answered_if, answered, verdict_of}
+use Rattle.kp_core.specs.Attempts.{awaits, awaiting, dropped_batch, without_attempts}
+use Rattle.kp_core.specs.Fence.{told_given_up, emptied, fenced, given_up}
+use Rattle.kp_core.specs.Flush.{marked_open, with_marks}
+use Rattle.kp_core.specs.Partitions.{items_open, items_queued, untold}
+use Rattle.kp_core.specs.Records.{Batch, Open, Partition, Told, Effect}
+use Rattle.kp_core.specs.Telling.{told_all, told_offsets}
+use Rattle.kp_core.specs.Tick.{late_front, behind_late, expired_front, is_open_late, passed}
+use Rattle.kp_world.specs.Accounts.{is_unsent, unsent_among}
+use Rattle.kp_world.proofs.FateLemmas.{all_both, all_front, all_back}
+
+-- ---- what is told
+
+abbrev pub items_told : List Told → List Item
+items_told told = map (λ t. t.item) told
+
+abbrev told_as : Outcome → Item → Told
+told_as outcome i = record { item = i; outcome = outcome }
+
+pub told_all_items : (outcome : Outcome) (items : List Item) → items_told (told_all outcome items) ≡ items
+told_all_items outcome [] = refl
+told_all_items outcome (i ∷ items) = ap (λ r. i ∷ r) (told_all_items outcome items)
+
+pub told_offsets_items : (g : ℕ → Outcome) (n : ℕ) (items : List Item) → items_told (map (λ (x : ℕ × Item). told_as (g x.0) x.1) (enumerate_from n items)) ≡ items
+told_offsets_items g n [] = refl
+told_offsets_items g n (i ∷ items) = ap (λ r. i ∷ r) (told_offsets_items g (n + 1) items)
+
+pub unsent_all : (outcome : Outcome) (items : List Item) → is_unsent outcome ≡ true → unsent_among (told_all outcome items) ≡ items
+unsent_all outcome [] e = refl
+unsent_all outcome (i ∷ items) e =
+    ap (λ b. map (λ (t : Told). t.item) (cond b (told_as outcome i ∷ filter (λ t. is_unsent t.outcome) (told_all outcome items)) (filter (λ t. is_unsent t.outcome) (told_all outcome items)))) e
+    ∙ ap (λ r. i ∷ r) (unsent_all outcome items e)
+
+pub unsent_none : (outcome : Outcome) (items : List Item) → is_unsent outcome ≡ false → unsent_among (told_all outcome items) ≡ []
+unsent_none outcome [] e = refl
+unsent_none outcome (i ∷ items) e =
+    ap (λ b. map (λ (t : Told). t.item) (cond b (told_as outcome i ∷ filter (λ t. is_unsent t.outcome) (told_all outcome items)) (filter (λ t. is_unsent t.outcome) (told_all outcome items)))) e
+    ∙ unsent_none outcome items e
+
+unsent_offsets : (g : ℕ → Outcome) → ((k : ℕ) → is_unsent (g k) ≡ false) → (n : ℕ) (items : List Item)
+    → unsent_among (map (λ (x : ℕ × Item). told_as (g x.0) x.1) (enumerate_from n items)) ≡ []
+unsent_offsets g f n [] = refl
+unsent_offsets g f n (i ∷ items) =
+    let rest = map (λ (x : ℕ × Item). told_as (g x.0) x.1) (enumerate_from (n + 1) items) in
+    ap (λ b. map (λ (t : Told). t.item) (cond b (told_as (g n) i ∷ filter (λ t. is_unsent t.outcome) rest) (filter (λ t. is_unsent t.outcome) rest))) (f n)
+    ∙ unsent_offsets g f (n + 1) items
+
+pub unsent-append : (a b : List Told) → unsent_among (a ++ b) ≡ unsent_among a ++ unsent_among b
+unsent-append a b =
+    ap (map (λ (t : Told). t.item)) (filter-append (λ (t : Told). is_unsent t.outcome) a b)
+    ∙ map-append (λ (t : Told). t.item) (filter (λ (t : Told). is_unsent t.outcome) a) (filter (λ (t : Told). is_unsent t.outcome) b)
+
+-- ---- the items of open batches
+
+open_map : (f : Open → Open) → ((o : Open) → (f o).batch ≡ o.batch) → (os : List Open) → items_open (map f os) ≡ items_open os
+open_map f same [] = refl
+open_map f same (o ∷ os) = ap (λ (b : Batch). b.items ++ items_open (map f os)) (same o) ∙ ap (λ r. o.batch.items ++ r) (open_map f same os)
+
+all_open_filter : (P : Item → Type 0) (test : Open → Bool) (os : List Open) → AllByRecursion P (items_open os) → AllByRecursion P (items_open (filter test os))
+all_open_filter P test [] h = tt
+all_open_filter P test (o ∷ os) h = at_test (test o) (all_open_filter P test os (all_back P o.batch.items (items_open os) h))
+  where
+    at_test : (b : Bool) → AllByRecursion P (items_open (filter test os)) → AllByRecursion P (items_open (cond b (o ∷ filter test os) (filter test os)))
+    at_test true rest = all_both P o.batch.items (items_open (filter test os)) (all_front P o.batch.items (items_open os) h) rest
+    at_test false rest = rest
+
+all_open_find : (P : Item → Type 0) (test : Open → Bool) (os : List Open) (o : Open) → find test os ≡ Some o → AllByRecursion P (items_open os) → AllByRecursion P o.batch.items
+all_open_find P test [] o e h = absurd cc
+all_open_find P test (x ∷ os) o e h = at_test (test x) e (λ (e' : find test os ≡ Some o). all_open_find P test os o e' (all_back P x.batch.items (items_open os) h))
+  where
+    at_test : (b : Bool) → cond b (Some x) (find test os) ≡ Some o → (find test os ≡ Some o → AllByRecursion P o.batch.items) → AllByRecursion P o.batch.items
+    at_test true same later = let is : x ≡ o = cc in subst (λ (y : Open). AllByRecursion P y.batch.items) is (all_front P x.batch.items (items_open os) h)
+    at_test false same later = later same
+
+-- ---- one partition
+
+-- The queue is what is told Unsent and, behind it, what is queued then; what is told, and what is
+-- left, are of those that were not told.
+pub record Tells (t : Partition) (told : List Told) (t' : Partition) : Type 1 where
+  pub queue : items_queued t.queue ≡ unsent_among told ++ items_queued t'.queue
+  pub told_from : (P : Item → Type 0) → AllByRecursion P (untold t) → AllByRecursion P (items_told told)
+  pub left_from : (P : Item → Type 0) → AllByRecursion P (untold t) → AllByRecursion P (untold t')
+
+pub tells_nothing : (t : Partition) → Tells t [] t
+tells_nothing t = record { queue = refl; told_from = λ P h. tt; left_from = λ P h. h }
+
+pub tells_dropped : (now : ℕ) (t : Partition) → Tells t [] (without_attempts now t)
+unfolding untold
+tells_dropped now t = record {
+  queue = refl;
+  told_from = λ P h. tt;
+  left_from = λ P h. subst (λ r. AllByRecursion P (r ++ items_queued t.queue)) (sym (open_map (dropped_batch now) (λ o. refl) t.open_batches)) h;
+}
+
+queued_map : (q : List Pending) → items_queued (map marked_by_flush q) ≡ items_queued q
+queued_map [] = refl
+queued_map (b ∷ q) = ap (λ r. b.items ++ r) (queued_map q)
+
+pub tells_marked : (t : Partition) → Tells t [] (with_marks t)
+unfolding untold
+tells_marked t = record {
+  queue = sym (queued_map t.queue);
+  told_from = λ P h. tt;
+  left_from = λ P h. subst (AllByRecursion P) (sym (ap (λ r. r ++ items_queued (map marked_by_flush t.queue)) (open_map marked_open (λ o. refl) t.open_batches) ∙ ap (λ r. items_open t.open_batches ++ r) (queued_map t.queue))) h;
+}
+
+-- ---- giving up
+
+given_up_items : (why : Reason) (t : Partition) → items_told (told_given_up why t) ≡ items_open t.open_batches ++ items_queued t.queue
+given_up_items why t =
+    map-append (λ (x : Told). x.item) (told_all Unknown (items_open t.open_batches)) (told_all (Unsent why) (items_queued t.queue))
+    ∙ ap (λ r. r ++ items_told (told_all (Unsent why) (items_queued t.queue))) (told_all_items Unknown (items_open t.open_batches))
+    ∙ ap (λ r. items_open t.open_batches ++ r) (told_all_items (Unsent why) (items_queued t.queue))
+
+given_up_unsent : (why : Reason) (t : Partition) → unsent_among (told_given_up why t) ≡ items_queued t.queue
+given_up_unsent why t =
+    unsent-append (told_all Unknown (items_open t.open_batches)) (told_all (Unsent why) (items_queued t.queue))
+    ∙ ap (λ r. r ++ unsent_among (told_all (Unsent why) (items_queued t.queue))) (unsent_none Unknown (items_open t.open_batches) refl)
+    ∙ unsent_all (Unsent why) (items_queued t.queue) refl
+
+pub tells_fenced : (t : Partition) → Tells t (fenced t).told (fenced t).after
+unfolding fenced untold
+tells_fenced t = record {
+  queue = sym (append-nil (unsent_among (told_given_up reason.Fenced t)) ∙ given_up_unsent reason.Fenced t);
+  told_from = λ P h. subst (AllByRecursion P) (sym (given_up_items reason.Fenced t)) h;
+  left_from = λ P h. tt;
+}
+
+pub tells_given_up : (t : Partition) → Tells t (given_up t).told (given_up t).after
+unfolding given_up untold
+tells_given_up t = record {
+  queue = sym (append-nil (unsent_among (told_given_up reason.Ended t)) ∙ given_up_unsent reason.Ended t);
+  told_from = λ P h. subst (AllByRecursion P) (sym (given_up_items reason.Ended t)) h;
+  left_from = λ P h. tt;
+}
+
+-- ---- expiry
+
+pub late_and_behind : (c : Config) (now : ℕ) (q : List Pending) → items_queued q ≡ items_queued (late_front c now q) ++ items_queued (behind_late c now q)
+unfolding late_front behind_late
+late_and_behind c now [] = refl
+late_and_behind c now (b ∷ q) = at_test (is_late c now b) (late_and_behind c now q)
+  where
+    at_test : (late : Bool) → items_queued q ≡ items_queued (late_front c now q) ++ items_queued (behind_late c now q)
+        → items_queued (b ∷ q) ≡ items_queued (if late then b ∷ late_front c now q else []) ++ items_queued (if late then behind_late c now q else b ∷ q)
+    at_test true e = ap (λ r. b.items ++ r) e ∙ sym (append_assoc b.items (items_queued (late_front c now q)) (items_queued (behind_late c now q)))
+    at_test false e = refl
+
+tells_expired : (c : Config) (now : ℕ) (t : Partition) → Tells t (expired_front c now t).told (expired_front c now t).after
+unfolding untold
+tells_expired c now t =
+    let late = items_queued (late_front c now t.queue) in
+    let behind = items_queued (behind_late c now t.queue) in
+    let split : items_queued t.queue ≡ late ++ behind = late_and_behind c now t.queue in
+    record {
+      queue = split ∙ ap (λ r. r ++ behind) (sym (unsent_all (Unsent reason.Expired) late refl));
+      told_from = λ P h. subst (AllByRecursion P) (sym (told_all_items (Unsent reason.Expired) late)) (all_front P late behind (subst (AllByRecursion P) split (all_back P (items_open t.open_batches) (items_queued t.queue) h)));
+      left_from = λ P h. all_both P (items_open t.open_batches) behind (all_front P (items_open t.open_batches) (items_queued t.queue) h) (all_back P late behind (subst (AllByRecursion P) split (all_back P (items_open t.open_batches) (items_queued t.queue) h)));
+    }
+
+pub tells_passed : (c : Config) (now : ℕ) (t : Partition) → Tells t (passed c now t).told (passed c now t).after
+unfolding passed
+tells_passed c now t = at_test (list_any (is_open_late c now) t.open_batches)
+  where
+    at_test : (late : Bool) → Tells t (if late then fenced t else expired_front c now t).told (if late then fenced t else expired_front c now t).after
+    at_test true = tells_fenced t
+    at_test false = tells_expired c now t
+
+-- ---- an answer
+
+same_waiting : (now k : ℕ) (o : Open) → (waiting_since now k o).batch ≡ o.batch
+same_waiting now k o = at_test (awaits k o)
+  where
+    at_test : (b : Bool) → (if b then (record o { attempt = Waiting now }) else o).batch ≡ o.batch
+    at_test true = refl
+    at_test false = refl
+
+tells_retry : (now k : ℕ) (t : Partition) → Tells t [] (to_retry now k t).after
+unfolding untold
+tells_retry now k t = record {
+  queue = refl;
+  told_from = λ P h. tt;
+  left_from = λ P h. subst (λ r. AllByRecursion P (r ++ items_queued t.queue)) (sym (open_map (waiting_since now k) (same_waiting now k) t.open_batches)) h;
+}
+
+tells_without : (k : ℕ) (t : Partition) (o : Open) (told : List Told) → awaiting k t ≡ Some o → unsent_among told ≡ [] → items_told told ≡ o.batch.items
+    → Tells t told (without_attempt k t)
+unfolding untold
+tells_without k t o told at none items = record {
+  queue = sym (ap (λ r. r ++ items_queued t.queue) none);
+  told_from = λ P h. subst (AllByRecursion P) (sym items) (all_open_find P (awaits k) t.open_batches o at (all_front P (items_open t.open_batches) (items_queued t.queue) h));
+  left_from = λ P h. all_both P (items_open (without_attempt k t).open_batches) (items_queued t.queue)
+      (all_open_filter P (λ x. not (awaits k x)) t.open_batches (all_front P (items_open t.open_batches) (items_queued t.queue) h))
+      (all_back P (items_open t.open_batches) (items_queued t.queue) h);
+}
+
+tells_both : (t u v : Partition) (a b : List Told) → unsent_among a ≡ [] → items_queued t.queue ≡ items_queued u.queue → Tells t a u → Tells u b v → Tells t (a ++ b) v
+tells_both t u v a b none same c d = record {
+  queue = same ∙ d.queue ∙ ap (λ r. r ++ items_queued v.queue) (sym (unsent-append a b ∙ ap (λ r. r ++ unsent_among b) none));
+  told_from = λ P h. subst (AllByRecursion P) (sym (map-append (λ (x : Told). x.item) a b)) (all_both P (items_told a) (items_told b) (c.told_from P h) (d.told_from P (c.left_from P h)));
+  left_from = λ P h. d.left_from P (c.left_from P h);
+}
+
+acknowledged_as : (t : Partition) (told : List Told) (u v : Partition) → u.queue ≡ v.queue → u.open_batches ≡ v.open_batches → Tells t told u → Tells t told v
+unfolding untold
+acknowledged_as t told u v queue opens c = record {
+  queue = c.queue ∙ ap (λ (q : List Pending). unsent_among told ++ items_queued q) queue;
+  told_from = c.told_from;
+  left_from = λ P h. subst (AllByRecursion P) (ap (λ (os : List Open). items_open os ++ items_queued u.queue) opens ∙ ap (λ (q : List Pending). items_open v.open_batches ++ items_queued q) queue) (c.left_from P h);
+}
+
+pub tells_answered : (now k : ℕ) (t : Partition) (a : PartitionProduceResponse) → Tells t (answered now k t a).told (answered now k t a).after
+unfolding answered
+tells_answered now k t a = at_option (awaiting k t) refl
+  where
+    u : Partition
+    u = without_attempt k t
+
+    at_verdict : (o : Open) → awaiting k t ≡ Some o → (v : Verdict) → Tells t (settled now k t o a v).told (settled now k t o a v).after
+    at_verdict o at Stored =
+        let told = told_offsets a.base_offset o.batch.items in
+        let offset : ℕ → Outcome = λ n. Delivered (a.base_offset +ℤ pos n) in
+        acknowledged_as t told (without_attempt k t) (acknowledged k t o told).after refl refl
+        (tells_without k t o told at (unsent_offsets offset (λ n. refl) 0 o.batch.items) (told_offsets_items offset 0 o.batch.items))
+    at_verdict o at Duplicate =
+        let told = told_all DeliveredNoOffset o.batch.items in
+        acknowledged_as t told (without_attempt k t) (acknowledged k t o told).after refl refl
+        (tells_without k t o told at (unsent_none DeliveredNoOffset o.batch.items refl) (told_all_items DeliveredNoOffset o.batch.items))
+    at_verdict o at Retry = tells_retry now k t
+    at_verdict o at Reject =
+        let told = told_all (Rejected a.error_code) o.batch.items in
+        let none = unsent_none (Rejected a.error_code) o.batch.items refl in
+        tells_both t (without_attempt k t) (fenced (without_attempt k t)).after told (fenced (without_attempt k t)).told none refl
+        (tells_without k t o told at none (told_all_items (Rejected a.error_code) o.batch.items))
+        (tells_fenced (without_attempt k t))
+
+    at_option : (o : Option Open) → awaiting k t ≡ o → Tells t (answered_if now k t a o).told (answered_if now k t a o).after
+    at_option None at = tells_nothing t
+    at_option (Some o) at = at_verdict o at (verdict_of a.error_code)

@@ -1,0 +1,144 @@
+-- The partitions of a request are distinct.
+use Rattle.std.proofs.Common.{◌≡◌, ℕ, zero, suc, ◌+◌, ◌-◌, ◌<◌, ◌≤◌, Bool, true, false, cond, List, [], ◌∷◌, ◌++◌, length, take, drop, map, Some, None, refl, sym, ap, ◌∙◌, subst, arith}
+use Rattle.std.specs.Prelude.{Option, if◌then◌else◌, option_map, filter_map, nat_le, ◌==◌, ◌||◌}
+use Rattle.std.specs.List.{AllByRecursion, cons_option, enumerate_from}
+use Rattle.std.proofs.lemmas.Bool.{eqb-true}
+use Rattle.std.proofs.lemmas.List.{take-append-drop}
+use Rattle.kp_accum.specs.Queue.{size_of}
+use Rattle.kp_core.specs.Attempts.{has_window}
+use Rattle.kp_core.specs.MaySend.{sends}
+use Rattle.kp_core.specs.Next.{Sending, Demand, Produce, InitProducerId, flags_of, turned, used_up_to, in_turn, sending_of, fitting, next_batches, next_asking, produce_of, demand_of, next_demand}
+use Rattle.kp_core.specs.Partitions.{is_in}
+use Rattle.kp_core.specs.Records.{Batch, Partition, Core}
+use Rattle.kp_core.specs.Requesting.{partitions_in}
+use Rattle.kp_world.proofs.FateLemmas.{all_both, all_front, all_back, all_weaker, all_say}
+use Rattle.kp_world.proofs.TellingLemmas.{Distinct}
+
+-- ---- lists of which no two have one key
+
+abbrev Differ : {A : Type 0} (key : A → ℕ) → A → A → Type 0
+Differ key x y = key x ≡ key y → ⊥
+
+abbrev Apart : {A : Type 0} (key : A → ℕ) → List A → Type 0
+Apart key [] = Unit {0}
+Apart key (x ∷ xs) = AllByRecursion (Differ key x) xs × Apart key xs
+
+apart_front : {A : Type 0} (key : A → ℕ) (xs ys : List A) → Apart key (xs ++ ys) → Apart key xs
+apart_front key [] ys h = tt
+apart_front key (x ∷ xs) ys h = (all_front (Differ key x) xs ys h.0, apart_front key xs ys h.1)
+
+apart_last : {A : Type 0} (key : A → ℕ) (ys : List A) (x : A) (xs : List A) → AllByRecursion (Differ key x) ys → AllByRecursion (Differ key x) xs → Apart key (ys ++ xs) → Apart key (ys ++ x ∷ xs)
+apart_last key [] x xs a b h = (b, h)
+apart_last key (y ∷ ys) x xs a b h = (
+  all_both (Differ key y) ys (x ∷ xs) (all_front (Differ key y) ys xs h.0) ((λ (e : key y ≡ key x). a.0 (sym e)), all_back (Differ key y) ys xs h.0),
+  apart_last key ys x xs a.1 b h.1,
+)
+
+-- what stands first may stand last
+apart_turned : {A : Type 0} (key : A → ℕ) (xs ys : List A) → Apart key (xs ++ ys) → Apart key (ys ++ xs)
+apart_turned key [] ys h = behind ys h
+  where
+    behind : (ys : List _) → Apart key ys → Apart key (ys ++ [])
+    behind [] h = tt
+    behind (y ∷ ys) h = (all_both (Differ key y) ys [] h.0 tt, behind ys h.1)
+apart_turned key (x ∷ xs) ys h = apart_last key ys x xs (all_back (Differ key x) xs ys h.0) (all_front (Differ key x) xs ys h.0) (apart_turned key xs ys h.1)
+
+places_from : (k : ℕ) (xs : List Partition) → AllByRecursion (λ (y : ℕ × Partition). k ≤ y.0) (enumerate_from k xs)
+places_from k [] = tt
+places_from k (x ∷ xs) = (omega arith, all_weaker (λ (y : ℕ × Partition). k + 1 ≤ y.0) (λ (y : ℕ × Partition). k ≤ y.0) (λ y h. omega (arith, h)) (enumerate_from (k + 1) xs) (places_from (k + 1) xs))
+
+places_apart : (k : ℕ) (xs : List Partition) → Apart (λ (y : ℕ × Partition). y.0) (enumerate_from k xs)
+places_apart k [] = tt
+places_apart k (x ∷ xs) = (
+  all_weaker (λ (y : ℕ × Partition). k + 1 ≤ y.0) (λ (y : ℕ × Partition). k ≡ y.0 → ⊥) (λ y h e. omega (arith, h, e)) (enumerate_from (k + 1) xs) (places_from (k + 1) xs),
+  places_apart (k + 1) xs,
+)
+
+-- ---- the batches of a request
+
+abbrev place : ℕ × Partition → ℕ
+place y = y.0
+
+abbrev partition_of : Sending → ℕ
+partition_of x = x.partition
+
+sending_place : (now : ℕ) (s : Core) (y : ℕ × Partition) (x : Sending) → sending_of s now y ≡ Some x → x.partition ≡ y.0
+sending_place now s y x e = at_option (sends s.config (flags_of s) now y.1) e
+  where
+    at_option : (o : Option Batch) → option_map (λ b. record { partition = y.0; batch = b }) o ≡ Some x → x.partition ≡ y.0
+    at_option None e' = absurd cc
+    at_option (Some b) e' = let made : (record { partition = y.0; batch = b }) ≡ x = cc in sym (ap (λ (z : Sending). z.partition) made)
+
+differ_all : (now : ℕ) (s : Core) (y : ℕ × Partition) (x : Sending) → x.partition ≡ y.0 → (ys : List (ℕ × Partition)) → AllByRecursion (Differ place y) ys
+    → AllByRecursion (Differ partition_of x) (filter_map (sending_of s now) ys)
+differ_all now s y x e [] h = tt
+differ_all now s y x e (z ∷ ys) h = at_option (sending_of s now z) refl (differ_all now s y x e ys h.1)
+  where
+    at_option : (o : Option Sending) → sending_of s now z ≡ o → AllByRecursion (Differ partition_of x) (filter_map (sending_of s now) ys)
+        → AllByRecursion (Differ partition_of x) (cons_option o (filter_map (sending_of s now) ys))
+    at_option None is rest = rest
+    at_option (Some u) is rest = ((λ (same : x.partition ≡ u.partition). h.0 (sym e ∙ same ∙ sending_place now s z u is)), rest)
+
+sendings_apart : (now : ℕ) (s : Core) (ys : List (ℕ × Partition)) → Apart place ys → Apart partition_of (filter_map (sending_of s now) ys)
+sendings_apart now s [] h = tt
+sendings_apart now s (y ∷ ys) h = at_option (sending_of s now y) refl (sendings_apart now s ys h.1)
+  where
+    at_option : (o : Option Sending) → sending_of s now y ≡ o → Apart partition_of (filter_map (sending_of s now) ys)
+        → Apart partition_of (cons_option o (filter_map (sending_of s now) ys))
+    at_option None is rest = rest
+    at_option (Some x) is rest = (differ_all now s y x (sending_place now s y x is) ys h.0, rest)
+
+all_fitting : (P : Sending → Type 0) (room : ℕ) (xs : List Sending) → AllByRecursion P xs → AllByRecursion P (fitting room xs)
+unfolding fitting
+all_fitting P room [] h = tt
+all_fitting P room (x ∷ xs) h = at_test (nat_le (size_of x.batch.items) room) (all_fitting P (room - size_of x.batch.items) xs h.1)
+  where
+    at_test : (b : Bool) → AllByRecursion P (fitting (room - size_of x.batch.items) xs) → AllByRecursion P (if b then x ∷ fitting (room - size_of x.batch.items) xs else [])
+    at_test true rest = (h.0, rest)
+    at_test false rest = tt
+
+fitting_apart : (room : ℕ) (xs : List Sending) → Apart partition_of xs → Apart partition_of (fitting room xs)
+unfolding fitting
+fitting_apart room [] h = tt
+fitting_apart room (x ∷ xs) h = at_test (nat_le (size_of x.batch.items) room) (all_fitting (Differ partition_of x) (room - size_of x.batch.items) xs h.0) (fitting_apart (room - size_of x.batch.items) xs h.1)
+  where
+    at_test : (b : Bool) → AllByRecursion (Differ partition_of x) (fitting (room - size_of x.batch.items) xs) → Apart partition_of (fitting (room - size_of x.batch.items) xs)
+        → Apart partition_of (if b then x ∷ fitting (room - size_of x.batch.items) xs else [])
+    at_test true all rest = (all, rest)
+    at_test false all rest = tt
+
+not_among : (x : Sending) (xs : List Sending) → AllByRecursion (Differ partition_of x) xs → is_in x.partition (partitions_in xs) ≡ false
+not_among x [] h = refl
+not_among x (y ∷ xs) h = ap (λ (b : Bool). b || is_in x.partition (partitions_in xs)) (at_test (y.partition == x.partition) refl) ∙ not_among x xs h.1
+  where
+    at_test : (b : Bool) → (y.partition == x.partition) ≡ b → b ≡ false
+    at_test true is = absurd (h.0 (sym (eqb-true y.partition x.partition is)))
+    at_test false is = refl
+
+distinct : (xs : List Sending) → Apart partition_of xs → Distinct (partitions_in xs)
+distinct [] h = tt
+distinct (x ∷ xs) h = (not_among x xs h.0, distinct xs h.1)
+
+batches_apart : (now : ℕ) (s : Core) → Apart partition_of (next_batches now s)
+unfolding next_batches
+batches_apart now s =
+    let n = used_up_to s.last_used in
+    let all : List (ℕ × Partition) = enumerate_from 0 s.partitions in
+    let whole : Apart place (take n all ++ drop n all) = subst (Apart place) (sym (take-append-drop n all)) (places_apart 0 s.partitions) in
+    fitting_apart s.config.max_request_size (filter_map (sending_of s now) (in_turn s)) (sendings_apart now s (in_turn s) (apart_turned place (take n all) (drop n all) whole))
+
+pub demand_is_distinct : (now : ℕ) (s : Core) (xs : List Sending) → next_demand now s ≡ Some (Produce xs) → Distinct (partitions_in xs)
+unfolding next_demand
+demand_is_distinct now s xs e = at_window (has_window s) e
+  where
+    at_batches : (ys : List Sending) → Apart partition_of ys → produce_of ys ≡ Some (Produce xs) → Distinct (partitions_in xs)
+    at_batches [] all e' = absurd cc
+    at_batches (y ∷ ys) all e' = let same : y ∷ ys ≡ xs = cc in distinct xs (subst (Apart partition_of) same all)
+
+    at_asking : (o : Option ℕ) → demand_of now s o ≡ Some (Produce xs) → Distinct (partitions_in xs)
+    at_asking None e' = at_batches (next_batches now s) (batches_apart now s) e'
+    at_asking (Some p) e' = absurd cc
+
+    at_window : (b : Bool) → (if b then demand_of now s (next_asking now s) else None) ≡ Some (Produce xs) → Distinct (partitions_in xs)
+    at_window true e' = at_asking (next_asking now s) e'
+    at_window false e' = absurd cc

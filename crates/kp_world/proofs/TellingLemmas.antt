@@ -1,0 +1,384 @@
+-- What a call on the core tells of each partition's items, and what it keeps.
+use Rattle.std.proofs.Common.{◌≡◌, ℕ, zero, suc, ◌+◌, ◌<◌, ◌≤◌, Bool, true, false, cond, List, [], ◌∷◌, ◌++◌, length, get_or, map, pos, Some, None, refl, sym, ap, ◌∙◌, subst, arith, append_assoc}
+use Rattle.std.specs.Prelude.{Option, if◌then◌else◌, find, flat_map, nat_abs, ◌==◌, ◌||◌}
+use Rattle.std.specs.List.{AllByRecursion, filter}
+use Rattle.std.specs.Ordering.{int_eq}
+use Rattle.std.proofs.lemmas.Bool.{eqb-true, eq-eqb}
+use Rattle.std.proofs.lemmas.List.{append-nil, get_or-map, length-map}
+use Rattle.std.proofs.lemmas.List.Elements.{filter-append}
+use Rattle.kp_accum.specs.declared.item.Item.{Item}
+use Rattle.kp_frames.specs.declared.fault.FrameFault.TheVariants.{Mismatch}
+use Rattle.kp_frames.specs.declared.producer_id.InitProducerIdResponse.{InitProducerIdResponse}
+use Rattle.kp_frames.specs.declared.response.Response.{Response}
+use Rattle.kp_frames.specs.declared.response.ResponseBody.{ResponseBody}
+use Rattle.kp_frames.specs.declared.response.ResponseBody.TheVariants.{Produce, Metadata, InitProducerId}
+use Rattle.kp_core.specs.Attempts.{without_attempts, dropped, is_live}
+use Rattle.kp_core.specs.Awaited.{Awaited, Nothing, Batches, Id, id_awaited, or_id, awaited}
+use Rattle.kp_core.specs.Fence.{given_up, end_of, ended}
+use Rattle.kp_core.specs.Flush.{with_marks, flushed}
+use Rattle.kp_core.specs.MaySend.{wants_id}
+use Rattle.kp_core.specs.Mismatch.{Answers, answers_for, answers_of, answer_batches, is_given, answers_id}
+use Rattle.kp_core.specs.Partitions.{partition_at, changed_at, new_partition, is_in, untold, items_queued}
+use Rattle.kp_core.specs.Records.{Batch, Partition, Request, IdRequest, Core, Told, Effect, Step}
+use Rattle.kp_core.specs.Replies.{first_answered, answering, batches_answered, batches_replied, under, under_if_wanted, id_given, id_refused, id_answered, id_replied, replied_to, replied, after_end, faulty, known, Replies}
+use Rattle.kp_core.specs.Telling.{with_partitions, at_each, told_at_each, at_these, told_at}
+use Rattle.kp_core.specs.Tick.{passed, has_timed_out, ticked_now, ticked_from, not_ticked, ticked, disconnected, closed}
+use Rattle.kp_world.specs.Accounts.{unsent_among}
+use Rattle.kp_world.proofs.ConservationLemmas.{items_told, Tells, tells_nothing, tells_dropped, tells_marked, tells_given_up, tells_passed, tells_answered}
+use Rattle.kp_world.proofs.FateLemmas.{all_filter, filter_all, filter_none, all_weaker}
+use Rattle.kp_world.proofs.KeepingLemmas.{OpenIn, Keeps, keeps_same, keeps_dropped, keeps_given_up, keeps_passed, keeps_answered, keeps_marked, at-changed_at, length-changed_at}
+
+-- ---- what is told, by partition
+
+abbrev pub told_for : ℕ → List Told → List Told
+told_for p told = filter (λ t. t.item.partition == p) told
+
+abbrev pub AllFor : ℕ → List Told → Type 0
+AllFor p told = AllByRecursion (λ t. t.item.partition ≡ p) told
+
+all_told : (P : Item → Type 0) (told : List Told) → AllByRecursion P (items_told told) → AllByRecursion (λ (t : Told). P t.item) told
+all_told P [] h = tt
+all_told P (t ∷ told) h = (h.0, all_told P told h.1)
+
+apart : (q p : ℕ) → (q ≡ p → ⊥) → (q == p) ≡ false
+apart q p ne = at_test (q == p) refl
+  where
+    at_test : (b : Bool) → (q == p) ≡ b → b ≡ false
+    at_test true is = absurd (ne (eqb-true q p is))
+    at_test false is = refl
+
+pub for_all : (p : ℕ) (told : List Told) → AllFor p told → told_for p told ≡ told
+for_all p told h = filter_all (λ t. t.item.partition == p) told (all_weaker (λ t. t.item.partition ≡ p) (λ t. (t.item.partition == p) ≡ true) (λ t e. eq-eqb t.item.partition p e) told h)
+
+pub for_none : (q p : ℕ) (told : List Told) → (q ≡ p → ⊥) → AllFor q told → told_for p told ≡ []
+for_none q p told ne h = filter_none (λ t. t.item.partition == p) told (all_weaker (λ t. t.item.partition ≡ q) (λ t. (t.item.partition == p) ≡ false) (λ t e. apart t.item.partition p (λ (same : t.item.partition ≡ p). ne (sym e ∙ same))) told h)
+
+for_append : (p : ℕ) (a b : List Told) → told_for p (a ++ b) ≡ told_for p a ++ told_for p b
+for_append p a b = filter-append (λ (t : Told). t.item.partition == p) a b
+
+-- each place tells of its own
+abbrev ByPlace : ℕ → (Partition → List Told) → List Partition → Partition → Type 0
+ByPlace k f ts d = (q : ℕ) → q < length ts → AllFor (k + q) (f (get_or ts q d))
+
+by_place_rest : (k : ℕ) (f : Partition → List Told) (t : Partition) (ts : List Partition) (d : Partition) → ByPlace k f (t ∷ ts) d → ByPlace (k + 1) f ts d
+by_place_rest k f t ts d h q l =
+    let same : k + suc q ≡ k + 1 + q = omega arith in
+    subst (λ (n : ℕ). AllFor n (f (get_or ts q d))) same (h (suc q) (omega (arith, l)))
+
+by_place_first : (k : ℕ) (f : Partition → List Told) (t : Partition) (ts : List Partition) (d : Partition) → ByPlace k f (t ∷ ts) d → AllFor k (f t)
+by_place_first k f t ts d h = let same : k + 0 ≡ k = omega arith in subst (λ (n : ℕ). AllFor n (f t)) same (h 0 (omega arith))
+
+none_each : (f : Partition → List Told) (ts : List Partition) (d : Partition) (k m : ℕ) → m < k → ByPlace k f ts d → told_for m (flat_map f ts) ≡ []
+none_each f [] d k m l h = refl
+none_each f (t ∷ ts) d k m l h =
+    for_append m (f t) (flat_map f ts)
+    ∙ ap (λ r. r ++ told_for m (flat_map f ts)) (for_none k m (f t) (λ e. omega (arith, e, l)) (by_place_first k f t ts d h))
+    ∙ none_each f ts d (k + 1) m (omega (arith, l)) (by_place_rest k f t ts d h)
+
+pub told_each : (f : Partition → List Told) (ts : List Partition) (d : Partition) (k p : ℕ) → p < length ts → ByPlace k f ts d
+    → told_for (k + p) (flat_map f ts) ≡ f (get_or ts p d)
+told_each f [] d k p l h = absurd (omega arith)
+told_each f (t ∷ ts) d k zero l h =
+    let same : k + 0 ≡ k = omega arith in
+    ap (λ (n : ℕ). told_for n (flat_map f (t ∷ ts))) same
+    ∙ for_append k (f t) (flat_map f ts)
+    ∙ ap (λ r. r ++ told_for k (flat_map f ts)) (for_all k (f t) (by_place_first k f t ts d h))
+    ∙ ap (λ r. f t ++ r) (none_each f ts d (k + 1) k (omega arith) (by_place_rest k f t ts d h))
+    ∙ append-nil (f t)
+told_each f (t ∷ ts) d k (suc p) l h =
+    let same : k + suc p ≡ k + 1 + p = omega arith in
+    ap (λ (n : ℕ). told_for n (flat_map f (t ∷ ts))) same
+    ∙ for_append (k + 1 + p) (f t) (flat_map f ts)
+    ∙ ap (λ r. r ++ told_for (k + 1 + p) (flat_map f ts)) (for_none k (k + 1 + p) (f t) (λ e. omega (arith, e)) (by_place_first k f t ts d h))
+    ∙ told_each f ts d (k + 1) p (omega (arith, l)) (by_place_rest k f t ts d h)
+
+-- no two are one
+abbrev pub Distinct : List ℕ → Type 0
+Distinct [] = Unit {0}
+Distinct (q ∷ qs) = (is_in q qs ≡ false) × Distinct qs
+
+pub told_these : (g : ℕ → List Told) → ((q : ℕ) → AllFor q (g q)) → (ps : List ℕ) (p : ℕ) → Distinct ps
+    → told_for p (flat_map g ps) ≡ (if is_in p ps then g p else [])
+told_these g home [] p h = refl
+told_these g home (q ∷ qs) p h = for_append p (g q) (flat_map g qs) ∙ at_test (told_these g home qs p h.1) (q == p) refl
+  where
+    at_test : told_for p (flat_map g qs) ≡ (if is_in p qs then g p else []) → (b : Bool) → (q == p) ≡ b → told_for p (g q) ++ told_for p (flat_map g qs) ≡ (if b || is_in p qs then g p else [])
+    at_test rest true is =
+        let e : q ≡ p = eqb-true q p is in
+        let none : is_in p qs ≡ false = subst (λ (n : ℕ). is_in n qs ≡ false) e h.0 in
+        ap (λ r. r ++ told_for p (flat_map g qs)) (for_all p (g q) (subst (λ (n : ℕ). AllFor n (g q)) e (home q)))
+        ∙ ap (λ r. g q ++ r) (rest ∙ ap (λ (b : Bool). if b then g p else []) none)
+        ∙ append-nil (g q) ∙ ap g e
+    at_test rest false is =
+        let ne : q ≡ p → ⊥ = λ (e : q ≡ p). differ (eq-eqb q p e) is in
+        ap (λ r. r ++ told_for p (flat_map g qs)) (for_none q p (g q) ne (home q)) ∙ rest
+      where
+        differ : (q == p) ≡ true → (q == p) ≡ false → ⊥
+        differ same other = absurd cc
+
+-- ---- one partition
+
+pub record Part (t : Partition) (told : List Told) (t' : Partition) : Type 1 where
+  pub number : t'.next_number ≡ t.next_number
+  pub opens : (handed : List Batch) → OpenIn handed t.open_batches → OpenIn handed t'.open_batches
+  pub tells : Tells t told t'
+
+part_of : (t : Partition) (told : List Told) (t' : Partition) → Keeps t t' → Tells t told t' → Part t told t'
+part_of t told t' k c = record { number = k.number; opens = k.opens; tells = c }
+
+pub part_same : (t : Partition) → Part t [] t
+part_same t = part_of t [] t (keeps_same t) (tells_nothing t)
+
+part_then : (t u v : Partition) (told : List Told) → Part t [] u → Part u told v → Part t told v
+part_then t u v told a b = record {
+  number = b.number ∙ a.number;
+  opens = λ handed h. b.opens handed (a.opens handed h);
+  tells = record {
+    queue = a.tells.queue ∙ b.tells.queue;
+    told_from = λ P h. b.tells.told_from P (a.tells.left_from P h);
+    left_from = λ P h. b.tells.left_from P (a.tells.left_from P h);
+  };
+}
+
+-- ---- the core
+
+abbrev pub AtHome : List Partition → Type 0
+AtHome ts = (p : ℕ) → AllByRecursion (λ i. i.partition ≡ p) (untold (partition_at p ts))
+
+pub record CoreTells (s : Core) (told : List Told) (s' : Core) : Type 1 where
+  pub count : length s'.partitions ≡ length s.partitions
+  pub each : (p : ℕ) → p < length s.partitions → Part (partition_at p s.partitions) (told_for p told) (partition_at p s'.partitions)
+  pub requests : (P : Request → Type 0) → AllByRecursion P s.requests → AllByRecursion P s'.requests
+
+pub core_nothing : (s : Core) → CoreTells s [] s
+core_nothing s = record { count = refl; each = λ p h. part_same (partition_at p s.partitions); requests = λ P h. h }
+
+core_then : (s u v : Core) (told : List Told) → CoreTells s [] u → CoreTells u told v → CoreTells s told v
+core_then s u v told a b = record {
+  count = b.count ∙ a.count;
+  each = λ p h. part_then (partition_at p s.partitions) (partition_at p u.partitions) (partition_at p v.partitions) (told_for p told) (a.each p h) (b.each p (subst (λ (n : ℕ). p < n) (sym a.count) h));
+  requests = λ P h. b.requests P (a.requests P h);
+}
+
+-- past the last partition nothing is there
+pub home_past : (ts : List Partition) → ((p : ℕ) → p < length ts → AllByRecursion (λ i. i.partition ≡ p) (untold (partition_at p ts))) → AtHome ts
+unfolding untold
+home_past ts h p = at_place ts p (h p)
+  where
+    at_place : (ts : List Partition) (n : ℕ) → (n < length ts → AllByRecursion (λ i. i.partition ≡ p) (untold (partition_at n ts))) → AllByRecursion (λ i. i.partition ≡ p) (untold (partition_at n ts))
+    at_place [] n h = tt
+    at_place (t ∷ ts) zero h = h (omega arith)
+    at_place (t ∷ ts) (suc n) h = at_place ts n (λ l. h (omega (arith, l)))
+
+home_mapped : (f : Partition → Partition) → ((t : Partition) → Tells t [] (f t)) → (ts : List Partition) → AtHome ts → AtHome (map f ts)
+home_mapped f c ts home = home_past (map f ts) (λ p l.
+    let size : length (map f ts) ≡ length ts = length-map ts f in
+    let within : p < length ts = omega (arith, l, size) in
+    subst (λ (t : Partition). AllByRecursion (λ i. i.partition ≡ p) (untold t)) (sym (get_or-map f ts p (new_partition 0) (new_partition 0) within)) ((c (partition_at p ts)).left_from (λ i. i.partition ≡ p) (home p)))
+
+core_map : (f : Partition → Partition) → ((t : Partition) → Part t [] (f t)) → (s s' : Core) → s'.partitions ≡ map f s.partitions
+    → ((P : Request → Type 0) → AllByRecursion P s.requests → AllByRecursion P s'.requests) → CoreTells s [] s'
+core_map f k s s' e requests = record {
+  count = ap length e ∙ length-map s.partitions f;
+  each = λ p h. subst (Part (partition_at p s.partitions) []) (sym (ap (partition_at p) e ∙ get_or-map f s.partitions p (new_partition 0) (new_partition 0) h)) (k (partition_at p s.partitions));
+  requests = requests;
+}
+
+pub core_dropped : (now : ℕ) (s : Core) → CoreTells s [] (dropped now s)
+unfolding dropped
+core_dropped now s = core_map (without_attempts now) (λ t. part_of t [] (without_attempts now t) (keeps_dropped now t) (tells_dropped now t)) s (dropped now s) refl (λ P h. tt)
+
+pub core_flushed : (s : Core) → CoreTells s [] (flushed s)
+unfolding flushed
+core_flushed s = core_map with_marks (λ t. part_of t [] (with_marks t) (keeps_marked t) (tells_marked t)) s (flushed s) refl (λ P h. h)
+
+pub core_disconnected : (now : ℕ) (s : Core) → CoreTells s [] (disconnected now s)
+unfolding disconnected
+core_disconnected now s = at_end s.ended
+  where
+    at_end : (b : Bool) → CoreTells s [] (if b then s else dropped now s)
+    at_end true = core_nothing s
+    at_end false = core_dropped now s
+
+pub core_closed : (s : Core) → CoreTells s [] (closed s)
+unfolding closed
+core_closed s = at_end s.ended
+  where
+    at_end : (b : Bool) → CoreTells s [] (if b then s else record s { closing = true })
+    at_end true = core_nothing s
+    at_end false = record { count = refl; each = λ p h. part_same (partition_at p s.partitions); requests = λ P h. h }
+
+core_at_each : (rule : Partition → Effect) → ((t : Partition) → Keeps t (rule t).after) → ((t : Partition) → Tells t (rule t).told (rule t).after)
+    → (s : Core) → AtHome s.partitions → CoreTells s (told_at_each rule s) (at_each rule s)
+unfolding at_each told_at_each with_partitions
+core_at_each rule keeps tells s home = record {
+  count = length-map s.partitions (λ t. (rule t).after);
+  each = λ p h.
+      let t = partition_at p s.partitions in
+      let told : told_for p (flat_map (λ t. (rule t).told) s.partitions) ≡ (rule (partition_at p s.partitions)).told =
+          ap (λ (n : ℕ). told_for n (flat_map (λ t. (rule t).told) s.partitions)) (let same : p ≡ 0 + p = omega arith in same)
+          ∙ told_each (λ t. (rule t).told) s.partitions (new_partition 0) 0 p h
+          (λ q l. let same : q ≡ 0 + q = omega arith in subst (λ (n : ℕ). AllFor n (rule (partition_at q s.partitions)).told) same
+          (all_told (λ i. i.partition ≡ q) (rule (partition_at q s.partitions)).told ((tells (partition_at q s.partitions)).told_from (λ i. i.partition ≡ q) (home q)))) in
+      let after : partition_at p (map (λ t. (rule t).after) s.partitions) ≡ (rule (partition_at p s.partitions)).after = get_or-map (λ t. (rule t).after) s.partitions p (new_partition 0) (new_partition 0) h in
+      subst (λ (u : Partition). Part (partition_at p s.partitions) (told_for p (flat_map (λ t. (rule t).told) s.partitions)) u) (sym after)
+      (subst (λ (x : List Told). Part (partition_at p s.partitions) x (rule (partition_at p s.partitions)).after) (sym told)
+      (part_of (partition_at p s.partitions) (rule (partition_at p s.partitions)).told (rule (partition_at p s.partitions)).after (keeps (partition_at p s.partitions)) (tells (partition_at p s.partitions))));
+  requests = λ P h. all_filter P (is_live (map (λ t. (rule t).after) s.partitions)) s.requests h;
+}
+
+core_at_these : (ps : List ℕ) (rule : ℕ → Partition → Effect) → ((p : ℕ) (t : Partition) → Keeps t (rule p t).after) → ((p : ℕ) (t : Partition) → Tells t (rule p t).told (rule p t).after)
+    → (s : Core) → Distinct ps → AtHome s.partitions → CoreTells s (told_at ps rule s) (at_these ps rule s)
+unfolding at_these told_at with_partitions
+core_at_these ps rule keeps tells s distinct home = record {
+  count = length-changed_at ps (λ p t. (rule p t).after) s.partitions;
+  each = λ p h.
+      let told : told_for p (flat_map (λ q. (rule q (partition_at q s.partitions)).told) ps) ≡ (if is_in p ps then (rule p (partition_at p s.partitions)).told else []) =
+          told_these (λ q. (rule q (partition_at q s.partitions)).told)
+          (λ q. all_told (λ i. i.partition ≡ q) (rule q (partition_at q s.partitions)).told ((tells q (partition_at q s.partitions)).told_from (λ i. i.partition ≡ q) (home q))) ps p distinct in
+      subst (λ (u : Partition). Part (partition_at p s.partitions) (told_for p (flat_map (λ q. (rule q (partition_at q s.partitions)).told) ps)) u) (sym (at-changed_at ps (λ p t. (rule p t).after) s.partitions p h))
+      (subst (λ (x : List Told). Part (partition_at p s.partitions) x (if is_in p ps then (rule p (partition_at p s.partitions)).after else partition_at p s.partitions)) (sym told)
+      (at_test p (partition_at p s.partitions) (is_in p ps)));
+  requests = λ P h. all_filter P (is_live (changed_at ps (λ p t. (rule p t).after) s.partitions)) s.requests h;
+}
+  where
+    at_test : (p : ℕ) (t : Partition) (b : Bool) → Part t (if b then (rule p t).told else []) (if b then (rule p t).after else t)
+    at_test p t true = part_of t (rule p t).told (rule p t).after (keeps p t) (tells p t)
+    at_test p t false = part_same t
+
+-- ---- the calls
+
+home_dropped : (now : ℕ) (s : Core) → AtHome s.partitions → AtHome (dropped now s).partitions
+unfolding dropped
+home_dropped now s home = home_mapped (without_attempts now) (tells_dropped now) s.partitions home
+
+pub core_ticked : (now : ℕ) (s : Core) → AtHome s.partitions → CoreTells s (ticked now s).told (ticked now s).after
+unfolding ticked
+core_ticked now s home = at_end s.ended
+  where
+    at_test : (b : Bool) → CoreTells s (if b then ticked_from now true (dropped now s) else ticked_from now false s).told (if b then ticked_from now true (dropped now s) else ticked_from now false s).after
+    at_test true =
+        let u = dropped now s in
+        core_then s u (at_each (passed (dropped now s).config now) (dropped now s)) (told_at_each (passed (dropped now s).config now) (dropped now s)) (core_dropped now s)
+        (core_at_each (passed (dropped now s).config now) (keeps_passed (dropped now s).config now) (tells_passed (dropped now s).config now) (dropped now s) (home_dropped now s home))
+    at_test false = core_at_each (passed s.config now) (keeps_passed s.config now) (tells_passed s.config now) s home
+
+    at_end : (b : Bool) → CoreTells s (if b then not_ticked s else ticked_now now s).told (if b then not_ticked s else ticked_now now s).after
+    at_end true = core_nothing s
+    at_end false = at_test (has_timed_out now s)
+
+abbrev end_step : Core → Bool → Step (Unit {0})
+end_step s b = if b then (record { after = s; told = []; answer = tt }) else record { after = end_of s; told = told_at_each given_up s; answer = tt }
+
+pub core_ended : (s : Core) → AtHome s.partitions → CoreTells s (ended s).told (ended s).after
+unfolding ended
+core_ended s home = at_end s.ended
+  where
+    k : CoreTells s (told_at_each given_up s) (at_each given_up s)
+    k = core_at_each given_up keeps_given_up tells_given_up s home
+
+    at_end : (b : Bool) → CoreTells s (end_step s b).told (end_step s b).after
+    at_end true = core_nothing s
+    at_end false = record { count = k.count; each = k.each; requests = k.requests }
+
+-- ---- a reply
+
+find_all : (P : Request → Type 0) (test : Request → Bool) (rs : List Request) (r : Request) → find test rs ≡ Some r → AllByRecursion P rs → P r
+find_all P test [] r e h = absurd cc
+find_all P test (x ∷ rs) r e h = at_test (test x) e (λ (e' : find test rs ≡ Some r). find_all P test rs r e' h.1)
+  where
+    at_test : (b : Bool) → cond b (Some x) (find test rs) ≡ Some r → (find test rs ≡ Some r → P r) → P r
+    at_test true same later = let is : x ≡ r = cc in subst P is h.0
+    at_test false same later = later same
+
+awaited_batches : (P : Request → Type 0) (k : _) (s : Core) (r : Request) → awaited k s ≡ Batches r → AllByRecursion P s.requests → P r
+unfolding awaited
+awaited_batches P k s r e h = at_request (find (λ (x : Request). int_eq (pos x.correlation) k) s.requests) refl e
+  where
+    at_id : (q : IdRequest) (b : Bool) → (if b then Id q else Nothing) ≡ Batches r → ⊥
+    at_id q true e' = absurd cc
+    at_id q false e' = absurd cc
+
+    at_option : (o : Option IdRequest) → id_awaited k o ≡ Batches r → ⊥
+    at_option None e' = absurd cc
+    at_option (Some q) e' = at_id q (int_eq (pos q.correlation) k) e'
+
+    at_request : (o : Option Request) → find (λ (x : Request). int_eq (pos x.correlation) k) s.requests ≡ o → or_id k s o ≡ Batches r → P r
+    at_request (Some x) is e' = let same : x ≡ r = cc in subst P same (find_all P (λ (x : Request). int_eq (pos x.correlation) k) s.requests x is h)
+    at_request None is e' = absurd (at_option s.id_request e')
+
+keeps_answering : (now k : ℕ) (answers : Answers) (p : ℕ) (t : Partition) → Keeps t (answering now k answers p t).after
+keeps_answering now k answers p t = at_first (answers_for p answers)
+  where
+    at_first : (xs : Answers) → Keeps t (first_answered now k t xs).after
+    at_first [] = keeps_same t
+    at_first (a ∷ xs) = keeps_answered now k t a
+
+tells_answering : (now k : ℕ) (answers : Answers) (p : ℕ) (t : Partition) → Tells t (answering now k answers p t).told (answering now k answers p t).after
+tells_answering now k answers p t = at_first (answers_for p answers)
+  where
+    at_first : (xs : Answers) → Tells t (first_answered now k t xs).told (first_answered now k t xs).after
+    at_first [] = tells_nothing t
+    at_first (a ∷ xs) = tells_answered now k t a
+
+abbrev batches_step : ℕ → Request → Core → Answers → Bool → Replies
+batches_step now r s answers b = if b then batches_answered now r answers s else faulty Mismatch s
+
+core_batches : (now : ℕ) (r : Request) (s : Core) (o : Option Answers) → Distinct r.partitions → AtHome s.partitions → CoreTells s (batches_replied now r s o).told (batches_replied now r s o).after
+core_batches now r s None distinct home = core_nothing s
+core_batches now r s (Some answers) distinct home = at_test (answer_batches r.correlation r.partitions s.partitions answers)
+  where
+    at_test : (b : Bool) → CoreTells s (batches_step now r s answers b).told (batches_step now r s answers b).after
+    at_test true = core_at_these r.partitions (answering now r.correlation answers) (keeps_answering now r.correlation answers) (tells_answering now r.correlation answers) s distinct home
+    at_test false = core_nothing s
+
+part_under : (id : ℕ) (t : Partition) → Part t [] (under id t)
+unfolding untold
+part_under id t = record { number = refl; opens = λ handed h. h; tells = record { queue = refl; told_from = λ P h. tt; left_from = λ P h. h } }
+
+core_given : (id : ℕ) (q : IdRequest) (s : Core) → CoreTells s [] (id_given id q s)
+core_given id q s = record {
+  count = length-changed_at (q.partition ∷ []) (under_if_wanted id s) s.partitions;
+  each = λ p h. subst (Part (partition_at p s.partitions) []) (sym (at-changed_at (q.partition ∷ []) (under_if_wanted id s) s.partitions p h)) (at_place p (partition_at p s.partitions) (is_in p (q.partition ∷ [])));
+  requests = λ P h. h;
+}
+  where
+    at_want : (t : Partition) (b : Bool) → Part t [] (if b then under id t else t)
+    at_want t true = part_under id t
+    at_want t false = part_same t
+
+    at_place : (p : ℕ) (t : Partition) (b : Bool) → Part t [] (if b then under_if_wanted id s p t else t)
+    at_place p t true = at_want t (wants_id s.config t)
+    at_place p t false = part_same t
+
+core_id : (now : ℕ) (q : IdRequest) (x : InitProducerIdResponse) (s : Core) → CoreTells s (id_replied now q x s).told (id_replied now q x s).after
+core_id now q x s = at_valid (answers_id x)
+  where
+    at_given : (b : Bool) → CoreTells s [] (if b then id_given (nat_abs x.producer_id) q s else id_refused now s)
+    at_given true = core_given (nat_abs x.producer_id) q s
+    at_given false = record { count = refl; each = λ p h. part_same (partition_at p s.partitions); requests = λ P h. h }
+
+    at_valid : (b : Bool) → CoreTells s (if b then known (id_answered now q x s) [] else faulty Mismatch s).told (if b then known (id_answered now q x s) [] else faulty Mismatch s).after
+    at_valid true = at_given (is_given x)
+    at_valid false = core_nothing s
+
+abbrev reply_step : ℕ → Response → Core → Bool → Replies
+reply_step now response s b = if b then after_end s else replied_to now s (awaited response.correlation s) response.body
+
+pub core_replied : (now : ℕ) (response : Response) (s : Core) → AllByRecursion (λ r. Distinct r.partitions) s.requests → AtHome s.partitions
+    → CoreTells s (replied now response s).told (replied now response s).after
+unfolding replied
+core_replied now response s distinct home = at_end s.ended
+  where
+    at_body : (who : Awaited) → awaited response.correlation s ≡ who → (body : ResponseBody) → CoreTells s (replied_to now s who body).told (replied_to now s who body).after
+    at_body Nothing is body = core_nothing s
+    at_body (Batches r) is (Produce x) = core_batches now r s (answers_of s.names.topic x.topics) (awaited_batches (λ r. Distinct r.partitions) response.correlation s r is distinct) home
+    at_body (Batches r) is (Metadata x) = core_nothing s
+    at_body (Batches r) is (InitProducerId x) = core_nothing s
+    at_body (Id q) is (Produce x) = core_nothing s
+    at_body (Id q) is (Metadata x) = core_nothing s
+    at_body (Id q) is (InitProducerId x) = core_id now q x s
+
+    at_end : (b : Bool) → CoreTells s (reply_step now response s b).told (reply_step now response s b).after
+    at_end true = core_nothing s
+    at_end false = at_body (awaited response.correlation s) refl response.body
