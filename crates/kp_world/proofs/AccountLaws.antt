@@ -4,6 +4,7 @@ use Rattle.std.specs.List.{AllByRecursion, range_with_len}
 use Rattle.std.proofs.lemmas.List.{length-replicate}
 use Rattle.kp_accum.specs.declared.config.Config.{Config}
 use Rattle.kp_accum.specs.declared.item.Item.{Item}
+use Rattle.kp_log.specs.History.{empty_history}
 use Rattle.kp_core.specs.Records.{Batch}
 use Rattle.kp_world.specs.declared.event.Event.{Event}
 use Rattle.kp_world.specs.Accepting.{accepted_by, for_partition}
@@ -15,8 +16,12 @@ use Rattle.kp_world.proofs.AccountRunLemmas.{accounts_run, accounts_opening}
 use Rattle.kp_world.proofs.AccountedLemmas.{accounted_for, handed_is_sent, numbers_are}
 use Rattle.kp_world.proofs.GateLemmas.{follows_run}
 
+as_many : (c : Config) (partitions senders : ℕ) → length (opening c partitions senders).logs ≡ length (opening c partitions senders).handed
+unfolding opening
+as_many c partitions senders = length-replicate partitions empty_history ∙ sym (length-replicate {A = List Batch} partitions [])
+
 reached : (c : Config) (partitions senders : ℕ) (es : List Event) (w : World) → IsReached c partitions senders es w → IsAccounted w
-reached c partitions senders es w r = accounts_run es (opening c partitions senders) w r.run (accounts_opening c partitions senders)
+reached c partitions senders es w r = accounts_run es (opening c partitions senders) w r.run (as_many c partitions senders) (accounts_opening c partitions senders)
 
 handed_count : (c : Config) (partitions senders : ℕ) → length (opening c partitions senders).handed ≡ partitions
 unfolding opening

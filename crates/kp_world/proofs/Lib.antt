@@ -21,6 +21,7 @@ pub mod GoodLemmas
 pub mod RequestLemmas
 pub mod DeliveryLemmas
 pub mod ReplayLemmas
+pub mod WeightLemmas
 pub mod FateLemmas
 pub mod ConservationLemmas
 pub mod TellingLemmas
