@@ -32,4 +32,5 @@ pub mod HandingLemmas
 pub mod AccountRunLemmas
 pub mod AccountedLemmas
 pub mod GateLemmas
+pub mod ToldLemmas
 pub mod AccountLaws
