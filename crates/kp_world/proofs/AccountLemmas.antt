@@ -10,15 +10,15 @@ use Rattle.kp_core.specs.Partitions.{partition_at, items_queued, untold}
 use Rattle.kp_core.specs.Records.{Batch, Partition, Request, Core, Told}
 use Rattle.kp_log.proofs.PlaceLemmas.{In}
 use Rattle.kp_world.specs.Accepting.{for_partition}
-use Rattle.kp_world.specs.Accounts.{of_sender, told_in, unsent_among, told_unsent, is_unsent}
+use Rattle.kp_world.specs.Accounts.{of_sender, told_in, unsent_among, is_unsent}
 use Rattle.kp_world.specs.Client.{handed_at}
 use Rattle.kp_world.specs.Line.{Line}
-use Rattle.kp_world.specs.Noting.{noted, only_noted}
+use Rattle.kp_world.specs.Noting.{noted}
 use Rattle.kp_world.specs.World.{World, Happened}
 use Rattle.kp_world.proofs.ConservationLemmas.{items_told, unsent-append, attempt_count}
 use Rattle.kp_world.proofs.FateLemmas.{AreNumbered, Fates, fates_given_up}
 use Rattle.kp_world.proofs.KeepingLemmas.{OpenIn}
-use Rattle.kp_world.proofs.TellingLemmas.{told_for, Distinct, AtHome, home_past, CoreTells, core_nothing, core_weighs}
+use Rattle.kp_world.proofs.TellingLemmas.{told_for, Distinct, AtHome, home_past, CoreTells, core_weighs}
 use Rattle.kp_world.proofs.WeightLemmas.{weigh, weigh-append}
 
 -- ---- what holds
@@ -85,7 +85,7 @@ unsent_for p (t ∷ told) = at_tests (is_unsent t.outcome) (t.item.partition == 
     at_tests : (a b : Bool) → is_unsent t.outcome ≡ a → (t.item.partition == p) ≡ b
         → for_partition p (unsent_among told) ≡ unsent_among (told_for p told)
         → for_partition p (map (λ (x : Told). x.item) (cond (is_unsent t.outcome) (t ∷ filter (λ (x : Told). is_unsent x.outcome) told) (filter (λ (x : Told). is_unsent x.outcome) told)))
-          ≡ unsent_among (cond (t.item.partition == p) (t ∷ filter (λ (x : Told). x.item.partition == p) told) (filter (λ (x : Told). x.item.partition == p) told))
+        ≡ unsent_among (cond (t.item.partition == p) (t ∷ filter (λ (x : Told). x.item.partition == p) told) (filter (λ (x : Told). x.item.partition == p) told))
     at_tests true true x y e = rw (x, y, x) (ap (λ r. t.item ∷ r) e)
     at_tests true false x y e = rw (x, y) e
     at_tests false true x y e = rw (x, y, x) e
@@ -112,9 +112,9 @@ accounts_core core accepted taken handed told more core' a k = record {
         opens = part.opens (handed_at p handed) h.opens;
         single = λ j. let most : attempt_count j (partition_at p core.partitions).open_batches ≤ 1 = h.single j in let less : attempt_count j (partition_at p core'.partitions).open_batches ≤ attempt_count j (partition_at p core.partitions).open_batches = part.tells.attempts j in omega (arith, most, less);
         fresh = λ j m.
-          let none : attempt_count j (partition_at p core.partitions).open_batches ≡ 0 = h.fresh j (subst (λ (n : ℕ). n ≤ j) k.correlation m) in
-          let less : attempt_count j (partition_at p core'.partitions).open_batches ≤ attempt_count j (partition_at p core.partitions).open_batches = part.tells.attempts j in
-          omega (arith, none, less);
+            let none : attempt_count j (partition_at p core.partitions).open_batches ≡ 0 = h.fresh j (subst (λ (n : ℕ). n ≤ j) k.correlation m) in
+            let less : attempt_count j (partition_at p core'.partitions).open_batches ≤ attempt_count j (partition_at p core.partitions).open_batches = part.tells.attempts j in
+            omega (arith, none, less);
       };
   home = home_past core'.partitions (λ p l. (k.each p (within p l)).tells.left_from (λ i. i.partition ≡ p) (a.home p));
   requests = k.requests (λ r. Distinct r.partitions) a.requests;
@@ -123,9 +123,9 @@ accounts_core core accepted taken handed told more core' a k = record {
       let front = unsent_among (told_for p more) in
       let back = items_queued (partition_at p core'.partitions).queue in
       let queue : of_sender s (items_queued (partition_at p core.partitions).queue) ≡ of_sender s front ++ of_sender s back =
-          ap (of_sender s) (k.each p here).tells.queue ∙ sender-append s (unsent_among (told_for p more)) (items_queued (partition_at p core'.partitions).queue) in
+      ap (of_sender s) (k.each p here).tells.queue ∙ sender-append s (unsent_among (told_for p more)) (items_queued (partition_at p core'.partitions).queue) in
       let grown : of_sender s (for_partition p (unsent_among told)) ++ of_sender s front ≡ of_sender s (for_partition p (unsent_among (told ++ more))) =
-          sym (ap (λ r. of_sender s (for_partition p r)) (unsent-append told more) ∙ both-append s p (unsent_among told) (unsent_among more) ∙ ap (λ r. of_sender s (for_partition p (unsent_among told)) ++ of_sender s r) (unsent_for p more)) in
+      sym (ap (λ r. of_sender s (for_partition p r)) (unsent-append told more) ∙ both-append s p (unsent_among told) (unsent_among more) ∙ ap (λ r. of_sender s (for_partition p (unsent_among told)) ++ of_sender s r) (unsent_for p more)) in
       subst (Fates (taken_for s p accepted taken) (of_sender s back) (of_sender s (items_of (handed_at p handed)))) grown
       (fates_given_up (taken_for s p accepted taken) (of_sender s front) (of_sender s back) (of_sender s (items_of (handed_at p handed))) (of_sender s (for_partition p (unsent_among told)))
       (subst (λ q. Fates (taken_for s p accepted taken) q (of_sender s (items_of (handed_at p handed))) (of_sender s (for_partition p (unsent_among told)))) queue (a.fates s p here)));

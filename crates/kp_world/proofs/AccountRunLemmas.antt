@@ -1,24 +1,20 @@
 -- Every world that is reached is accounted for.
 use Rattle.std.proofs.Common.{◌≡◌, ℕ, zero, suc, ◌+◌, ◌<◌, ◌≤◌, Bool, true, false, List, [], ◌∷◌, ◌++◌, length, get_or, take, replicate, Some, None, refl, sym, ap, ◌∙◌, subst, arith}
-use Rattle.std.specs.Prelude.{flat_map, Option, Result, Ok, Err, if◌then◌else◌, slice_get, slice_index, slice_index_or, ◌&&◌}
+use Rattle.std.specs.Prelude.{flat_map, Option, if◌then◌else◌, slice_get, slice_index, slice_index_or, ◌&&◌}
 use Rattle.std.specs.List.{AllByRecursion, range_with_len}
 use Rattle.std.proofs.lemmas.Bool.{ltb-true}
 use Rattle.std.proofs.lemmas.List.{length-replicate, get_or-replicate}
 use Rattle.kp_accum.specs.declared.config.Config.{Config}
 use Rattle.kp_accum.specs.declared.item.Item.{Item}
-use Rattle.kp_log.proofs.PlaceLemmas.{In, In-nil}
-use Rattle.kp_core.specs.declared.fault.CoreFault.{CoreFault}
-use Rattle.kp_core.specs.declared.fault.CoreFault.TheVariants as fault
-use Rattle.kp_core.specs.declared.outcome.Outcome.TheVariants.{Unsent}
+use Rattle.kp_log.proofs.PlaceLemmas.{In-nil}
 use Rattle.kp_core.specs.declared.outcome.Reason.{Reason}
 use Rattle.kp_core.specs.declared.outcome.Reason.TheVariants.{Fenced, Ended}
-use Rattle.kp_core.specs.Appending.{Appends, Appended, TakenIn, BufferFull, in_queue, turned_away, refused, queued, would_exhaust, appended}
+use Rattle.kp_core.specs.Appending.{Appends, in_queue, turned_away, refused, queued, would_exhaust, appended}
 use Rattle.kp_core.specs.Fence.{ended}
 use Rattle.kp_core.specs.Flush.{flushed}
-use Rattle.kp_core.specs.Next.{Sending, Demand, Produce, InitProducerId}
 use Rattle.kp_core.specs.Opening.{new_core}
 use Rattle.kp_core.specs.Partitions.{partition_at, new_partition, items_queued, untold}
-use Rattle.kp_core.specs.Records.{Batch, Partition, Core, Told}
+use Rattle.kp_core.specs.Records.{Batch, Partition, Core}
 use Rattle.kp_core.specs.Requesting.{Outgoing, requested}
 use Rattle.kp_core.specs.Replies.{replied}
 use Rattle.kp_core.specs.Tick.{ticked, disconnected, closed}
@@ -26,23 +22,22 @@ use Rattle.kp_world.specs.declared.event.Event.{Event}
 use Rattle.kp_world.specs.declared.event.Event.TheVariants as event
 use Rattle.kp_world.specs.Accepting.{accepting, for_partition, item_for, is_large, accepted_by, with_accepted, with_taken, taken_by, taking_of, taking}
 use Rattle.kp_world.specs.Accounts.{of_sender, told_in}
-use Rattle.kp_world.specs.Client.{client, has_sender, has_partition, only_if, handed_at, handed_with, sending, ticking, ending, closing, replying, reply_line, flush_line}
+use Rattle.kp_world.specs.Client.{client, has_sender, has_partition, only_if, handed_at, sending, ticking, ending, closing, replying, reply_line, flush_line}
 use Rattle.kp_world.specs.Delivering.{Delivery}
-use Rattle.kp_world.specs.Line.{Closed, Large, Empty, Full, Reconnect}
+use Rattle.kp_world.specs.Line.{Closed, Large, Empty, Full}
 use Rattle.kp_world.specs.Loopback.{logs_with_others}
 use Rattle.kp_world.specs.Message.{response_of}
 use Rattle.kp_world.specs.Noting.{noted, only_noted}
-use Rattle.kp_world.specs.Run.{answer_line, with_delivery, with_others_at, Arrives, Steps, Run}
+use Rattle.kp_world.specs.Run.{answer_line, with_delivery, with_others_at, Steps, Run}
 use Rattle.kp_world.specs.World.{Reply, World, FIRST_ID, FIRST_CORRELATION, opening}
-use Rattle.kp_world.proofs.AccountLemmas.{items_of, taken_of, Accepts, Holds, Accounts, IsAccounted, accounts_only, accounts_noted, accounts_call}
+use Rattle.kp_world.proofs.AccountLemmas.{items_of, taken_of, Accepts, Holds, IsAccounted, accounts_only, accounts_noted, accounts_call}
 use Rattle.kp_world.proofs.ConservationLemmas.{attempt_count}
 use Rattle.kp_world.proofs.FateLemmas.{Fates}
 use Rattle.kp_world.proofs.GateLemmas.{follows_step}
 use Rattle.kp_world.proofs.WeightLemmas.{weigh}
-use Rattle.kp_world.proofs.GoodLemmas.{length-with_sendings}
 use Rattle.kp_world.proofs.HandingLemmas.{accounts_sending}
 use Rattle.kp_world.proofs.TakingLemmas.{NextOf, next_of, accounts_accepted, accounts_turned_away, accounts_queued}
-use Rattle.kp_world.proofs.TellingLemmas.{CoreTells, core_nothing, core_ticked, core_ended, core_flushed, core_disconnected, core_closed, core_replied, home_past}
+use Rattle.kp_world.proofs.TellingLemmas.{core_nothing, core_ticked, core_ended, core_flushed, core_disconnected, core_closed, core_replied, home_past}
 
 -- ---- the producer's events
 

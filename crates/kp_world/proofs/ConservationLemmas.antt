@@ -1,11 +1,9 @@
 -- What a rule does to the items of a partition: it tells some of those that were not told, and keeps
 -- the others in order.
-use Rattle.std.proofs.Common.{◌≡◌, ℕ, zero, suc, ◌+◌, ◌<◌, ◌≤◌, Bool, true, false, not, cond, List, [], ◌∷◌, ◌++◌, length, get_or, map, ℤ, pos, Some, None, refl, sym, ap, ◌∙◌, subst, arith, append_assoc}
-use Rattle.std.specs.Prelude.{Option, if◌then◌else◌, find, flat_map, ◌+ℤ◌, ◌==◌, ◌||◌}
+use Rattle.std.proofs.Common.{◌≡◌, ℕ, ◌+◌, ◌≤◌, Bool, true, false, not, cond, List, [], ◌∷◌, ◌++◌, map, pos, Some, None, refl, sym, ap, ◌∙◌, subst, arith, append_assoc}
+use Rattle.std.specs.Prelude.{Option, if◌then◌else◌, find, ◌+ℤ◌}
 use Rattle.std.specs.List.{AllByRecursion, filter, list_any, enumerate_from}
-use Rattle.std.proofs.lemmas.Bool.{eqb-true, eq-eqb}
 use Rattle.std.proofs.lemmas.List.{append-nil, map-append}
-use Rattle.std.proofs.lemmas.List.Concat.{flat_map-append}
 use Rattle.std.proofs.lemmas.List.Elements.{filter-append}
 use Rattle.kp_accum.specs.declared.config.Config.{Config}
 use Rattle.kp_accum.specs.declared.item.Item.{Item}
@@ -22,10 +20,10 @@ use Rattle.kp_core.specs.declared.attempt.Attempt.TheVariants.{InFlight, Waiting
 use Rattle.kp_core.specs.declared.attempt.Attempt.{Attempt}
 use Rattle.kp_core.specs.Answered.{without_attempt, acknowledged, to_retry, waiting_since, judged, answered_if, answered, verdict_of}
 use Rattle.kp_core.specs.Attempts.{is_attempt_in, awaits, awaiting, dropped_attempt, dropped_batch, without_attempts}
-use Rattle.kp_core.specs.Fence.{told_given_up, emptied, fenced, given_up}
+use Rattle.kp_core.specs.Fence.{told_given_up, fenced, given_up}
 use Rattle.kp_core.specs.Flush.{marked_open, with_marks}
 use Rattle.kp_core.specs.Partitions.{items_open, items_queued, untold}
-use Rattle.kp_core.specs.Records.{Batch, Open, Partition, Told, Effect}
+use Rattle.kp_core.specs.Records.{Batch, Open, Partition, Told}
 use Rattle.kp_core.specs.Telling.{told_all, told_offsets}
 use Rattle.kp_core.specs.Tick.{late_front, behind_late, expired_front, is_open_late, passed}
 use Rattle.kp_world.specs.Accounts.{is_unsent, unsent_among}
@@ -236,11 +234,11 @@ tells_expired c now t =
       told_from = λ P h. subst (AllByRecursion P) (sym (told_all_items (Unsent reason.Expired) late)) (all_front P late behind (subst (AllByRecursion P) split (all_back P (items_open t.open_batches) (items_queued t.queue) h)));
       left_from = λ P h. all_both P (items_open t.open_batches) behind (all_front P (items_open t.open_batches) (items_queued t.queue) h) (all_back P late behind (subst (AllByRecursion P) split (all_back P (items_open t.open_batches) (items_queued t.queue) h)));
       weighs = λ f.
-        let told : weigh f (items_told (told_all (Unsent reason.Expired) (items_queued (late_front c now t.queue)))) ≡ weigh f (items_queued (late_front c now t.queue)) = ap (weigh f) (told_all_items (Unsent reason.Expired) late) in
-        let before : weigh f (items_open t.open_batches ++ items_queued t.queue) ≡ weigh f (items_open t.open_batches) + weigh f (items_queued t.queue) = weigh-append f (items_open t.open_batches) (items_queued t.queue) in
-        let after : weigh f (items_open t.open_batches ++ items_queued (behind_late c now t.queue)) ≡ weigh f (items_open t.open_batches) + weigh f (items_queued (behind_late c now t.queue)) = weigh-append f (items_open t.open_batches) behind in
-        let parts : weigh f (items_queued t.queue) ≡ weigh f (items_queued (late_front c now t.queue)) + weigh f (items_queued (behind_late c now t.queue)) = ap (weigh f) split ∙ weigh-append f late behind in
-        omega (arith, told, before, after, parts);
+          let told : weigh f (items_told (told_all (Unsent reason.Expired) (items_queued (late_front c now t.queue)))) ≡ weigh f (items_queued (late_front c now t.queue)) = ap (weigh f) (told_all_items (Unsent reason.Expired) late) in
+          let before : weigh f (items_open t.open_batches ++ items_queued t.queue) ≡ weigh f (items_open t.open_batches) + weigh f (items_queued t.queue) = weigh-append f (items_open t.open_batches) (items_queued t.queue) in
+          let after : weigh f (items_open t.open_batches ++ items_queued (behind_late c now t.queue)) ≡ weigh f (items_open t.open_batches) + weigh f (items_queued (behind_late c now t.queue)) = weigh-append f (items_open t.open_batches) behind in
+          let parts : weigh f (items_queued t.queue) ≡ weigh f (items_queued (late_front c now t.queue)) + weigh f (items_queued (behind_late c now t.queue)) = ap (weigh f) split ∙ weigh-append f late behind in
+          omega (arith, told, before, after, parts);
       attempts = λ k. omega arith;
     }
 

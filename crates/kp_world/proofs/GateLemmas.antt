@@ -1,5 +1,5 @@
 -- Once the gate is shut nothing is accepted; and there are ever as many partitions.
-use Rattle.std.proofs.Common.{◌≡◌, ℕ, Bool, true, false, List, [], ◌∷◌, ◌++◌, length, Some, None, refl, sym, ap, ◌∙◌, subst}
+use Rattle.std.proofs.Common.{◌≡◌, ℕ, Bool, true, false, List, [], ◌∷◌, length, Some, None, refl, sym, ap, ◌∙◌, subst}
 use Rattle.std.specs.Prelude.{Option, Result, Ok, Err, if◌then◌else◌, slice_get, ◌&&◌}
 use Rattle.std.proofs.lemmas.List.{length-set}
 use Rattle.kp_log.specs.History.{History, with_others}
@@ -9,7 +9,7 @@ use Rattle.kp_core.specs.declared.fault.CoreFault.TheVariants as fault
 use Rattle.kp_core.specs.Appending.{Appended, TakenIn, BufferFull, appended}
 use Rattle.kp_core.specs.Flush.{flushed}
 use Rattle.kp_core.specs.Next.{Sending, Demand, Produce, InitProducerId}
-use Rattle.kp_core.specs.Records.{Batch, Core, Told}
+use Rattle.kp_core.specs.Records.{Core, Told}
 use Rattle.kp_core.specs.Requesting.{Outgoing, requested}
 use Rattle.kp_core.specs.Tick.{disconnected}
 use Rattle.kp_world.specs.declared.event.Event.{Event}

@@ -1,7 +1,7 @@
 -- What was taken is accounted for still when a request has gone out: a batch goes from the queue to
 -- what was handed over, as it is.
-use Rattle.std.proofs.Common.{◌≡◌, ℕ, ◌+◌, ◌<◌, ◌≤◌, Bool, true, false, cond, List, [], ◌∷◌, ◌++◌, length, Some, None, refl, sym, ap, ◌∙◌, subst, ⊎_elim, arith, append_assoc, length-append}
-use Rattle.std.specs.Prelude.{Option, Err, flat_map, if◌then◌else◌, slice_index, slice_index_or, ◌==◌, ◌||◌}
+use Rattle.std.proofs.Common.{◌≡◌, ℕ, ◌+◌, ◌<◌, ◌≤◌, Bool, true, false, List, [], ◌∷◌, ◌++◌, length, Some, None, refl, sym, ap, ◌∙◌, subst, ⊎_elim, arith, append_assoc, length-append}
+use Rattle.std.specs.Prelude.{Option, flat_map, if◌then◌else◌, slice_index, slice_index_or, ◌==◌}
 use Rattle.std.specs.List.{AllByRecursion}
 use Rattle.std.proofs.lemmas.Bool.{eqb-true}
 use Rattle.std.proofs.lemmas.List.{append-nil}
@@ -10,8 +10,7 @@ use Rattle.kp_accum.specs.declared.config.Config.{Config}
 use Rattle.kp_accum.specs.declared.flags.Flags.{Flags}
 use Rattle.kp_accum.specs.declared.item.Item.{Item}
 use Rattle.kp_accum.specs.Queue.{Pending}
-use Rattle.kp_log.proofs.PlaceLemmas.{In, In-nil, In-cons, In-head, In-append_left, In-append_right, In-append_cases}
-use Rattle.kp_core.specs.declared.fault.CoreFault.TheVariants as fault
+use Rattle.kp_log.proofs.PlaceLemmas.{In, In-nil, In-cons, In-head, In-append_right, In-append_cases}
 use Rattle.kp_core.specs.Attempts.{is_waiting, lowest_waiting}
 use Rattle.kp_core.specs.HandingOver.{again_in, opened_in, handed_over_in, sent_again_in, sent_first_in, sent_in}
 use Rattle.kp_core.specs.MaySend.{is_rested, may_hand_over, new_batch, sends_new, sends_first, sends}
@@ -23,7 +22,6 @@ use Rattle.kp_world.specs.Accepting.{for_partition}
 use Rattle.kp_world.specs.Accounts.{of_sender, told_in, unsent_among}
 use Rattle.kp_world.specs.Client.{grown_by, handed_at, with_sendings, with_packet, sent_line, sending}
 use Rattle.kp_world.specs.Line.{Idle, Ended}
-use Rattle.kp_world.specs.Noting.{noted}
 use Rattle.kp_world.specs.World.{World}
 use Rattle.kp_world.proofs.AccountLemmas.{items_of, taken_for, all_taken, Accepts, Holds, Accounts, IsAccounted, sender-append, accounts_only, accounts_call}
 use Rattle.kp_world.proofs.ConservationLemmas.{items_told, attempts_of, attempt_count}
@@ -32,11 +30,11 @@ use Rattle.kp_world.proofs.WeightLemmas.{weigh, weigh-append}
 use Rattle.kp_world.proofs.DistinctLemmas.{demand_is_distinct}
 use Rattle.kp_world.proofs.FateLemmas.{all_both, all_weaker, Fates, fates_handed_over}
 use Rattle.kp_world.proofs.GoodLemmas.{length-with_sendings, at-with_sendings}
-use Rattle.kp_world.proofs.KeepingLemmas.{OpenIn, length-changed_at, at-changed_at}
+use Rattle.kp_world.proofs.KeepingLemmas.{length-changed_at, at-changed_at}
 use Rattle.kp_world.proofs.RequestLemmas.{in_request, only_this, none_here, grown_known, grown_new, spent_step, end_step}
 use Rattle.kp_world.proofs.SendingLemmas.{find_open, opens_again, IsSent, demand_is_sent}
 use Rattle.kp_world.proofs.SoundLemmas.{opens_more, opens_last}
-use Rattle.kp_world.proofs.TellingLemmas.{Distinct, home_past, CoreTells, core_nothing, part_same}
+use Rattle.kp_world.proofs.TellingLemmas.{Distinct, home_past, core_nothing}
 
 -- ---- one partition
 
@@ -124,9 +122,9 @@ goes_first k t handed front rest h at =
       holds = record {
         number = omega (arith, all, n);
         below = λ x i. ⊎_elim
-          (λ (j : In x handed). let m : x.number < length handed = h.below x j in omega (arith, all, m))
-          (λ (j : In x (new_batch t front ∷ [])). ⊎_elim (λ (is : x ≡ new_batch t front). let m : x.number ≡ t.next_number = ap (λ (y : Batch). y.number) is in omega (arith, all, n, m)) (λ (z : In x []). absurd (In-nil x z)) (In-cons x (new_batch t front) [] j))
-          (In-append_cases x handed (new_batch t front ∷ []) i);
+            (λ (j : In x handed). let m : x.number < length handed = h.below x j in omega (arith, all, m))
+            (λ (j : In x (new_batch t front ∷ [])). ⊎_elim (λ (is : x ≡ new_batch t front). let m : x.number ≡ t.next_number = ap (λ (y : Batch). y.number) is in omega (arith, all, n, m)) (λ (z : In x []). absurd (In-nil x z)) (In-cons x (new_batch t front) [] j))
+            (In-append_cases x handed (new_batch t front ∷ []) i);
         opens = opens_last (handed ++ new_batch t front ∷ []) (opened_in k t front) t.open_batches (In-append_right (new_batch t front) handed (new_batch t front ∷ []) (In-head (new_batch t front) [])) (opens_more handed (new_batch t front) t.open_batches h.opens);
         single = single_more k t.open_batches (t.open_batches ++ opened_in k t front ∷ []) h.single h.fresh (λ j. count_opened k j t front);
         fresh = fresh_more k t.open_batches (t.open_batches ++ opened_in k t front ∷ []) h.fresh (λ j. count_opened k j t front);
@@ -135,9 +133,9 @@ goes_first k t handed front rest h at =
       queue = ap items_queued at;
       handed_items = flat_map-append (λ (x : Batch). x.items) handed (new_batch t front ∷ []) ∙ ap (λ r. items_of handed ++ r) (append-nil front.items);
       same =
-        ap (λ r. r ++ items_queued rest) (open_one_more t.open_batches (opened_in k t front))
-        ∙ append_assoc (items_open t.open_batches) front.items (items_queued rest)
-        ∙ ap (λ (q : List Pending). items_open t.open_batches ++ items_queued q) (sym at);
+          ap (λ r. r ++ items_queued rest) (open_one_more t.open_batches (opened_in k t front))
+          ∙ append_assoc (items_open t.open_batches) front.items (items_queued rest)
+          ∙ ap (λ (q : List Pending). items_open t.open_batches ++ items_queued q) (sym at);
     })
 
 goes_out : (c : Config) (f : Flags) (now k : ℕ) (t : Partition) (handed : List Batch) (b : Batch) → Holds k t handed → sends c f now t ≡ Some b → Goes k t handed (sent_in k t) (grown_by b handed)
@@ -213,7 +211,7 @@ accounts_sent now s accepted taken handed told xs a e = record {
   weights = λ f.
       let before : weigh f (items_told told) + weigh f (flat_map untold s.partitions) ≡ weigh f (all_taken accepted taken) = a.weights f in
       let same : weigh f (flat_map untold (sent_out now s (Produce xs)).partitions) ≡ weigh f (flat_map untold s.partitions) =
-          weigh_same f (new_partition 0) s.partitions (sent_out now s (Produce xs)).partitions (length-changed_at (partitions_in xs) (λ q u. sent_in s.correlation u) s.partitions) (λ p l. ap (weigh f) (goes p l).same) in
+      weigh_same f (new_partition 0) s.partitions (sent_out now s (Produce xs)).partitions (length-changed_at (partitions_in xs) (λ q u. sent_in s.correlation u) s.partitions) (λ p l. ap (weigh f) (goes p l).same) in
       omega (arith, before, same);
 }
   where

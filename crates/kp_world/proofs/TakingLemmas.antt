@@ -1,30 +1,27 @@
 -- What was taken is accounted for still when an item is accepted, and when one is taken.
-use Rattle.std.proofs.Common.{◌≡◌, ℕ, zero, suc, ◌+◌, ◌<◌, ◌≤◌, Bool, true, false, cond, List, [], ◌∷◌, ◌++◌, length, get_or, take, drop, map, Some, None, refl, sym, ap, ◌∙◌, subst, arith, append_assoc, length-append}
-use Rattle.std.specs.Prelude.{Option, flat_map, if◌then◌else◌, slice_get, slice_set, slice_index, slice_index_or, ◌==◌, ◌||◌}
-use Rattle.std.specs.List.{AllByRecursion, filter, range_with_len}
+use Rattle.std.proofs.Common.{◌≡◌, ℕ, zero, suc, ◌+◌, ◌<◌, ◌≤◌, Bool, true, false, cond, List, [], ◌∷◌, ◌++◌, length, get_or, take, Some, refl, sym, ap, ◌∙◌, subst, arith, append_assoc, length-append}
+use Rattle.std.specs.Prelude.{flat_map, if◌then◌else◌, slice_get, slice_set, slice_index, slice_index_or, ◌==◌, ◌||◌}
+use Rattle.std.specs.List.{AllByRecursion, range_with_len}
 use Rattle.std.proofs.lemmas.Bool.{eqb-true, eq-eqb}
-use Rattle.std.proofs.lemmas.List.{append-nil, length-set, get_or-set_same, get_or-set_other, take-append-le, take-append-drop}
+use Rattle.std.proofs.lemmas.List.{append-nil, length-set, get_or-set_same, get_or-set_other, take-append-le}
 use Rattle.kp_accum.specs.declared.config.Config.{Config}
 use Rattle.kp_accum.specs.declared.item.Item.{Item}
 use Rattle.kp_accum.specs.Queue.{Pending, joins, joined_by, begun_by, with_item}
 use Rattle.kp_core.specs.declared.outcome.Outcome.TheVariants.{Unsent}
 use Rattle.kp_core.specs.declared.outcome.Reason.{Reason}
-use Rattle.kp_core.specs.declared.outcome.Reason.TheVariants.{Fenced, Ended}
-use Rattle.kp_core.specs.Appending.{Appends, TakenIn, BufferFull, with_queued, in_queue, turned_away, refused, queued, would_exhaust, appended}
+use Rattle.kp_core.specs.Appending.{with_queued, in_queue}
 use Rattle.kp_core.specs.Partitions.{new_partition, partition_at, changed_at, is_in, items_open, items_queued, untold}
 use Rattle.kp_core.specs.Records.{Batch, Partition, Request, Core, Told}
 use Rattle.kp_core.specs.Telling.{told_all}
-use Rattle.kp_world.specs.Accepting.{accepted_by, for_partition, with_accepted, taken_by, with_taken, taking_of, taking}
-use Rattle.kp_world.specs.Accounts.{of_sender, told_unsent, unsent_among}
+use Rattle.kp_world.specs.Accepting.{for_partition}
+use Rattle.kp_world.specs.Accounts.{of_sender, unsent_among}
 use Rattle.kp_world.specs.Client.{handed_at}
-use Rattle.kp_world.specs.Noting.{noted}
-use Rattle.kp_world.specs.World.{World}
-use Rattle.kp_world.proofs.AccountLemmas.{items_of, taken_for, taken_of, all_taken, items_told-append, Accepts, Holds, Accounts, IsAccounted, sender-append, partition-append, both-append, accounts_noted, accounts_only}
+use Rattle.kp_world.proofs.AccountLemmas.{items_of, taken_for, taken_of, all_taken, items_told-append, Accepts, Holds, Accounts, sender-append, partition-append, both-append}
 use Rattle.kp_world.proofs.ConservationLemmas.{items_told, unsent-append}
 use Rattle.kp_world.proofs.WeightLemmas.{weigh, weigh-append, grown_at}
 use Rattle.kp_world.proofs.FateLemmas.{all_both, AreNumbered, numbered_more, numbered_back, Fates, fates_queued, fates_turned_away}
 use Rattle.kp_world.proofs.KeepingLemmas.{length-changed_at, at-changed_at}
-use Rattle.kp_world.proofs.TellingLemmas.{Distinct, AtHome, home_past}
+use Rattle.kp_world.proofs.TellingLemmas.{Distinct, home_past}
 
 -- ---- lists
 
@@ -273,7 +270,7 @@ weigh_taken f count s accepted taken i l count_is next = grown_at f (taken_of ac
     here =
         let one : weigh f (take (slice_index taken s) (slice_index_or accepted s []) ++ i ∷ []) ≡ weigh f (take (slice_index taken s) (slice_index_or accepted s [])) + (f i + 0) = weigh-append f (take (slice_index taken s) (slice_index_or accepted s [])) (i ∷ []) in
         let all : weigh f (taken_of accepted (with_one s taken) s) ≡ weigh f (take (slice_index taken s) (slice_index_or accepted s []) ++ i ∷ []) =
-            ap (weigh f) (at s ∙ ap (λ (b : Bool). take (if b then slice_index taken s + 1 else slice_index taken s) (slice_index_or accepted s [])) (eq-eqb s s refl) ∙ next.taken) in
+        ap (weigh f) (at s ∙ ap (λ (b : Bool). take (if b then slice_index taken s + 1 else slice_index taken s) (slice_index_or accepted s [])) (eq-eqb s s refl) ∙ next.taken) in
         omega (arith, one, all)
 
     other : (n : ℕ) → (n == s) ≡ false → weigh f (taken_of accepted (with_one s taken) n) ≡ weigh f (taken_of accepted taken n)
@@ -363,7 +360,7 @@ accounts_queued core accepted taken handed told s i a l next = record {
       let before : weigh f (items_told told) + weigh f (flat_map untold core.partitions) ≡ weigh f (all_taken accepted taken) = a.weights f in
       let more : weigh f (all_taken accepted (with_one s taken)) ≡ weigh f (all_taken accepted taken) + f i = weigh_taken f (length core.partitions) s accepted taken i l a.taken_count next in
       let queue_more : weigh f (flat_map untold (in_queue i core).partitions) ≡ weigh f (flat_map untold core.partitions) + f i =
-          weigh_more f (f i) (new_partition 0) core.partitions (in_queue i core).partitions i.partition count next.known (one_more f) (λ p h ne. ap (weigh f) (ap untold (changed p h ∙ ap (λ (b : Bool). if b || false then with_queued core.config i (partition_at p core.partitions) else partition_at p core.partitions) (elsewhere p ne)))) in
+      weigh_more f (f i) (new_partition 0) core.partitions (in_queue i core).partitions i.partition count next.known (one_more f) (λ p h ne. ap (weigh f) (ap untold (changed p h ∙ ap (λ (b : Bool). if b || false then with_queued core.config i (partition_at p core.partitions) else partition_at p core.partitions) (elsewhere p ne)))) in
       omega (arith, before, more, queue_more);
 }
   where

@@ -1,5 +1,5 @@
 -- What a call on the core tells of each partition's items, and what it keeps.
-use Rattle.std.proofs.Common.{◌≡◌, ℕ, zero, suc, ◌+◌, ◌<◌, ◌≤◌, Bool, true, false, cond, List, [], ◌∷◌, ◌++◌, length, get_or, map, pos, Some, None, refl, sym, ap, ◌∙◌, subst, arith, append_assoc}
+use Rattle.std.proofs.Common.{◌≡◌, ℕ, zero, suc, ◌+◌, ◌<◌, ◌≤◌, Bool, true, false, cond, List, [], ◌∷◌, ◌++◌, length, get_or, map, pos, Some, None, refl, sym, ap, ◌∙◌, subst, arith}
 use Rattle.std.specs.Prelude.{Option, if◌then◌else◌, find, flat_map, nat_abs, ◌==◌, ◌||◌}
 use Rattle.std.specs.List.{AllByRecursion, filter, range_with_len}
 use Rattle.std.specs.Ordering.{int_eq}
@@ -18,12 +18,11 @@ use Rattle.kp_core.specs.Fence.{given_up, end_of, ended}
 use Rattle.kp_core.specs.Flush.{with_marks, flushed}
 use Rattle.kp_core.specs.MaySend.{wants_id}
 use Rattle.kp_core.specs.Mismatch.{Answers, answers_for, answers_of, answer_batches, is_given, answers_id}
-use Rattle.kp_core.specs.Partitions.{partition_at, changed_at, new_partition, is_in, untold, items_queued}
+use Rattle.kp_core.specs.Partitions.{partition_at, changed_at, new_partition, is_in, untold}
 use Rattle.kp_core.specs.Records.{Batch, Partition, Request, IdRequest, Core, Told, Effect, Step}
 use Rattle.kp_core.specs.Replies.{first_answered, answering, batches_answered, batches_replied, under, under_if_wanted, id_given, id_refused, id_answered, id_replied, replied_to, replied, after_end, faulty, known, Replies}
 use Rattle.kp_core.specs.Telling.{with_partitions, at_each, told_at_each, at_these, told_at}
 use Rattle.kp_core.specs.Tick.{passed, has_timed_out, ticked_now, ticked_from, not_ticked, ticked, disconnected, closed}
-use Rattle.kp_world.specs.Accounts.{unsent_among}
 use Rattle.kp_world.proofs.ConservationLemmas.{items_told, attempt_count, Tells, tells_same, tells_both, tells_nothing, tells_dropped, tells_marked, tells_given_up, tells_passed, tells_answered}
 use Rattle.kp_world.proofs.FateLemmas.{all_both, all_filter, filter_all, filter_none, all_weaker}
 use Rattle.kp_world.proofs.WeightLemmas.{weigh, weigh-append, grown_at}
@@ -231,10 +230,10 @@ core_at_each rule keeps tells s home = record {
   each = λ p h.
       let t = partition_at p s.partitions in
       let told : told_for p (flat_map (λ t. (rule t).told) s.partitions) ≡ (rule (partition_at p s.partitions)).told =
-          ap (λ (n : ℕ). told_for n (flat_map (λ t. (rule t).told) s.partitions)) (let same : p ≡ 0 + p = omega arith in same)
-          ∙ told_each (λ t. (rule t).told) s.partitions (new_partition 0) 0 p h
-          (λ q l. let same : q ≡ 0 + q = omega arith in subst (λ (n : ℕ). AllFor n (rule (partition_at q s.partitions)).told) same
-          (all_told (λ i. i.partition ≡ q) (rule (partition_at q s.partitions)).told ((tells (partition_at q s.partitions)).told_from (λ i. i.partition ≡ q) (home q)))) in
+      ap (λ (n : ℕ). told_for n (flat_map (λ t. (rule t).told) s.partitions)) (let same : p ≡ 0 + p = omega arith in same)
+      ∙ told_each (λ t. (rule t).told) s.partitions (new_partition 0) 0 p h
+      (λ q l. let same : q ≡ 0 + q = omega arith in subst (λ (n : ℕ). AllFor n (rule (partition_at q s.partitions)).told) same
+      (all_told (λ i. i.partition ≡ q) (rule (partition_at q s.partitions)).told ((tells (partition_at q s.partitions)).told_from (λ i. i.partition ≡ q) (home q)))) in
       let after : partition_at p (map (λ t. (rule t).after) s.partitions) ≡ (rule (partition_at p s.partitions)).after = get_or-map (λ t. (rule t).after) s.partitions p (new_partition 0) (new_partition 0) h in
       subst (λ (u : Partition). Part (partition_at p s.partitions) (told_for p (flat_map (λ t. (rule t).told) s.partitions)) u) (sym after)
       (subst (λ (x : List Told). Part (partition_at p s.partitions) x (rule (partition_at p s.partitions)).after) (sym told)
@@ -252,8 +251,8 @@ core_at_these ps rule keeps s tells distinct home = record {
   count = length-changed_at ps (λ p t. (rule p t).after) s.partitions;
   each = λ p h.
       let told : told_for p (flat_map (λ q. (rule q (partition_at q s.partitions)).told) ps) ≡ (if is_in p ps then (rule p (partition_at p s.partitions)).told else []) =
-          told_these (λ q. (rule q (partition_at q s.partitions)).told)
-          (λ q. all_told (λ i. i.partition ≡ q) (rule q (partition_at q s.partitions)).told ((tells q).told_from (λ i. i.partition ≡ q) (home q))) ps p distinct in
+      told_these (λ q. (rule q (partition_at q s.partitions)).told)
+      (λ q. all_told (λ i. i.partition ≡ q) (rule q (partition_at q s.partitions)).told ((tells q).told_from (λ i. i.partition ≡ q) (home q))) ps p distinct in
       subst (λ (u : Partition). Part (partition_at p s.partitions) (told_for p (flat_map (λ q. (rule q (partition_at q s.partitions)).told) ps)) u) (sym (at-changed_at ps (λ p t. (rule p t).after) s.partitions p h))
       (subst (λ (x : List Told). Part (partition_at p s.partitions) x (if is_in p ps then (rule p (partition_at p s.partitions)).after else partition_at p s.partitions)) (sym told)
       (at_test p (is_in p ps)));
@@ -282,7 +281,7 @@ told_parts g n [] h = nothing 0 n
     nothing a (suc m) = nothing (a + 1) m
 told_parts g n (t ∷ told) h =
     let one : weigh g (flat_map (λ p. told_for p (t ∷ told)) (range_with_len 0 n)) ≡ weigh g (flat_map (λ p. told_for p told) (range_with_len 0 n)) + g t =
-        grown_at g (λ p. told_for p told) (λ p. told_for p (t ∷ told)) t.item.partition (g t) here other 0 n (omega arith) (omega (arith, h.0)) in
+    grown_at g (λ p. told_for p told) (λ p. told_for p (t ∷ told)) t.item.partition (g t) here other 0 n (omega arith) (omega (arith, h.0)) in
     let rest : weigh g (flat_map (λ p. told_for p told) (range_with_len 0 n)) ≡ weigh g told = told_parts g n told h.1 in
     omega (arith, one, rest)
   where
@@ -308,7 +307,7 @@ weigh_places f told k (t ∷ ts) (t' ∷ ts') d e h =
     let here : weigh f (items_told (told_for k told)) + weigh f (untold t') ≡ weigh f (untold t) = subst (λ (n : ℕ). weigh f (items_told (told_for n told)) + weigh f (untold t') ≡ weigh f (untold t)) zero_on (h 0 (omega arith)) in
     let moved : weigh f (items_told (told_for k told)) ≡ weigh (λ (x : Told). f x.item) (told_for k told) = weigh_items f (told_for k told) in
     let rest : weigh (λ (x : Told). f x.item) (flat_map (λ p. told_for p told) (range_with_len (k + 1) (length ts))) + weigh f (flat_map untold ts') ≡ weigh f (flat_map untold ts) =
-        weigh_places f told (k + 1) ts ts' d (omega (arith, e)) (λ q l. let next : k + suc q ≡ k + 1 + q = omega arith in subst (λ (n : ℕ). weigh f (items_told (told_for n told)) + weigh f (untold (get_or ts' q d)) ≡ weigh f (untold (get_or ts q d))) next (h (suc q) (omega (arith, l)))) in
+    weigh_places f told (k + 1) ts ts' d (omega (arith, e)) (λ q l. let next : k + suc q ≡ k + 1 + q = omega arith in subst (λ (n : ℕ). weigh f (items_told (told_for n told)) + weigh f (untold (get_or ts' q d)) ≡ weigh f (untold (get_or ts q d))) next (h (suc q) (omega (arith, l)))) in
     let a : weigh (λ (x : Told). f x.item) (told_for k told ++ flat_map (λ p. told_for p told) (range_with_len (k + 1) (length ts))) ≡ weigh (λ (x : Told). f x.item) (told_for k told) + weigh (λ (x : Told). f x.item) (flat_map (λ p. told_for p told) (range_with_len (k + 1) (length ts))) = weigh-append (λ (x : Told). f x.item) (told_for k told) (flat_map (λ p. told_for p told) (range_with_len (k + 1) (length ts))) in
     let b : weigh f (untold t' ++ flat_map untold ts') ≡ weigh f (untold t') + weigh f (flat_map untold ts') = weigh-append f (untold t') (flat_map untold ts') in
     let c : weigh f (untold t ++ flat_map untold ts) ≡ weigh f (untold t) + weigh f (flat_map untold ts) = weigh-append f (untold t) (flat_map untold ts) in
@@ -318,7 +317,7 @@ pub core_weighs : (s : Core) (told : List Told) (s' : Core) → CoreTells s told
     → weigh f (items_told told) + weigh f (flat_map untold s'.partitions) ≡ weigh f (flat_map untold s.partitions)
 core_weighs s told s' k f =
     let places : weigh (λ (t : Told). f t.item) (flat_map (λ p. told_for p told) (range_with_len 0 (length s.partitions))) + weigh f (flat_map untold s'.partitions) ≡ weigh f (flat_map untold s.partitions) =
-        weigh_places f told 0 s.partitions s'.partitions (new_partition 0) k.count (λ q l. let same : q ≡ 0 + q = omega arith in subst (λ (n : ℕ). weigh f (items_told (told_for n told)) + weigh f (untold (partition_at q s'.partitions)) ≡ weigh f (untold (partition_at q s.partitions))) same ((k.each q l).tells.weighs f)) in
+    weigh_places f told 0 s.partitions s'.partitions (new_partition 0) k.count (λ q l. let same : q ≡ 0 + q = omega arith in subst (λ (n : ℕ). weigh f (items_told (told_for n told)) + weigh f (untold (partition_at q s'.partitions)) ≡ weigh f (untold (partition_at q s.partitions))) same ((k.each q l).tells.weighs f)) in
     let parts : weigh (λ (t : Told). f t.item) (flat_map (λ p. told_for p told) (range_with_len 0 (length s.partitions))) ≡ weigh (λ (t : Told). f t.item) told = told_parts (λ (t : Told). f t.item) (length s.partitions) told k.there in
     let items : weigh f (items_told told) ≡ weigh (λ (t : Told). f t.item) told = weigh_items f told in
     omega (arith, places, parts, items)

@@ -11,7 +11,7 @@ use Rattle.kp_world.specs.Accepting.{accepted_by, for_partition, taken_by}
 use Rattle.kp_world.specs.Accounts.{is_same, is_among, told_items, items_taken, IsToldOnce, IsUsedByUntold}
 use Rattle.kp_world.specs.World.{World}
 use Rattle.kp_world.proofs.AccountLemmas.{IsAccounted, partition-append}
-use Rattle.kp_world.proofs.FateLemmas.{all_front, all_say, all_weaker, AreNumbered, numbered_front}
+use Rattle.kp_world.proofs.FateLemmas.{all_front, all_weaker, AreNumbered, numbered_front}
 use Rattle.kp_world.proofs.WeightLemmas.{weigh, weigh-append, weigh_agrees, sum_is}
 
 -- ---- counting an item
@@ -207,9 +207,9 @@ used_by_untold w a =
     let f : Item → ℕ = λ i. if not (is_among i (told_items w)) then charge_of i else 0 in
     let all : weigh (λ i. if not (is_among i (told_items w)) then charge_of i else 0) (told_items w) + weigh (λ i. if not (is_among i (told_items w)) then charge_of i else 0) (flat_map untold w.core.partitions) ≡ weigh (λ i. if not (is_among i (told_items w)) then charge_of i else 0) (items_taken w) = a.weights f in
     let none : weigh (λ i. if not (is_among i (told_items w)) then charge_of i else 0) (told_items w) ≡ 0 =
-        weigh_none f (told_items w) (all_weaker (λ i. is_among i (told_items w) ≡ true) (λ i. (if not (is_among i (told_items w)) then charge_of i else 0) ≡ 0) (λ i e. ap (λ (b : Bool). if not b then charge_of i else 0) e) (told_items w) (among_itself (told_items w))) in
+    weigh_none f (told_items w) (all_weaker (λ i. is_among i (told_items w) ≡ true) (λ i. (if not (is_among i (told_items w)) then charge_of i else 0) ≡ 0) (λ i e. ap (λ (b : Bool). if not b then charge_of i else 0) e) (told_items w) (among_itself (told_items w))) in
     let same : weigh (λ i. if not (is_among i (told_items w)) then charge_of i else 0) (flat_map untold w.core.partitions) ≡ weigh charge_of (flat_map untold w.core.partitions) =
-        weigh_agrees f charge_of (flat_map untold w.core.partitions) (all_weaker (λ i. 1 ≤ weigh (count_of i) (flat_map untold w.core.partitions)) (λ i. (if not (is_among i (told_items w)) then charge_of i else 0) ≡ charge_of i) untold_is (flat_map untold w.core.partitions) (weighs_itself (flat_map untold w.core.partitions))) in
+    weigh_agrees f charge_of (flat_map untold w.core.partitions) (all_weaker (λ i. 1 ≤ weigh (count_of i) (flat_map untold w.core.partitions)) (λ i. (if not (is_among i (told_items w)) then charge_of i else 0) ≡ charge_of i) untold_is (flat_map untold w.core.partitions) (weighs_itself (flat_map untold w.core.partitions))) in
     let left : weigh (λ i. if not (is_among i (told_items w)) then charge_of i else 0) (items_taken w) ≡ weigh charge_of (filter (λ i. not (is_among i (told_items w))) (items_taken w)) = weigh_tested charge_of told (items_taken w) in
     let before : sum (map charge_of (flat_map untold w.core.partitions)) ≡ weigh charge_of (flat_map untold w.core.partitions) = sum_is charge_of (flat_map untold w.core.partitions) in
     let after : sum (map charge_of (filter (λ i. not (is_among i (told_items w))) (items_taken w))) ≡ weigh charge_of (filter (λ i. not (is_among i (told_items w))) (items_taken w)) = sum_is charge_of (filter told (items_taken w)) in
