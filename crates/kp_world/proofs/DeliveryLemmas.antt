@@ -97,9 +97,9 @@ parts_came how ids core handed may (x ∷ xs) logs s k =
         let within : p < length logs = subst (λ (n : ℕ). p < n) size h in
         ⊎_elim
         (λ (e : (p ≡ x.partition) × (log_at p (with_part how logs x) ≡ (treated how (log_at x.partition logs) (sent_of x.batch)).history)).
-        subst (λ (l : History). Sound ids (partition_at p core.partitions) (handed_at p handed) l) (sym e.1)
-        (subst (λ (q : ℕ). Sound ids (partition_at q core.partitions) (handed_at q handed) (treated how (log_at x.partition logs) (sent_of x.batch)).history) (sym e.0)
-        (sound_history ids (partition_at x.partition core.partitions) (handed_at x.partition handed) (log_at x.partition logs) (treated how (log_at x.partition logs) (sent_of x.batch)).history (s x.partition k.0.0) one.1)))
+          subst (λ (l : History). Sound ids (partition_at p core.partitions) (handed_at p handed) l) (sym e.1)
+          (subst (λ (q : ℕ). Sound ids (partition_at q core.partitions) (handed_at q handed) (treated how (log_at x.partition logs) (sent_of x.batch)).history) (sym e.0)
+          (sound_history ids (partition_at x.partition core.partitions) (handed_at x.partition handed) (log_at x.partition logs) (treated how (log_at x.partition logs) (sent_of x.batch)).history (s x.partition k.0.0) one.1)))
         (λ (e : log_at p (with_part how logs x) ≡ log_at p logs). subst (λ (l : History). Sound ids (partition_at p core.partitions) (handed_at p handed) l) (sym e) (s p within))
         (at_log logs x.partition p (treated how (log_at x.partition logs) (sent_of x.batch)).history k.0.0)
 
@@ -145,10 +145,11 @@ came_batches : (how : Treatment) (w : World) (o : Outgoing) (xs : List Sending) 
     → Delivers w (Produce xs) (delivered how w (Produce xs)) × IsGood (with_delivery o (delivered how w (Produce xs)) w)
 unfolding Delivers delivered with_delivery noted
 came_batches how w o xs may g b k =
-    let parts : PartsCame how w.ids w.core w.handed w.logs xs = parts_came how w.ids w.core w.handed may xs w.logs g.each k in (
+    let parts : PartsCame how w.ids w.core w.handed w.logs xs = parts_came how w.ids w.core w.handed may xs w.logs g.each k in
+    (
       (answers_to how w.logs xs, parts.deliver, refl, refl),
       with_reply w.core w.logs (logs_with how w.logs xs) w.handed w.packets w.replies w.ids w.ids (reply o (Batches (answers_to how w.logs xs))) g parts.count parts.sound (λ id i. i) g.drawn
-          (gives_none (length w.logs) w.ids w.core (reply o (Batches (answers_to how w.logs xs))) b (λ id e. not_id (answers_to how w.logs xs) id e)),
+      (gives_none (length w.logs) w.ids w.core (reply o (Batches (answers_to how w.logs xs))) b (λ id e. not_id (answers_to how w.logs xs) id e)),
     )
   where
     not_id : (answers : List PartAnswer) (id : ℕ) → Batches answers ≡ given id → ⊥
@@ -157,12 +158,13 @@ came_batches how w o xs may g b k =
 came_id : (how : Treatment) (w : World) (o : Outgoing) (p : ℕ) → MayTreat how → IsGood w → o.correlation < w.core.correlation
     → Delivers w (InitProducerId p) (delivered how w (InitProducerId p)) × IsGood (with_delivery o (delivered how w (InitProducerId p)) w)
 unfolding Delivers delivered with_delivery noted
-came_id Judged w o p may g b = (
-  (inr (next_id w.ids, fresh_next w.ids g.drawn, refl, inr refl), refl),
-  with_reply w.core w.logs w.logs w.handed w.packets w.replies w.ids (with_id w.ids) (reply o (given (next_id w.ids))) g refl
+came_id Judged w o p may g b =
+    (
+      (inr (next_id w.ids, fresh_next w.ids g.drawn, refl, inr refl), refl),
+      with_reply w.core w.logs w.logs w.handed w.packets w.replies w.ids (with_id w.ids) (reply o (given (next_id w.ids))) g refl
       (λ q h. sound_drawn w.ids (next_id w.ids) (partition_at q w.core.partitions) (handed_at q w.handed) (log_at q w.logs) (g.each q h))
       (λ id i. In-append_left id w.ids (next_id w.ids ∷ []) i) (drawn_next w.ids g.drawn) newest,
-)
+    )
   where
     same_id : (id : ℕ) → given (next_id w.ids) ≡ given id → next_id w.ids ≡ id
     same_id id e = cc
@@ -172,20 +174,22 @@ came_id Judged w o p may g b = (
       before = b;
       drawn = λ id e. subst (λ (n : ℕ). In n (with_id w.ids)) (same_id id e) (In-append_right (next_id w.ids) w.ids (next_id w.ids ∷ []) (In-head (next_id w.ids) []));
       spare = λ id q e a c p' h at.
-          let same : next_id w.ids ≡ id = same_id id e in
-          let below : id < FIRST_ID + length w.ids = g.drawn id ((g.each p' h).drawn_all id at) in
-          absurd (omega arith);
+        let same : next_id w.ids ≡ id = same_id id e in
+        let below : id < FIRST_ID + length w.ids = g.drawn id ((g.each p' h).drawn_all id at) in
+        absurd (omega arith);
     }
-came_id (Refused code) w o p may g b = (
-  (inl ((may.0, refl), refl), refl),
-  with_reply w.core w.logs w.logs w.handed w.packets w.replies w.ids w.ids (reply o (error code)) g refl g.each (λ id i. i) g.drawn (gives_none (length w.logs) w.ids w.core (reply o (error code)) b (not_given code)),
-)
-came_id (Late code) w o p may g b = (
-  (inr (next_id w.ids, fresh_next w.ids g.drawn, refl, inl (may.0, refl)), refl),
-  with_reply w.core w.logs w.logs w.handed w.packets w.replies w.ids (with_id w.ids) (reply o (error code)) g refl
+came_id (Refused code) w o p may g b =
+    (
+      (inl ((may.0, refl), refl), refl),
+      with_reply w.core w.logs w.logs w.handed w.packets w.replies w.ids w.ids (reply o (error code)) g refl g.each (λ id i. i) g.drawn (gives_none (length w.logs) w.ids w.core (reply o (error code)) b (not_given code)),
+    )
+came_id (Late code) w o p may g b =
+    (
+      (inr (next_id w.ids, fresh_next w.ids g.drawn, refl, inl (may.0, refl)), refl),
+      with_reply w.core w.logs w.logs w.handed w.packets w.replies w.ids (with_id w.ids) (reply o (error code)) g refl
       (λ q h. sound_drawn w.ids (next_id w.ids) (partition_at q w.core.partitions) (handed_at q w.handed) (log_at q w.logs) (g.each q h))
       (λ id i. In-append_left id w.ids (next_id w.ids ∷ []) i) (drawn_next w.ids g.drawn) (gives_none (length w.logs) (with_id w.ids) w.core (reply o (error code)) b (not_given code)),
-)
+    )
 
 pub came : (how : Treatment) (w : World) (o : Outgoing) → MayTreat how → IsGood w → In o w.packets
     → Delivers w o.demand (delivered how w o.demand) × IsGood (with_delivery o (delivered how w o.demand) w)
@@ -203,13 +207,13 @@ others_good p n core logs handed packets replies ids within g = record {
   count = g.count ∙ sym size;
   handed_count = g.handed_count ∙ sym size;
   each = λ q h.
-      ⊎_elim
-      (λ (e : (q ≡ p) × (log_at q (logs_with_others p n logs) ≡ with_others n other_record (log_at p logs))).
+    ⊎_elim
+    (λ (e : (q ≡ p) × (log_at q (logs_with_others p n logs) ≡ with_others n other_record (log_at p logs))).
       subst (λ (l : History). Sound ids (partition_at q core.partitions) (handed_at q handed) l) (sym e.1)
       (subst (λ (r : ℕ). Sound ids (partition_at r core.partitions) (handed_at r handed) (with_others n other_record (log_at p logs))) (sym e.0)
       (sound_history ids (partition_at p core.partitions) (handed_at p handed) (log_at p logs) (with_others n other_record (log_at p logs)) (g.each p within) (came_others (sents (handed_at p handed)) (log_at p logs) n other_record (g.each p within).came))))
-      (λ (e : log_at q (logs_with_others p n logs) ≡ log_at q logs). subst (λ (l : History). Sound ids (partition_at q core.partitions) (handed_at q handed) l) (sym e) (g.each q (subst (λ (m : ℕ). q < m) size h)))
-      (at_log logs p q (with_others n other_record (log_at p logs)) within);
+    (λ (e : log_at q (logs_with_others p n logs) ≡ log_at q logs). subst (λ (l : History). Sound ids (partition_at q core.partitions) (handed_at q handed) l) (sym e) (g.each q (subst (λ (m : ℕ). q < m) size h)))
+    (at_log logs p q (with_others n other_record (log_at p logs)) within);
   packets_all = λ o i. let w = g.packets_all o i in record { before = w.before; parts = subst (λ (m : ℕ). PartsIn m handed o.demand) (sym size) w.parts };
   replies_all = λ r i. subst (λ (m : ℕ). Given m ids core r) (sym size) (g.replies_all r i);
   drawn = g.drawn;

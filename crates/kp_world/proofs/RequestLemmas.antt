@@ -129,7 +129,7 @@ went_out now s logs handed packets replies ids xs g all p h =
         let after : partition_at p (sent_out now s (Produce xs)).partitions ≡ sent_in s.correlation (partition_at p s.partitions) = changed ∙ ap (λ (b : Bool). if b then sent_in s.correlation (partition_at p s.partitions) else partition_at p s.partitions) is in
         let sends_it : sends s.config (flags_of s) now (partition_at p s.partitions) ≡ Some x.batch = subst (λ (n : ℕ). sends s.config (flags_of s) now (partition_at n s.partitions) ≡ Some x.batch) e k.sends in
         let sent : Sent ids (partition_at p s.partitions) x.batch (handed_at p handed) (log_at p logs) (sent_in s.correlation (partition_at p s.partitions)) =
-        ⊎_elim (λ (a : Again (partition_at p s.partitions) (sent_in s.correlation (partition_at p s.partitions)) x.batch). sent_again ids (partition_at p s.partitions) x.batch (handed_at p handed) (log_at p logs) (sent_in s.correlation (partition_at p s.partitions)) (g.each p h) a) (λ (o : HandsOver (partition_at p s.partitions) (sent_in s.correlation (partition_at p s.partitions)) x.batch). sent_new ids (partition_at p s.partitions) x.batch (handed_at p handed) (log_at p logs) (sent_in s.correlation (partition_at p s.partitions)) (g.each p h) o) (goes_out_of s.config (flags_of s) now s.correlation (partition_at p s.partitions) x.batch sends_it) in
+          ⊎_elim (λ (a : Again (partition_at p s.partitions) (sent_in s.correlation (partition_at p s.partitions)) x.batch). sent_again ids (partition_at p s.partitions) x.batch (handed_at p handed) (log_at p logs) (sent_in s.correlation (partition_at p s.partitions)) (g.each p h) a) (λ (o : HandsOver (partition_at p s.partitions) (sent_in s.correlation (partition_at p s.partitions)) x.batch). sent_new ids (partition_at p s.partitions) x.batch (handed_at p handed) (log_at p logs) (sent_in s.correlation (partition_at p s.partitions)) (g.each p h) o) (goes_out_of s.config (flags_of s) now s.correlation (partition_at p s.partitions) x.batch sends_it) in
         subst (λ (hs : List Batch). Went_out ids (partition_at p s.partitions) (handed_at p handed) (log_at p logs) (partition_at p (sent_out now s (Produce xs)).partitions) hs) (sym grown)
         (subst (λ (u : Partition). Went_out ids (partition_at p s.partitions) (handed_at p handed) (log_at p logs) u (grown_by x.batch (handed_at p handed))) (sym after)
         (record { sound = sent.sound; more = sent.more; same_ids = sent.same_ids }))
@@ -154,7 +154,7 @@ sent_known now s logs handed packets replies ids xs g all x k is =
     let grown : handed_at x.partition (with_sendings xs handed) ≡ grown_by x.batch (handed_at x.partition handed) = at-with_sendings xs handed x.partition x.batch (only_this now s xs x all k) inside ∙ ap (λ (b : Bool). if b then grown_by x.batch (handed_at x.partition handed) else handed_at x.partition handed) is in
     let within : x.partition < length logs = subst (λ (n : ℕ). x.partition < n) g.count k.there in
     let sent : In x.batch (grown_by x.batch (handed_at x.partition handed)) =
-    ⊎_elim (λ (a : Again (partition_at x.partition s.partitions) (sent_in s.correlation (partition_at x.partition s.partitions)) x.batch). (sent_again ids (partition_at x.partition s.partitions) x.batch (handed_at x.partition handed) (log_at x.partition logs) (sent_in s.correlation (partition_at x.partition s.partitions)) (g.each x.partition within) a).known) (λ (o : HandsOver (partition_at x.partition s.partitions) (sent_in s.correlation (partition_at x.partition s.partitions)) x.batch). (sent_new ids (partition_at x.partition s.partitions) x.batch (handed_at x.partition handed) (log_at x.partition logs) (sent_in s.correlation (partition_at x.partition s.partitions)) (g.each x.partition within) o).known) (goes_out_of s.config (flags_of s) now s.correlation (partition_at x.partition s.partitions) x.batch k.sends) in
+      ⊎_elim (λ (a : Again (partition_at x.partition s.partitions) (sent_in s.correlation (partition_at x.partition s.partitions)) x.batch). (sent_again ids (partition_at x.partition s.partitions) x.batch (handed_at x.partition handed) (log_at x.partition logs) (sent_in s.correlation (partition_at x.partition s.partitions)) (g.each x.partition within) a).known) (λ (o : HandsOver (partition_at x.partition s.partitions) (sent_in s.correlation (partition_at x.partition s.partitions)) x.batch). (sent_new ids (partition_at x.partition s.partitions) x.batch (handed_at x.partition handed) (log_at x.partition logs) (sent_in s.correlation (partition_at x.partition s.partitions)) (g.each x.partition within) o).known) (goes_out_of s.config (flags_of s) now s.correlation (partition_at x.partition s.partitions) x.batch k.sends) in
     subst (λ (hs : List Batch). In x.batch hs) (sym grown) sent
 
 all_known : (P : Sending → Type 0) (Q : Sending → Type 0) → (xs : List Sending) → ((x : Sending) → P x → is_in x.partition (partitions_in xs) ≡ true → Q x) → AllByRecursion P xs → AllByRecursion Q xs
@@ -207,10 +207,10 @@ good_id now s logs handed packets replies ids p g = record {
     before = let b : r.correlation < s.correlation = k.before in omega arith;
     drawn = k.drawn;
     spare = λ id q e a c p' h at.
-        let b : r.correlation < s.correlation = k.before in
-        let asked : (record { correlation = s.correlation; sent = now; partition = p }) ≡ q = cc in
-        let same : s.correlation ≡ q.correlation = ap (λ (x : IdRequest). x.correlation) asked in
-        absurd (omega arith);
+      let b : r.correlation < s.correlation = k.before in
+      let asked : (record { correlation = s.correlation; sent = now; partition = p }) ≡ q = cc in
+      let same : s.correlation ≡ q.correlation = ap (λ (x : IdRequest). x.correlation) asked in
+      absurd (omega arith);
   };
   drawn = g.drawn;
   asked = λ q e. let asked : (record { correlation = s.correlation; sent = now; partition = p }) ≡ q = cc in let same : s.correlation ≡ q.correlation = ap (λ (x : IdRequest). x.correlation) asked in omega arith;

@@ -111,7 +111,8 @@ pub record IsPlace {A : Type 0} (k : ℕ) (xs : List A) (d : A) (y : ℕ × A) :
 places : {A : Type 0} (k : ℕ) (xs : List A) (d : A) → AllByRecursion (IsPlace k xs d) (enumerate_from k xs)
 places k [] d = tt
 places {A = A} k (x ∷ xs) d =
-    let here : k - k ≡ 0 = omega arith in (
+    let here : k - k ≡ 0 = omega arith in
+    (
       record { least = omega arith; most = omega arith; there = ap (λ (n : ℕ). get_or (x ∷ xs) n d) here },
       all_weaker (IsPlace (k + 1) xs d) (IsPlace k (x ∷ xs) d) later (enumerate_from (k + 1) xs) (places (k + 1) xs d),
     )

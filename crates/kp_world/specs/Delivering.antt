@@ -53,7 +53,7 @@ abbrev pub IdDelivers : List ℕ → ReplyContent → List ℕ → Type 0
 IdDelivers before content after =
     (IsError content × (after ≡ before))
     ⊎ ((id : ℕ) × IsFresh before id × (after ≡ before ++ id ∷ [])
-    × (IsError content ⊎ (content ≡ given id)))
+        × (IsError content ⊎ (content ≡ given id)))
 
 -- ---- a packet
 
