@@ -1,22 +1,26 @@
 -- The laws of every run on what was accepted.
-use Rattle.std.proofs.Common.{◌≡◌, ℕ, ◌<◌, List, [], length, replicate, map, refl, sym, ap, ◌∙◌, subst}
-use Rattle.std.specs.List.{AllByRecursion, range_with_len}
+use Rattle.std.proofs.Common.{◌≡◌, ℕ, ◌<◌, List, [], length, sym, ◌∙◌, subst}
 use Rattle.std.proofs.lemmas.List.{length-replicate}
 use Rattle.kp_accum.specs.declared.config.Config.{Config}
-use Rattle.kp_accum.specs.declared.item.Item.{Item}
+use Rattle.kp_log.specs.History.{empty_history}
 use Rattle.kp_core.specs.Records.{Batch}
 use Rattle.kp_world.specs.declared.event.Event.{Event}
 use Rattle.kp_world.specs.Accepting.{accepted_by, for_partition}
-use Rattle.kp_world.specs.Accounts.{AreAccountedFor, ArePlaced, IsNeverSent}
-use Rattle.kp_world.specs.Run.{Run, IsReached}
+use Rattle.kp_world.specs.Accounts.{AreAccountedFor, ArePlaced, IsNeverSent, IsToldOnce, IsUsedByUntold}
+use Rattle.kp_world.specs.Run.{IsReached}
 use Rattle.kp_world.specs.World.{World, opening}
 use Rattle.kp_world.proofs.AccountLemmas.{IsAccounted}
 use Rattle.kp_world.proofs.AccountRunLemmas.{accounts_run, accounts_opening}
 use Rattle.kp_world.proofs.AccountedLemmas.{accounted_for, handed_is_sent, numbers_are}
+use Rattle.kp_world.proofs.ToldLemmas.{told_once, used_by_untold}
 use Rattle.kp_world.proofs.GateLemmas.{follows_run}
 
+as_many : (c : Config) (partitions senders : ℕ) → length (opening c partitions senders).logs ≡ length (opening c partitions senders).handed
+unfolding opening
+as_many c partitions senders = length-replicate partitions empty_history ∙ sym (length-replicate {A = List Batch} partitions [])
+
 reached : (c : Config) (partitions senders : ℕ) (es : List Event) (w : World) → IsReached c partitions senders es w → IsAccounted w
-reached c partitions senders es w r = accounts_run es (opening c partitions senders) w r.run (accounts_opening c partitions senders)
+reached c partitions senders es w r = accounts_run es (opening c partitions senders) w r.run (as_many c partitions senders) (accounts_opening c partitions senders)
 
 handed_count : (c : Config) (partitions senders : ℕ) → length (opening c partitions senders).handed ≡ partitions
 unfolding opening
@@ -38,3 +42,9 @@ placed c partitions senders es w s p r =
 
 pub never_sent : (c : Config) (partitions senders : ℕ) (es : List Event) (w : World) (p : ℕ) → IsReached c partitions senders es w → p < partitions → IsNeverSent p w
 never_sent c partitions senders es w p r l = handed_is_sent p w (reached c partitions senders es w r) (within c partitions senders es w p r l)
+
+pub once : (c : Config) (partitions senders : ℕ) (es : List Event) (w : World) → IsReached c partitions senders es w → IsToldOnce w
+once c partitions senders es w r = told_once w (reached c partitions senders es w r)
+
+pub memory : (c : Config) (partitions senders : ℕ) (es : List Event) (w : World) → IsReached c partitions senders es w → IsUsedByUntold w
+memory c partitions senders es w r = used_by_untold w (reached c partitions senders es w r)

@@ -1,5 +1,5 @@
 -- What was handed over of a sender and partition is what was accepted and has left.
-use Rattle.std.proofs.Common.{◌≡◌, ℕ, zero, suc, ◌+◌, ◌<◌, ◌≤◌, Bool, true, false, not, cond, List, [], ◌∷◌, ◌++◌, length, take, drop, map, refl, sym, ap, ◌∙◌, subst, arith}
+use Rattle.std.proofs.Common.{◌≡◌, ℕ, ◌+◌, ◌<◌, Bool, true, false, not, cond, List, [], ◌∷◌, ◌++◌, length, take, map, refl, sym, ap, ◌∙◌, subst, arith}
 use Rattle.std.specs.Prelude.{◌==◌, ◌&&◌, ◌||◌}
 use Rattle.std.specs.List.{AllByRecursion, filter, range_with_len}
 use Rattle.std.proofs.lemmas.Bool.{eqb-true, eq-eqb}
@@ -9,10 +9,10 @@ use Rattle.kp_accum.specs.declared.item.Item.{Item}
 use Rattle.kp_core.specs.Partitions.{partition_at, items_open, items_queued, untold}
 use Rattle.kp_core.specs.Records.{Partition}
 use Rattle.kp_world.specs.Accepting.{accepted_by, for_partition, taken_by}
-use Rattle.kp_world.specs.Accounts.{is_same, is_among, of_sender, items_handed, told_unsent, not_taken, queued_at, still_waits, has_left, AreAccountedFor}
+use Rattle.kp_world.specs.Accounts.{is_same, is_among, of_sender, items_handed, told_unsent, not_taken, queued_at, has_left, AreAccountedFor}
 use Rattle.kp_world.specs.World.{World}
-use Rattle.kp_world.proofs.AccountLemmas.{taken_for, IsAccounted, sender-append, partition-append}
-use Rattle.kp_world.proofs.FateLemmas.{all_both, all_front, all_back, all_weaker, all_filter, filter_agrees, filter_all, filter_none, filter_twice, has_number, is_out, without, AreNumbered, above_is_out, below_is_out, numbered_below, numbered_back, numbered_front, in_itself, Fates, fates_handed, fates_apart}
+use Rattle.kp_world.proofs.AccountLemmas.{taken_for, IsAccounted, partition-append}
+use Rattle.kp_world.proofs.FateLemmas.{all_front, all_back, all_weaker, all_filter, filter_agrees, filter_all, filter_none, filter_twice, has_number, is_out, AreNumbered, below_is_out, in_itself, fates_handed, fates_apart}
 
 -- ---- of one sender and partition
 

@@ -1,11 +1,9 @@
 -- What a rule does to the items of a partition: it tells some of those that were not told, and keeps
 -- the others in order.
-use Rattle.std.proofs.Common.{◌≡◌, ℕ, zero, suc, ◌+◌, ◌<◌, ◌≤◌, Bool, true, false, not, cond, List, [], ◌∷◌, ◌++◌, length, get_or, map, ℤ, pos, Some, None, refl, sym, ap, ◌∙◌, subst, arith, append_assoc}
-use Rattle.std.specs.Prelude.{Option, if◌then◌else◌, find, flat_map, ◌+ℤ◌, ◌==◌, ◌||◌}
+use Rattle.std.proofs.Common.{◌≡◌, ℕ, ◌+◌, ◌≤◌, Bool, true, false, not, cond, List, [], ◌∷◌, ◌++◌, map, pos, Some, None, refl, sym, ap, ◌∙◌, subst, arith, append_assoc}
+use Rattle.std.specs.Prelude.{Option, if◌then◌else◌, find, ◌+ℤ◌}
 use Rattle.std.specs.List.{AllByRecursion, filter, list_any, enumerate_from}
-use Rattle.std.proofs.lemmas.Bool.{eqb-true, eq-eqb}
 use Rattle.std.proofs.lemmas.List.{append-nil, map-append}
-use Rattle.std.proofs.lemmas.List.Concat.{flat_map-append}
 use Rattle.std.proofs.lemmas.List.Elements.{filter-append}
 use Rattle.kp_accum.specs.declared.config.Config.{Config}
 use Rattle.kp_accum.specs.declared.item.Item.{Item}
@@ -18,17 +16,19 @@ use Rattle.kp_core.specs.declared.outcome.Reason.{Reason}
 use Rattle.kp_core.specs.declared.outcome.Reason.TheVariants as reason
 use Rattle.kp_core.specs.declared.verdict.Verdict.{Verdict}
 use Rattle.kp_core.specs.declared.verdict.Verdict.TheVariants.{Stored, Duplicate, Retry, Reject}
-use Rattle.kp_core.specs.declared.attempt.Attempt.TheVariants.{Waiting}
+use Rattle.kp_core.specs.declared.attempt.Attempt.TheVariants.{InFlight, Waiting}
+use Rattle.kp_core.specs.declared.attempt.Attempt.{Attempt}
 use Rattle.kp_core.specs.Answered.{without_attempt, acknowledged, to_retry, waiting_since, settled, answered_if, answered, verdict_of}
-use Rattle.kp_core.specs.Attempts.{awaits, awaiting, dropped_batch, without_attempts}
-use Rattle.kp_core.specs.Fence.{told_given_up, emptied, fenced, given_up}
+use Rattle.kp_core.specs.Attempts.{is_attempt_in, awaits, awaiting, dropped_attempt, dropped_batch, without_attempts}
+use Rattle.kp_core.specs.Fence.{told_given_up, fenced, given_up}
 use Rattle.kp_core.specs.Flush.{marked_open, with_marks}
 use Rattle.kp_core.specs.Partitions.{items_open, items_queued, untold}
-use Rattle.kp_core.specs.Records.{Batch, Open, Partition, Told, Effect}
+use Rattle.kp_core.specs.Records.{Batch, Open, Partition, Told}
 use Rattle.kp_core.specs.Telling.{told_all, told_offsets}
 use Rattle.kp_core.specs.Tick.{late_front, behind_late, expired_front, is_open_late, passed}
 use Rattle.kp_world.specs.Accounts.{is_unsent, unsent_among}
 use Rattle.kp_world.proofs.FateLemmas.{all_both, all_front, all_back}
+use Rattle.kp_world.proofs.WeightLemmas.{weigh, weigh-append, weigh_filter, weigh_map}
 
 -- ---- what is told
 
@@ -73,6 +73,13 @@ unsent-append a b =
 
 -- ---- the items of open batches
 
+-- how many of these batches are in request k
+abbrev pub attempts_of : ℕ → Open → ℕ
+attempts_of k o = if awaits k o then 1 else 0
+
+abbrev pub attempt_count : ℕ → List Open → ℕ
+attempt_count k os = weigh (attempts_of k) os
+
 open_map : (f : Open → Open) → ((o : Open) → (f o).batch ≡ o.batch) → (os : List Open) → items_open (map f os) ≡ items_open os
 open_map f same [] = refl
 open_map f same (o ∷ os) = ap (λ (b : Batch). b.items ++ items_open (map f os)) (same o) ∙ ap (λ r. o.batch.items ++ r) (open_map f same os)
@@ -93,6 +100,37 @@ all_open_find P test (x ∷ os) o e h = at_test (test x) e (λ (e' : find test o
     at_test true same later = let is : x ≡ o = cc in subst (λ (y : Open). AllByRecursion P y.batch.items) is (all_front P x.batch.items (items_open os) h)
     at_test false same later = later same
 
+none_awaits : (k : ℕ) (os : List Open) → attempt_count k os ≡ 0 → filter (λ o. not (awaits k o)) os ≡ os
+none_awaits k [] e = refl
+none_awaits k (o ∷ os) e = at_test (awaits k o) e (none_awaits k os)
+  where
+    at_test : (b : Bool) → (if b then 1 else 0) + attempt_count k os ≡ 0 → (attempt_count k os ≡ 0 → filter (λ x. not (awaits k x)) os ≡ os)
+        → cond (not b) (o ∷ filter (λ x. not (awaits k x)) os) (filter (λ x. not (awaits k x)) os) ≡ o ∷ os
+    at_test true e' rest = absurd (omega (arith, e'))
+    at_test false e' rest = ap (λ r. o ∷ r) (rest (omega (arith, e')))
+
+without_weight : (f : Item → ℕ) (k : ℕ) (os : List Open) (o : Open) → find (awaits k) os ≡ Some o → attempt_count k os ≤ 1
+    → weigh f o.batch.items + weigh f (items_open (filter (λ x. not (awaits k x)) os)) ≡ weigh f (items_open os)
+without_weight f k [] o e one = absurd cc
+without_weight f k (x ∷ os) o e one = at_test (awaits k x) e one (λ (e' : find (awaits k) os ≡ Some o). without_weight f k os o e')
+  where
+    both : weigh f (x.batch.items ++ items_open os) ≡ weigh f x.batch.items + weigh f (items_open os)
+    both = weigh-append f x.batch.items (items_open os)
+
+    at_test : (b : Bool) → cond b (Some x) (find (awaits k) os) ≡ Some o → (if b then 1 else 0) + attempt_count k os ≤ 1
+        → (find (awaits k) os ≡ Some o → attempt_count k os ≤ 1 → weigh f o.batch.items + weigh f (items_open (filter (λ y. not (awaits k y)) os)) ≡ weigh f (items_open os))
+        → weigh f o.batch.items + weigh f (items_open (cond (not b) (x ∷ filter (λ y. not (awaits k y)) os) (filter (λ y. not (awaits k y)) os))) ≡ weigh f (x.batch.items ++ items_open os)
+    at_test true same l rest =
+        let is : x ≡ o = cc in
+        let left : filter (λ y. not (awaits k y)) os ≡ os = none_awaits k os (omega (arith, l)) in
+        let here : weigh f x.batch.items ≡ weigh f o.batch.items = ap (λ (y : Open). weigh f y.batch.items) is in
+        let there : weigh f (items_open (filter (λ y. not (awaits k y)) os)) ≡ weigh f (items_open os) = ap (λ (ys : List Open). weigh f (items_open ys)) left in
+        omega (arith, here, there, both)
+    at_test false same l rest =
+        let more : weigh f (x.batch.items ++ items_open (filter (λ y. not (awaits k y)) os)) ≡ weigh f x.batch.items + weigh f (items_open (filter (λ y. not (awaits k y)) os)) = weigh-append f x.batch.items (items_open (filter (λ y. not (awaits k y)) os)) in
+        let there : weigh f o.batch.items + weigh f (items_open (filter (λ y. not (awaits k y)) os)) ≡ weigh f (items_open os) = rest same (omega (arith, l)) in
+        omega (arith, more, there, both)
+
 -- ---- one partition
 
 -- The queue is what is told Unsent and, behind it, what is queued then; what is told, and what is
@@ -101,17 +139,32 @@ pub record Tells (t : Partition) (told : List Told) (t' : Partition) : Type 1 wh
   pub queue : items_queued t.queue ≡ unsent_among told ++ items_queued t'.queue
   pub told_from : (P : Item → Type 0) → AllByRecursion P (untold t) → AllByRecursion P (items_told told)
   pub left_from : (P : Item → Type 0) → AllByRecursion P (untold t) → AllByRecursion P (untold t')
+  pub weighs : (f : Item → ℕ) → weigh f (items_told told) + weigh f (untold t') ≡ weigh f (untold t)
+  pub attempts : (k : ℕ) → attempt_count k t'.open_batches ≤ attempt_count k t.open_batches
+
+-- nothing is told, and the items that are not told are the same
+pub tells_same : (t t' : Partition) → items_queued t.queue ≡ items_queued t'.queue → untold t' ≡ untold t
+    → ((k : ℕ) → attempt_count k t'.open_batches ≤ attempt_count k t.open_batches) → Tells t [] t'
+tells_same t t' queue same attempts = record {
+  queue = queue;
+  told_from = λ P h. tt;
+  left_from = λ P h. subst (AllByRecursion P) (sym same) h;
+  weighs = λ f. let e : weigh f (untold t') ≡ weigh f (untold t) = ap (weigh f) same in omega (arith, e);
+  attempts = attempts;
+}
 
 pub tells_nothing : (t : Partition) → Tells t [] t
-tells_nothing t = record { queue = refl; told_from = λ P h. tt; left_from = λ P h. h }
+tells_nothing t = tells_same t t refl refl (λ k. omega arith)
+
+dropped_quiet : (k now : ℕ) (a : Attempt) → (if is_attempt_in k (dropped_attempt now a) then 1 else 0) ≤ (if is_attempt_in k a then 1 else 0)
+dropped_quiet k now (InFlight c) = omega arith
+dropped_quiet k now (Waiting since) = omega arith
 
 pub tells_dropped : (now : ℕ) (t : Partition) → Tells t [] (without_attempts now t)
 unfolding untold
-tells_dropped now t = record {
-  queue = refl;
-  told_from = λ P h. tt;
-  left_from = λ P h. subst (λ r. AllByRecursion P (r ++ items_queued t.queue)) (sym (open_map (dropped_batch now) (λ o. refl) t.open_batches)) h;
-}
+tells_dropped now t =
+    tells_same t (without_attempts now t) refl (ap (λ r. r ++ items_queued t.queue) (open_map (dropped_batch now) (λ o. refl) t.open_batches))
+    (λ k. weigh_map (attempts_of k) (dropped_batch now) (λ o. dropped_quiet k now o.attempt) t.open_batches)
 
 queued_map : (q : List Pending) → items_queued (map marked_by_flush q) ≡ items_queued q
 queued_map [] = refl
@@ -119,11 +172,10 @@ queued_map (b ∷ q) = ap (λ r. b.items ++ r) (queued_map q)
 
 pub tells_marked : (t : Partition) → Tells t [] (with_marks t)
 unfolding untold
-tells_marked t = record {
-  queue = sym (queued_map t.queue);
-  told_from = λ P h. tt;
-  left_from = λ P h. subst (AllByRecursion P) (sym (ap (λ r. r ++ items_queued (map marked_by_flush t.queue)) (open_map marked_open (λ o. refl) t.open_batches) ∙ ap (λ r. items_open t.open_batches ++ r) (queued_map t.queue))) h;
-}
+tells_marked t =
+    tells_same t (with_marks t) (sym (queued_map t.queue))
+    (ap (λ r. r ++ items_queued (map marked_by_flush t.queue)) (open_map marked_open (λ o. refl) t.open_batches) ∙ ap (λ r. items_open t.open_batches ++ r) (queued_map t.queue))
+    (λ k. weigh_map (attempts_of k) marked_open (λ o. omega arith) t.open_batches)
 
 -- ---- giving up
 
@@ -145,6 +197,8 @@ tells_fenced t = record {
   queue = sym (append-nil (unsent_among (told_given_up reason.Fenced t)) ∙ given_up_unsent reason.Fenced t);
   told_from = λ P h. subst (AllByRecursion P) (sym (given_up_items reason.Fenced t)) h;
   left_from = λ P h. tt;
+  weighs = λ f. let e : weigh f (items_told (told_given_up reason.Fenced t)) ≡ weigh f (items_open t.open_batches ++ items_queued t.queue) = ap (weigh f) (given_up_items reason.Fenced t) in omega (arith, e);
+  attempts = λ k. omega arith;
 }
 
 pub tells_given_up : (t : Partition) → Tells t (given_up t).told (given_up t).after
@@ -153,6 +207,8 @@ tells_given_up t = record {
   queue = sym (append-nil (unsent_among (told_given_up reason.Ended t)) ∙ given_up_unsent reason.Ended t);
   told_from = λ P h. subst (AllByRecursion P) (sym (given_up_items reason.Ended t)) h;
   left_from = λ P h. tt;
+  weighs = λ f. let e : weigh f (items_told (told_given_up reason.Ended t)) ≡ weigh f (items_open t.open_batches ++ items_queued t.queue) = ap (weigh f) (given_up_items reason.Ended t) in omega (arith, e);
+  attempts = λ k. omega arith;
 }
 
 -- ---- expiry
@@ -177,6 +233,13 @@ tells_expired c now t =
       queue = split ∙ ap (λ r. r ++ behind) (sym (unsent_all (Unsent reason.Expired) late refl));
       told_from = λ P h. subst (AllByRecursion P) (sym (told_all_items (Unsent reason.Expired) late)) (all_front P late behind (subst (AllByRecursion P) split (all_back P (items_open t.open_batches) (items_queued t.queue) h)));
       left_from = λ P h. all_both P (items_open t.open_batches) behind (all_front P (items_open t.open_batches) (items_queued t.queue) h) (all_back P late behind (subst (AllByRecursion P) split (all_back P (items_open t.open_batches) (items_queued t.queue) h)));
+      weighs = λ f.
+          let told : weigh f (items_told (told_all (Unsent reason.Expired) (items_queued (late_front c now t.queue)))) ≡ weigh f (items_queued (late_front c now t.queue)) = ap (weigh f) (told_all_items (Unsent reason.Expired) late) in
+          let before : weigh f (items_open t.open_batches ++ items_queued t.queue) ≡ weigh f (items_open t.open_batches) + weigh f (items_queued t.queue) = weigh-append f (items_open t.open_batches) (items_queued t.queue) in
+          let after : weigh f (items_open t.open_batches ++ items_queued (behind_late c now t.queue)) ≡ weigh f (items_open t.open_batches) + weigh f (items_queued (behind_late c now t.queue)) = weigh-append f (items_open t.open_batches) behind in
+          let parts : weigh f (items_queued t.queue) ≡ weigh f (items_queued (late_front c now t.queue)) + weigh f (items_queued (behind_late c now t.queue)) = ap (weigh f) split ∙ weigh-append f late behind in
+          omega (arith, told, before, after, parts);
+      attempts = λ k. omega arith;
     }
 
 pub tells_passed : (c : Config) (now : ℕ) (t : Partition) → Tells t (passed c now t).told (passed c now t).after
@@ -196,30 +259,48 @@ same_waiting now k o = at_test (awaits k o)
     at_test true = refl
     at_test false = refl
 
+waiting_quiet : (j now k : ℕ) (o : Open) → attempts_of j (waiting_since now k o) ≤ attempts_of j o
+waiting_quiet j now k o = at_test (awaits k o)
+  where
+    at_test : (b : Bool) → attempts_of j (if b then (record o { attempt = Waiting now }) else o) ≤ attempts_of j o
+    at_test true = omega arith
+    at_test false = omega arith
+
 tells_retry : (now k : ℕ) (t : Partition) → Tells t [] (to_retry now k t).after
 unfolding untold
-tells_retry now k t = record {
-  queue = refl;
-  told_from = λ P h. tt;
-  left_from = λ P h. subst (λ r. AllByRecursion P (r ++ items_queued t.queue)) (sym (open_map (waiting_since now k) (same_waiting now k) t.open_batches)) h;
-}
+tells_retry now k t =
+    tells_same t (to_retry now k t).after refl (ap (λ r. r ++ items_queued t.queue) (open_map (waiting_since now k) (same_waiting now k) t.open_batches))
+    (λ j. weigh_map (attempts_of j) (waiting_since now k) (waiting_quiet j now k) t.open_batches)
 
-tells_without : (k : ℕ) (t : Partition) (o : Open) (told : List Told) → awaiting k t ≡ Some o → unsent_among told ≡ [] → items_told told ≡ o.batch.items
+tells_without : (k : ℕ) (t : Partition) (o : Open) (told : List Told) → attempt_count k t.open_batches ≤ 1 → awaiting k t ≡ Some o → unsent_among told ≡ [] → items_told told ≡ o.batch.items
     → Tells t told (without_attempt k t)
 unfolding untold
-tells_without k t o told at none items = record {
+tells_without k t o told one at none items = record {
   queue = sym (ap (λ r. r ++ items_queued t.queue) none);
   told_from = λ P h. subst (AllByRecursion P) (sym items) (all_open_find P (awaits k) t.open_batches o at (all_front P (items_open t.open_batches) (items_queued t.queue) h));
   left_from = λ P h. all_both P (items_open (without_attempt k t).open_batches) (items_queued t.queue)
       (all_open_filter P (λ x. not (awaits k x)) t.open_batches (all_front P (items_open t.open_batches) (items_queued t.queue) h))
       (all_back P (items_open t.open_batches) (items_queued t.queue) h);
+  weighs = λ f.
+      let gone : weigh f (items_told told) ≡ weigh f o.batch.items = ap (weigh f) items in
+      let open_left : weigh f o.batch.items + weigh f (items_open (without_attempt k t).open_batches) ≡ weigh f (items_open t.open_batches) = without_weight f k t.open_batches o at one in
+      let before : weigh f (items_open t.open_batches ++ items_queued t.queue) ≡ weigh f (items_open t.open_batches) + weigh f (items_queued t.queue) = weigh-append f (items_open t.open_batches) (items_queued t.queue) in
+      let after : weigh f (items_open (without_attempt k t).open_batches ++ items_queued t.queue) ≡ weigh f (items_open (without_attempt k t).open_batches) + weigh f (items_queued t.queue) = weigh-append f (items_open (without_attempt k t).open_batches) (items_queued t.queue) in
+      omega (arith, gone, open_left, before, after);
+  attempts = λ j. weigh_filter (attempts_of j) (λ x. not (awaits k x)) t.open_batches;
 }
 
-tells_both : (t u v : Partition) (a b : List Told) → unsent_among a ≡ [] → items_queued t.queue ≡ items_queued u.queue → Tells t a u → Tells u b v → Tells t (a ++ b) v
+pub tells_both : (t u v : Partition) (a b : List Told) → unsent_among a ≡ [] → items_queued t.queue ≡ items_queued u.queue → Tells t a u → Tells u b v → Tells t (a ++ b) v
 tells_both t u v a b none same c d = record {
   queue = same ∙ d.queue ∙ ap (λ r. r ++ items_queued v.queue) (sym (unsent-append a b ∙ ap (λ r. r ++ unsent_among b) none));
   told_from = λ P h. subst (AllByRecursion P) (sym (map-append (λ (x : Told). x.item) a b)) (all_both P (items_told a) (items_told b) (c.told_from P h) (d.told_from P (c.left_from P h)));
   left_from = λ P h. d.left_from P (c.left_from P h);
+  weighs = λ f.
+      let told : weigh f (items_told (a ++ b)) ≡ weigh f (items_told a) + weigh f (items_told b) = ap (weigh f) (map-append (λ (x : Told). x.item) a b) ∙ weigh-append f (items_told a) (items_told b) in
+      let first : weigh f (items_told a) + weigh f (untold u) ≡ weigh f (untold t) = c.weighs f in
+      let second : weigh f (items_told b) + weigh f (untold v) ≡ weigh f (untold u) = d.weighs f in
+      omega (arith, told, first, second);
+  attempts = λ k. let first : attempt_count k u.open_batches ≤ attempt_count k t.open_batches = c.attempts k in let second : attempt_count k v.open_batches ≤ attempt_count k u.open_batches = d.attempts k in omega (arith, first, second);
 }
 
 acknowledged_as : (t : Partition) (told : List Told) (u v : Partition) → u.queue ≡ v.queue → u.open_batches ≡ v.open_batches → Tells t told u → Tells t told v
@@ -228,31 +309,30 @@ acknowledged_as t told u v queue opens c = record {
   queue = c.queue ∙ ap (λ (q : List Pending). unsent_among told ++ items_queued q) queue;
   told_from = c.told_from;
   left_from = λ P h. subst (AllByRecursion P) (ap (λ (os : List Open). items_open os ++ items_queued u.queue) opens ∙ ap (λ (q : List Pending). items_open v.open_batches ++ items_queued q) queue) (c.left_from P h);
+  weighs = λ f. ap (λ (r : List Item). weigh f (items_told told) + weigh f r) (sym (ap (λ (os : List Open). items_open os ++ items_queued u.queue) opens ∙ ap (λ (q : List Pending). items_open v.open_batches ++ items_queued q) queue)) ∙ c.weighs f;
+  attempts = λ k. subst (λ (os : List Open). attempt_count k os ≤ attempt_count k t.open_batches) opens (c.attempts k);
 }
 
-pub tells_answered : (now k : ℕ) (t : Partition) (a : PartitionProduceResponse) → Tells t (answered now k t a).told (answered now k t a).after
+pub tells_answered : (now k : ℕ) (t : Partition) (a : PartitionProduceResponse) → attempt_count k t.open_batches ≤ 1 → Tells t (answered now k t a).told (answered now k t a).after
 unfolding answered
-tells_answered now k t a = at_option (awaiting k t) refl
+tells_answered now k t a one = at_option (awaiting k t) refl
   where
-    u : Partition
-    u = without_attempt k t
-
     at_verdict : (o : Open) → awaiting k t ≡ Some o → (v : Verdict) → Tells t (settled now k t o a v).told (settled now k t o a v).after
     at_verdict o at Stored =
         let told = told_offsets a.base_offset o.batch.items in
         let offset : ℕ → Outcome = λ n. Delivered (a.base_offset +ℤ pos n) in
         acknowledged_as t told (without_attempt k t) (acknowledged k t o told).after refl refl
-        (tells_without k t o told at (unsent_offsets offset (λ n. refl) 0 o.batch.items) (told_offsets_items offset 0 o.batch.items))
+        (tells_without k t o told one at (unsent_offsets offset (λ n. refl) 0 o.batch.items) (told_offsets_items offset 0 o.batch.items))
     at_verdict o at Duplicate =
         let told = told_all DeliveredNoOffset o.batch.items in
         acknowledged_as t told (without_attempt k t) (acknowledged k t o told).after refl refl
-        (tells_without k t o told at (unsent_none DeliveredNoOffset o.batch.items refl) (told_all_items DeliveredNoOffset o.batch.items))
+        (tells_without k t o told one at (unsent_none DeliveredNoOffset o.batch.items refl) (told_all_items DeliveredNoOffset o.batch.items))
     at_verdict o at Retry = tells_retry now k t
     at_verdict o at Reject =
         let told = told_all (Rejected a.error_code) o.batch.items in
         let none = unsent_none (Rejected a.error_code) o.batch.items refl in
         tells_both t (without_attempt k t) (fenced (without_attempt k t)).after told (fenced (without_attempt k t)).told none refl
-        (tells_without k t o told at none (told_all_items (Rejected a.error_code) o.batch.items))
+        (tells_without k t o told one at none (told_all_items (Rejected a.error_code) o.batch.items))
         (tells_fenced (without_attempt k t))
 
     at_option : (o : Option Open) → awaiting k t ≡ o → Tells t (answered_if now k t a o).told (answered_if now k t a o).after

@@ -1,5 +1,5 @@
 -- The partitions of a request are distinct.
-use Rattle.std.proofs.Common.{◌≡◌, ℕ, zero, suc, ◌+◌, ◌-◌, ◌<◌, ◌≤◌, Bool, true, false, cond, List, [], ◌∷◌, ◌++◌, length, take, drop, map, Some, None, refl, sym, ap, ◌∙◌, subst, arith}
+use Rattle.std.proofs.Common.{◌≡◌, ℕ, ◌+◌, ◌-◌, ◌≤◌, Bool, true, false, List, [], ◌∷◌, ◌++◌, take, drop, Some, None, refl, sym, ap, ◌∙◌, subst, arith}
 use Rattle.std.specs.Prelude.{Option, if◌then◌else◌, option_map, filter_map, nat_le, ◌==◌, ◌||◌}
 use Rattle.std.specs.List.{AllByRecursion, cons_option, enumerate_from}
 use Rattle.std.proofs.lemmas.Bool.{eqb-true}
@@ -7,11 +7,11 @@ use Rattle.std.proofs.lemmas.List.{take-append-drop}
 use Rattle.kp_accum.specs.Queue.{size_of}
 use Rattle.kp_core.specs.Attempts.{has_window}
 use Rattle.kp_core.specs.MaySend.{sends}
-use Rattle.kp_core.specs.Next.{Sending, Demand, Produce, InitProducerId, flags_of, turned, used_up_to, in_turn, sending_of, fitting, next_batches, next_asking, produce_of, demand_of, next_demand}
+use Rattle.kp_core.specs.Next.{Sending, Produce, flags_of, used_up_to, in_turn, sending_of, fitting, next_batches, next_asking, produce_of, demand_of, next_demand}
 use Rattle.kp_core.specs.Partitions.{is_in}
 use Rattle.kp_core.specs.Records.{Batch, Partition, Core}
 use Rattle.kp_core.specs.Requesting.{partitions_in}
-use Rattle.kp_world.proofs.FateLemmas.{all_both, all_front, all_back, all_weaker, all_say}
+use Rattle.kp_world.proofs.FateLemmas.{all_both, all_front, all_back, all_weaker}
 use Rattle.kp_world.proofs.TellingLemmas.{Distinct}
 
 -- ---- lists of which no two have one key

@@ -21,6 +21,7 @@ pub mod GoodLemmas
 pub mod RequestLemmas
 pub mod DeliveryLemmas
 pub mod ReplayLemmas
+pub mod WeightLemmas
 pub mod FateLemmas
 pub mod ConservationLemmas
 pub mod TellingLemmas
@@ -31,4 +32,5 @@ pub mod HandingLemmas
 pub mod AccountRunLemmas
 pub mod AccountedLemmas
 pub mod GateLemmas
+pub mod ToldLemmas
 pub mod AccountLaws

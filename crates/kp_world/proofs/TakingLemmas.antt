@@ -1,28 +1,27 @@
 -- What was taken is accounted for still when an item is accepted, and when one is taken.
-use Rattle.std.proofs.Common.{◌≡◌, ℕ, zero, suc, ◌+◌, ◌<◌, ◌≤◌, Bool, true, false, cond, List, [], ◌∷◌, ◌++◌, length, get_or, take, drop, map, Some, None, refl, sym, ap, ◌∙◌, subst, arith, append_assoc, length-append}
-use Rattle.std.specs.Prelude.{Option, flat_map, if◌then◌else◌, slice_get, slice_set, slice_index, slice_index_or, ◌==◌, ◌||◌}
-use Rattle.std.specs.List.{AllByRecursion, filter}
+use Rattle.std.proofs.Common.{◌≡◌, ℕ, zero, suc, ◌+◌, ◌<◌, ◌≤◌, Bool, true, false, cond, List, [], ◌∷◌, ◌++◌, length, get_or, take, Some, refl, sym, ap, ◌∙◌, subst, arith, append_assoc, length-append}
+use Rattle.std.specs.Prelude.{flat_map, if◌then◌else◌, slice_get, slice_set, slice_index, slice_index_or, ◌==◌, ◌||◌}
+use Rattle.std.specs.List.{AllByRecursion, range_with_len}
 use Rattle.std.proofs.lemmas.Bool.{eqb-true, eq-eqb}
-use Rattle.std.proofs.lemmas.List.{append-nil, length-set, get_or-set_same, get_or-set_other, take-append-le, take-append-drop}
+use Rattle.std.proofs.lemmas.List.{append-nil, length-set, get_or-set_same, get_or-set_other, take-append-le}
 use Rattle.kp_accum.specs.declared.config.Config.{Config}
 use Rattle.kp_accum.specs.declared.item.Item.{Item}
 use Rattle.kp_accum.specs.Queue.{Pending, joins, joined_by, begun_by, with_item}
 use Rattle.kp_core.specs.declared.outcome.Outcome.TheVariants.{Unsent}
 use Rattle.kp_core.specs.declared.outcome.Reason.{Reason}
-use Rattle.kp_core.specs.declared.outcome.Reason.TheVariants.{Fenced, Ended}
-use Rattle.kp_core.specs.Appending.{Appends, with_queued, in_queue, turned_away, refused, queued, would_exhaust, appended}
-use Rattle.kp_core.specs.Partitions.{partition_at, changed_at, is_in, items_open, items_queued, untold}
+use Rattle.kp_core.specs.Appending.{with_queued, in_queue}
+use Rattle.kp_core.specs.Partitions.{new_partition, partition_at, changed_at, is_in, items_open, items_queued, untold}
 use Rattle.kp_core.specs.Records.{Batch, Partition, Request, Core, Told}
 use Rattle.kp_core.specs.Telling.{told_all}
-use Rattle.kp_world.specs.Accepting.{accepted_by, for_partition, with_accepted, taken_by, with_taken, taking_of, taking}
-use Rattle.kp_world.specs.Accounts.{of_sender, told_unsent, unsent_among}
+use Rattle.kp_world.specs.Accepting.{for_partition}
+use Rattle.kp_world.specs.Accounts.{of_sender, unsent_among}
 use Rattle.kp_world.specs.Client.{handed_at}
-use Rattle.kp_world.specs.Noting.{noted}
-use Rattle.kp_world.specs.World.{World}
-use Rattle.kp_world.proofs.AccountLemmas.{items_of, taken_for, Accepts, Holds, Accounts, IsAccounted, sender-append, partition-append, both-append, accounts_noted, accounts_only}
+use Rattle.kp_world.proofs.AccountLemmas.{items_of, taken_for, taken_of, all_taken, items_told-append, Accepts, Holds, Accounts, sender-append, partition-append, both-append}
+use Rattle.kp_world.proofs.ConservationLemmas.{items_told, unsent-append}
+use Rattle.kp_world.proofs.WeightLemmas.{weigh, weigh-append, grown_at}
 use Rattle.kp_world.proofs.FateLemmas.{all_both, AreNumbered, numbered_more, numbered_back, Fates, fates_queued, fates_turned_away}
 use Rattle.kp_world.proofs.KeepingLemmas.{length-changed_at, at-changed_at}
-use Rattle.kp_world.proofs.TellingLemmas.{Distinct, AtHome, home_past}
+use Rattle.kp_world.proofs.TellingLemmas.{Distinct, home_past}
 
 -- ---- lists
 
@@ -37,14 +36,52 @@ at_set {A = A} xs i j v d l = at_test (j == i) refl
         differ : (j == i) ≡ true → (j == i) ≡ false → ⊥
         differ same other = absurd cc
 
+flat_agrees : (F G : ℕ → List Item) → ((n : ℕ) → F n ≡ G n) → (ns : List ℕ) → flat_map F ns ≡ flat_map G ns
+flat_agrees F G h [] = refl
+flat_agrees F G h (n ∷ ns) = ap (λ (r : List Item). r ++ flat_map F ns) (h n) ∙ ap (λ (r : List Item). G n ++ r) (flat_agrees F G h ns)
+
+-- partitions whose items weigh as much
+pub weigh_same : (f : Item → ℕ) (d : Partition) (ts ts' : List Partition) → length ts' ≡ length ts → ((p : ℕ) → p < length ts → weigh f (untold (get_or ts' p d)) ≡ weigh f (untold (get_or ts p d)))
+    → weigh f (flat_map untold ts') ≡ weigh f (flat_map untold ts)
+weigh_same f d [] [] e h = refl
+weigh_same f d [] (t' ∷ ts') e h = absurd (omega (arith, e))
+weigh_same f d (t ∷ ts) [] e h = absurd (omega (arith, e))
+weigh_same f d (t ∷ ts) (t' ∷ ts') e h =
+    let here : weigh f (untold t') ≡ weigh f (untold t) = h 0 (omega arith) in
+    let rest : weigh f (flat_map untold ts') ≡ weigh f (flat_map untold ts) = weigh_same f d ts ts' (omega (arith, e)) (λ p l. h (suc p) (omega (arith, l))) in
+    let a : weigh f (untold t' ++ flat_map untold ts') ≡ weigh f (untold t') + weigh f (flat_map untold ts') = weigh-append f (untold t') (flat_map untold ts') in
+    let b : weigh f (untold t ++ flat_map untold ts) ≡ weigh f (untold t) + weigh f (flat_map untold ts) = weigh-append f (untold t) (flat_map untold ts) in
+    omega (arith, here, rest, a, b)
+
+-- one of which weighs more
+weigh_more : (f : Item → ℕ) (v : ℕ) (d : Partition) (ts ts' : List Partition) (q : ℕ) → length ts' ≡ length ts → q < length ts
+    → weigh f (untold (get_or ts' q d)) ≡ weigh f (untold (get_or ts q d)) + v
+    → ((p : ℕ) → p < length ts → (p ≡ q → ⊥) → weigh f (untold (get_or ts' p d)) ≡ weigh f (untold (get_or ts p d)))
+    → weigh f (flat_map untold ts') ≡ weigh f (flat_map untold ts) + v
+weigh_more f v d [] ts' q e l here other = absurd (omega (arith, l))
+weigh_more f v d (t ∷ ts) [] q e l here other = absurd (omega (arith, e))
+weigh_more f v d (t ∷ ts) (t' ∷ ts') zero e l here other =
+    let rest : weigh f (flat_map untold ts') ≡ weigh f (flat_map untold ts) = weigh_same f d ts ts' (omega (arith, e)) (λ p m. other (suc p) (omega (arith, m)) (λ (z : suc p ≡ 0). omega (arith, z))) in
+    let first : weigh f (untold t') ≡ weigh f (untold t) + v = here in
+    let a : weigh f (untold t' ++ flat_map untold ts') ≡ weigh f (untold t') + weigh f (flat_map untold ts') = weigh-append f (untold t') (flat_map untold ts') in
+    let b : weigh f (untold t ++ flat_map untold ts) ≡ weigh f (untold t) + weigh f (flat_map untold ts) = weigh-append f (untold t) (flat_map untold ts) in
+    omega (arith, first, rest, a, b)
+weigh_more f v d (t ∷ ts) (t' ∷ ts') (suc q) e l here other =
+    let rest : weigh f (flat_map untold ts') ≡ weigh f (flat_map untold ts) + v = weigh_more f v d ts ts' q (omega (arith, e)) (omega (arith, l)) here (λ p m ne. other (suc p) (omega (arith, m)) (λ (z : suc p ≡ suc q). ne (let less : p ≡ q = omega (arith, z) in less))) in
+    let first : weigh f (untold t') ≡ weigh f (untold t) = other 0 (omega arith) (λ (z : 0 ≡ suc q). omega (arith, z)) in
+    let a : weigh f (untold t' ++ flat_map untold ts') ≡ weigh f (untold t') + weigh f (flat_map untold ts') = weigh-append f (untold t') (flat_map untold ts') in
+    let b : weigh f (untold t ++ flat_map untold ts) ≡ weigh f (untold t) + weigh f (flat_map untold ts) = weigh-append f (untold t) (flat_map untold ts) in
+    omega (arith, first, rest, a, b)
+
 -- ---- accepting
 
 for_one : (p : ℕ) (i : Item) → (b : Bool) → (i.partition == p) ≡ b → for_partition p (i ∷ []) ≡ cond b (i ∷ []) []
 for_one p i b e = ap (λ (z : Bool). cond z (i ∷ []) []) e
 
-accepts_more : (s : ℕ) (items : List Item) (n : ℕ) (i : Item) → Accepts s items n → i.sender ≡ s → i.number ≡ length (for_partition i.partition items)
-    → Accepts s (items ++ i ∷ []) n
-accepts_more s items n i a own number = record {
+accepts_more : (count s : ℕ) (items : List Item) (n : ℕ) (i : Item) → Accepts count s items n → i.sender ≡ s → i.partition < count → i.number ≡ length (for_partition i.partition items)
+    → Accepts count s (items ++ i ∷ []) n
+accepts_more count s items n i a own there number = record {
+  known = all_both (λ (x : Item). x.partition < count) items (i ∷ []) a.known (there, tt);
   within = let w : n ≤ length items = a.within in omega (arith, length-append items (i ∷ []));
   own = all_both (λ (x : Item). x.sender ≡ s) items (i ∷ []) a.own (own, tt);
   numbered = λ p. subst (AreNumbered 0) (sym (partition-append p items (i ∷ []))) (at_test p (i.partition == p) refl);
@@ -57,26 +94,27 @@ accepts_more s items n i a own number = record {
         subst (λ r. AreNumbered 0 (for_partition p items ++ r)) (sym (for_one p i true is)) (numbered_more 0 (for_partition p items) i (a.numbered p) (omega (arith, at)))
     at_test p false is = subst (λ r. AreNumbered 0 (for_partition p items ++ r)) (sym (for_one p i false is)) (subst (AreNumbered 0) (sym (append-nil (for_partition p items))) (a.numbered p))
 
-pub accounts_accepted : (core : Core) (accepted : List (List Item)) (taken : List ℕ) (handed : List (List Batch)) (unsent : List Item) (i : Item)
-    → Accounts core accepted taken handed unsent → i.sender < length accepted → i.number ≡ length (for_partition i.partition (slice_index_or accepted i.sender []))
-    → Accounts core (slice_set accepted i.sender (slice_index_or accepted i.sender [] ++ i ∷ [])) taken handed unsent
-accounts_accepted core accepted taken handed unsent i a there number = record {
+pub accounts_accepted : (core : Core) (accepted : List (List Item)) (taken : List ℕ) (handed : List (List Batch)) (told : List Told) (i : Item)
+    → Accounts core accepted taken handed told → i.sender < length accepted → i.partition < length core.partitions → i.number ≡ length (for_partition i.partition (slice_index_or accepted i.sender []))
+    → Accounts core (slice_set accepted i.sender (slice_index_or accepted i.sender [] ++ i ∷ [])) taken handed told
+accounts_accepted core accepted taken handed told i a there known number = record {
   taken_count = a.taken_count ∙ sym (length-set accepted i.sender (slice_index_or accepted i.sender [] ++ i ∷ []));
   handed_count = a.handed_count;
-  senders = λ s. subst (λ items. Accepts s items (slice_index taken s)) (sym (at_set accepted i.sender s (slice_index_or accepted i.sender [] ++ i ∷ []) [] there)) (accepts s (s == i.sender) refl);
+  senders = λ s. subst (λ items. Accepts (length core.partitions) s items (slice_index taken s)) (sym (at_set accepted i.sender s (slice_index_or accepted i.sender [] ++ i ∷ []) [] there)) (accepts s (s == i.sender) refl);
   each = a.each;
   home = a.home;
   requests = a.requests;
-  fates = λ s p l. subst (λ t. Fates t (of_sender s (items_queued (partition_at p core.partitions).queue)) (of_sender s (items_of (handed_at p handed))) (of_sender s (for_partition p unsent)))
+  fates = λ s p l. subst (λ t. Fates t (of_sender s (items_queued (partition_at p core.partitions).queue)) (of_sender s (items_of (handed_at p handed))) (of_sender s (for_partition p (unsent_among told))))
       (sym (ap (λ items. for_partition p (take (slice_index taken s) items)) (at_set accepted i.sender s (slice_index_or accepted i.sender [] ++ i ∷ []) [] there) ∙ ap (for_partition p) (same s (s == i.sender) refl)))
       (a.fates s p l);
+  weights = λ f. a.weights f ∙ ap (weigh f) (sym all_same);
 }
   where
-    accepts : (s : ℕ) (b : Bool) → (s == i.sender) ≡ b → Accepts s (if b then slice_index_or accepted i.sender [] ++ i ∷ [] else slice_index_or accepted s []) (slice_index taken s)
+    accepts : (s : ℕ) (b : Bool) → (s == i.sender) ≡ b → Accepts (length core.partitions) s (if b then slice_index_or accepted i.sender [] ++ i ∷ [] else slice_index_or accepted s []) (slice_index taken s)
     accepts s true is =
         let e : s ≡ i.sender = eqb-true s i.sender is in
-        subst (λ (n : ℕ). Accepts n (slice_index_or accepted i.sender [] ++ i ∷ []) (slice_index taken n)) (sym e)
-        (accepts_more i.sender (slice_index_or accepted i.sender []) (slice_index taken i.sender) i (a.senders i.sender) refl number)
+        subst (λ (n : ℕ). Accepts (length core.partitions) n (slice_index_or accepted i.sender [] ++ i ∷ []) (slice_index taken n)) (sym e)
+        (accepts_more (length core.partitions) i.sender (slice_index_or accepted i.sender []) (slice_index taken i.sender) i (a.senders i.sender) refl known number)
     accepts s false is = a.senders s
 
     same : (s : ℕ) (b : Bool) → (s == i.sender) ≡ b
@@ -87,14 +125,27 @@ accounts_accepted core accepted taken handed unsent i a there number = record {
         (take-append-le (slice_index taken i.sender) (slice_index_or accepted i.sender []) (i ∷ []) (a.senders i.sender).within)
     same s false is = refl
 
+    each_same : (s : ℕ) → taken_of (slice_set accepted i.sender (slice_index_or accepted i.sender [] ++ i ∷ [])) taken s ≡ taken_of accepted taken s
+    each_same s = ap (take (slice_index taken s)) (at_set accepted i.sender s (slice_index_or accepted i.sender [] ++ i ∷ []) [] there) ∙ same s (s == i.sender) refl
+
+    all_same : all_taken (slice_set accepted i.sender (slice_index_or accepted i.sender [] ++ i ∷ [])) taken ≡ all_taken accepted taken
+    all_same =
+        ap (λ (n : ℕ). flat_map (taken_of (slice_set accepted i.sender (slice_index_or accepted i.sender [] ++ i ∷ [])) taken) (range_with_len 0 n)) (length-set accepted i.sender (slice_index_or accepted i.sender [] ++ i ∷ []))
+        ∙ flat_agrees (taken_of (slice_set accepted i.sender (slice_index_or accepted i.sender [] ++ i ∷ [])) taken) (taken_of accepted taken) each_same (range_with_len 0 (length accepted))
+
 -- ---- taking
 
 -- the next of a sender's items
-pub record NextOf (s : ℕ) (items : List Item) (n : ℕ) (i : Item) : Type 0 where
+pub record NextOf (count s : ℕ) (items : List Item) (n : ℕ) (i : Item) : Type 0 where
+  pub known : i.partition < count
   pub below : n < length items
   pub taken : take (n + 1) items ≡ take n items ++ i ∷ []
   pub sender : i.sender ≡ s
   pub number : i.number ≡ length (for_partition i.partition (take n items))
+
+at_front_of : (P : Item → Type 0) (front : List Item) (i : Item) (rest : List Item) → AllByRecursion P (front ++ i ∷ rest) → P i
+at_front_of P [] i rest h = h.0
+at_front_of P (x ∷ front) i rest h = at_front_of P front i rest h.1
 
 took : (xs : List Item) (n : ℕ) (i : Item) → slice_get xs n ≡ Some i → (rest : List Item) × (n < length xs) × (xs ≡ take n xs ++ i ∷ rest) × (take (n + 1) xs ≡ take n xs ++ i ∷ [])
 took [] n i e = absurd cc
@@ -103,10 +154,6 @@ took (x ∷ xs) (suc n) i e =
     let h = took xs n i e in
     let more : suc n + 1 ≡ suc (n + 1) = omega arith in
     (h.0, omega (arith, h.1), ap (λ z. x ∷ z) h.2, ap (λ (m : ℕ). take m (x ∷ xs)) more ∙ ap (λ z. x ∷ z) h.3)
-
-sender_at : (s : ℕ) (front : List Item) (i : Item) (rest : List Item) → AllByRecursion (λ (x : Item). x.sender ≡ s) (front ++ i ∷ rest) → i.sender ≡ s
-sender_at s [] i rest h = h.0
-sender_at s (x ∷ front) i rest h = sender_at s front i rest h.1
 
 number_at : (front : List Item) (i : Item) (rest : List Item) → AreNumbered 0 (for_partition i.partition (front ++ i ∷ rest)) → i.number ≡ length (for_partition i.partition front)
 number_at front i rest h =
@@ -117,13 +164,14 @@ number_at front i rest h =
     let it : i.number ≡ 0 + length (for_partition i.partition front) = at.0 in
     omega (arith, it)
 
-pub next_of : (s : ℕ) (items : List Item) (n : ℕ) (i : Item) → Accepts s items n → slice_get items n ≡ Some i → NextOf s items n i
-next_of s items n i a e =
+pub next_of : (count s : ℕ) (items : List Item) (n : ℕ) (i : Item) → Accepts count s items n → slice_get items n ≡ Some i → NextOf count s items n i
+next_of count s items n i a e =
     let h = took items n i e in
     record {
       below = h.1;
       taken = h.3;
-      sender = sender_at s (take n items) i h.0 (subst (AllByRecursion (λ (x : Item). x.sender ≡ s)) h.2 a.own);
+      sender = at_front_of (λ (x : Item). x.sender ≡ s) (take n items) i h.0 (subst (AllByRecursion (λ (x : Item). x.sender ≡ s)) h.2 a.own);
+      known = at_front_of (λ (x : Item). x.partition < count) (take n items) i h.0 (subst (AllByRecursion (λ (x : Item). x.partition < count)) h.2 a.known);
       number = number_at (take n items) i h.0 (subst (λ xs. AreNumbered 0 (for_partition i.partition xs)) h.2 (a.numbered i.partition));
     }
 
@@ -172,12 +220,12 @@ abbrev with_one : ℕ → List ℕ → List ℕ
 with_one s taken = slice_set taken s (slice_index taken s + 1)
 
 -- item i is the next of sender s
-abbrev IsNext : ℕ → List (List Item) → List ℕ → Item → Type 0
-IsNext s accepted taken i = NextOf s (slice_index_or accepted s []) (slice_index taken s) i
+abbrev IsNext : ℕ → ℕ → List (List Item) → List ℕ → Item → Type 0
+IsNext count s accepted taken i = NextOf count s (slice_index_or accepted s []) (slice_index taken s) i
 
-taken_more : (s : ℕ) (accepted : List (List Item)) (taken : List ℕ) (i : Item) → s < length taken → IsNext s accepted taken i → (s' q : ℕ)
+taken_more : (count s : ℕ) (accepted : List (List Item)) (taken : List ℕ) (i : Item) → s < length taken → IsNext count s accepted taken i → (s' q : ℕ)
     → taken_for s' q accepted (with_one s taken) ≡ taken_for s' q accepted taken ++ picked s' q i
-taken_more s accepted taken i l next s' q =
+taken_more count s accepted taken i l next s' q =
     ap (λ (n : ℕ). for_partition q (take n (slice_index_or accepted s' []))) (at_set taken s s' (slice_index taken s + 1) 0 l) ∙ at_test (s' == s) refl
   where
     own : (r : List Item) → for_partition q (i ∷ []) ≡ r → of_sender s (for_partition q (i ∷ [])) ≡ for_partition q (i ∷ [])
@@ -206,40 +254,63 @@ taken_more s accepted taken i l next s' q =
         at_partition true h = picked_here s' q i false (other (i.sender == s') refl) h
         at_partition false h = picked_other s' q i h
 
-number_for : (s : ℕ) (accepted : List (List Item)) (taken : List ℕ) (i : Item) → IsNext s accepted taken i → (s' q : ℕ) → i.sender ≡ s' → i.partition ≡ q → i.number ≡ length (taken_for s' q accepted taken)
-number_for s accepted taken i next s' q sender partition =
+number_for : (count s : ℕ) (accepted : List (List Item)) (taken : List ℕ) (i : Item) → IsNext count s accepted taken i → (s' q : ℕ) → i.sender ≡ s' → i.partition ≡ q → i.number ≡ length (taken_for s' q accepted taken)
+number_for count s accepted taken i next s' q sender partition =
     let own : s ≡ s' = sym next.sender ∙ sender in
     subst (λ (n : ℕ). i.number ≡ length (taken_for n q accepted taken)) own (subst (λ (n : ℕ). i.number ≡ length (taken_for s n accepted taken)) partition next.number)
 
-accepts_taken : (s : ℕ) (accepted : List (List Item)) (taken : List ℕ) (i : Item) → s < length taken → IsNext s accepted taken i
-    → ((s' : ℕ) → Accepts s' (slice_index_or accepted s' []) (slice_index taken s')) → (s' : ℕ) → Accepts s' (slice_index_or accepted s' []) (slice_index (with_one s taken) s')
-accepts_taken s accepted taken i l next a s' = subst (Accepts s' (slice_index_or accepted s' [])) (sym (at_set taken s s' (slice_index taken s + 1) 0 l)) (at_test (s' == s) refl)
+weigh_taken : (f : Item → ℕ) (count s : ℕ) (accepted : List (List Item)) (taken : List ℕ) (i : Item) → s < length taken → length taken ≡ length accepted → IsNext count s accepted taken i
+    → weigh f (all_taken accepted (with_one s taken)) ≡ weigh f (all_taken accepted taken) + f i
+weigh_taken f count s accepted taken i l count_is next = grown_at f (taken_of accepted taken) (taken_of accepted (with_one s taken)) s (f i) here other 0 (length accepted) (omega arith) (omega (arith, l, count_is))
   where
-    at_test : (b : Bool) → (s' == s) ≡ b → Accepts s' (slice_index_or accepted s' []) (if b then slice_index taken s + 1 else slice_index taken s')
+    at : (n : ℕ) → taken_of accepted (with_one s taken) n ≡ take (if n == s then slice_index taken s + 1 else slice_index taken n) (slice_index_or accepted n [])
+    at n = ap (λ (m : ℕ). take m (slice_index_or accepted n [])) (at_set taken s n (slice_index taken s + 1) 0 l)
+
+    here : weigh f (taken_of accepted (with_one s taken) s) ≡ weigh f (taken_of accepted taken s) + f i
+    here =
+        let one : weigh f (take (slice_index taken s) (slice_index_or accepted s []) ++ i ∷ []) ≡ weigh f (take (slice_index taken s) (slice_index_or accepted s [])) + (f i + 0) = weigh-append f (take (slice_index taken s) (slice_index_or accepted s [])) (i ∷ []) in
+        let all : weigh f (taken_of accepted (with_one s taken) s) ≡ weigh f (take (slice_index taken s) (slice_index_or accepted s []) ++ i ∷ []) =
+        ap (weigh f) (at s ∙ ap (λ (b : Bool). take (if b then slice_index taken s + 1 else slice_index taken s) (slice_index_or accepted s [])) (eq-eqb s s refl) ∙ next.taken) in
+        omega (arith, one, all)
+
+    other : (n : ℕ) → (n == s) ≡ false → weigh f (taken_of accepted (with_one s taken) n) ≡ weigh f (taken_of accepted taken n)
+    other n is = ap (weigh f) (at n ∙ ap (λ (b : Bool). take (if b then slice_index taken s + 1 else slice_index taken n) (slice_index_or accepted n [])) is)
+
+accepts_taken : (count s : ℕ) (accepted : List (List Item)) (taken : List ℕ) (i : Item) → s < length taken → IsNext count s accepted taken i
+    → ((s' : ℕ) → Accepts count s' (slice_index_or accepted s' []) (slice_index taken s')) → (s' : ℕ) → Accepts count s' (slice_index_or accepted s' []) (slice_index (with_one s taken) s')
+accepts_taken count s accepted taken i l next a s' = subst (Accepts count s' (slice_index_or accepted s' [])) (sym (at_set taken s s' (slice_index taken s + 1) 0 l)) (at_test (s' == s) refl)
+  where
+    at_test : (b : Bool) → (s' == s) ≡ b → Accepts count s' (slice_index_or accepted s' []) (if b then slice_index taken s + 1 else slice_index taken s')
     at_test true is =
         let e : s' ≡ s = eqb-true s' s is in
         let h = a s in
         let below : slice_index taken s < length (slice_index_or accepted s []) = next.below in
-        let here : Accepts s (slice_index_or accepted s []) (slice_index taken s + 1) = record { within = omega arith; own = h.own; numbered = h.numbered } in
-        subst (λ (n : ℕ). Accepts n (slice_index_or accepted n []) (slice_index taken s + 1)) (sym e) here
+        let here : Accepts count s (slice_index_or accepted s []) (slice_index taken s + 1) = record { within = omega arith; known = h.known; own = h.own; numbered = h.numbered } in
+        subst (λ (n : ℕ). Accepts count n (slice_index_or accepted n []) (slice_index taken s + 1)) (sym e) here
     at_test false is = a s'
 
-pub accounts_turned_away : (core core' : Core) (accepted : List (List Item)) (taken : List ℕ) (handed : List (List Batch)) (unsent : List Item) (s : ℕ) (i : Item)
-    → Accounts core accepted taken handed unsent → s < length taken → IsNext s accepted taken i
-    → core'.partitions ≡ core.partitions → core'.requests ≡ core.requests → Accounts core' accepted (with_one s taken) handed (unsent ++ i ∷ [])
-accounts_turned_away core core' accepted taken handed unsent s i a l next same_partitions same_requests = record {
+pub accounts_turned_away : (why : Reason) (core core' : Core) (accepted : List (List Item)) (taken : List ℕ) (handed : List (List Batch)) (told : List Told) (s : ℕ) (i : Item)
+    → Accounts core accepted taken handed told → s < length taken → IsNext (length core.partitions) s accepted taken i
+    → core'.partitions ≡ core.partitions → core'.requests ≡ core.requests → core'.correlation ≡ core.correlation → Accounts core' accepted (with_one s taken) handed (told ++ told_all (Unsent why) (i ∷ []))
+accounts_turned_away why core core' accepted taken handed told s i a l next same_partitions same_requests same_correlation = record {
   taken_count = length-set taken s (slice_index taken s + 1) ∙ a.taken_count;
   handed_count = a.handed_count ∙ ap length (sym same_partitions);
-  senders = accepts_taken s accepted taken i l next a.senders;
-  each = λ p h. subst (λ (ts : List Partition). Holds (partition_at p ts) (handed_at p handed)) (sym same_partitions) (a.each p (within p h));
+  senders = λ s'. subst (λ (ts : List Partition). Accepts (length ts) s' (slice_index_or accepted s' []) (slice_index (with_one s taken) s')) (sym same_partitions) (accepts_taken (length core.partitions) s accepted taken i l next a.senders s');
+  each = λ p h. subst (λ (n : ℕ). Holds n (partition_at p core'.partitions) (handed_at p handed)) (sym same_correlation) (subst (λ (ts : List Partition). Holds core.correlation (partition_at p ts) (handed_at p handed)) (sym same_partitions) (a.each p (within p h)));
   home = λ p. subst (λ (ts : List Partition). AllByRecursion (λ x. x.partition ≡ p) (untold (partition_at p ts))) (sym same_partitions) (a.home p);
   requests = subst (AllByRecursion (λ (r : Request). Distinct r.partitions)) (sym same_requests) a.requests;
   fates = λ s' q h.
-      subst (λ (ts : List Partition). Fates (taken_for s' q accepted (with_one s taken)) (of_sender s' (items_queued (partition_at q ts).queue)) (of_sender s' (items_of (handed_at q handed))) (of_sender s' (for_partition q (unsent ++ i ∷ [])))) (sym same_partitions)
-      (subst (λ t. Fates t (of_sender s' (items_queued (partition_at q core.partitions).queue)) (of_sender s' (items_of (handed_at q handed))) (of_sender s' (for_partition q (unsent ++ i ∷ [])))) (sym (taken_more s accepted taken i l next s' q))
-      (subst (λ u. Fates (taken_for s' q accepted taken ++ picked s' q i) (of_sender s' (items_queued (partition_at q core.partitions).queue)) (of_sender s' (items_of (handed_at q handed))) u) (sym (both-append s' q unsent (i ∷ [])))
-      (more_turned s' q i (taken_for s' q accepted taken) (of_sender s' (items_queued (partition_at q core.partitions).queue)) (of_sender s' (items_of (handed_at q handed))) (of_sender s' (for_partition q unsent))
-      (number_for s accepted taken i next s' q) (a.fates s' q (within q h)))));
+      subst (λ (ts : List Partition). Fates (taken_for s' q accepted (with_one s taken)) (of_sender s' (items_queued (partition_at q ts).queue)) (of_sender s' (items_of (handed_at q handed))) (of_sender s' (for_partition q (unsent_among (told ++ told_all (Unsent why) (i ∷ [])))))) (sym same_partitions)
+      (subst (λ t. Fates t (of_sender s' (items_queued (partition_at q core.partitions).queue)) (of_sender s' (items_of (handed_at q handed))) (of_sender s' (for_partition q (unsent_among (told ++ told_all (Unsent why) (i ∷ [])))))) (sym (taken_more (length core.partitions) s accepted taken i l next s' q))
+      (subst (λ u. Fates (taken_for s' q accepted taken ++ picked s' q i) (of_sender s' (items_queued (partition_at q core.partitions).queue)) (of_sender s' (items_of (handed_at q handed))) u) (sym (ap (λ r. of_sender s' (for_partition q r)) (unsent-append told (told_all (Unsent why) (i ∷ []))) ∙ both-append s' q (unsent_among told) (i ∷ [])))
+      (more_turned s' q i (taken_for s' q accepted taken) (of_sender s' (items_queued (partition_at q core.partitions).queue)) (of_sender s' (items_of (handed_at q handed))) (of_sender s' (for_partition q (unsent_among told)))
+      (number_for (length core.partitions) s accepted taken i next s' q) (a.fates s' q (within q h)))));
+  weights = λ f.
+      let before : weigh f (items_told told) + weigh f (flat_map untold core.partitions) ≡ weigh f (all_taken accepted taken) = a.weights f in
+      let one : weigh f (items_told (told ++ told_all (Unsent why) (i ∷ []))) ≡ weigh f (items_told told) + (f i + 0) = items_told-append f told (told_all (Unsent why) (i ∷ [])) in
+      let more : weigh f (all_taken accepted (with_one s taken)) ≡ weigh f (all_taken accepted taken) + f i = weigh_taken f (length core.partitions) s accepted taken i l a.taken_count next in
+      let same : weigh f (flat_map untold core'.partitions) ≡ weigh f (flat_map untold core.partitions) = ap (λ (ts : List Partition). weigh f (flat_map untold ts)) same_partitions in
+      omega (arith, before, one, more, same);
 }
   where
     within : (p : ℕ) → p < length core'.partitions → p < length core.partitions
@@ -263,25 +334,36 @@ home_queued c i t p e h =
     subst (AllByRecursion (λ (x : Item). x.partition ≡ p)) (append_assoc (items_open t.open_batches) (items_queued t.queue) (i ∷ []) ∙ ap (λ r. items_open t.open_batches ++ r) (sym (queued_with c i t.queue)))
     (all_both (λ (x : Item). x.partition ≡ p) (items_open t.open_batches ++ items_queued t.queue) (i ∷ []) h (e, tt))
 
-pub accounts_queued : (core : Core) (accepted : List (List Item)) (taken : List ℕ) (handed : List (List Batch)) (unsent : List Item) (s : ℕ) (i : Item)
-    → Accounts core accepted taken handed unsent → s < length taken → IsNext s accepted taken i → Accounts (in_queue i core) accepted (with_one s taken) handed unsent
-accounts_queued core accepted taken handed unsent s i a l next = record {
+weigh_queued : (f : Item → ℕ) (c : Config) (i : Item) (t : Partition) → weigh f (untold (with_queued c i t)) ≡ weigh f (untold t) + f i
+unfolding untold
+weigh_queued f c i t =
+    let queue : weigh f (items_queued (with_item c i t.queue)) ≡ weigh f (items_queued t.queue) + (f i + 0) = ap (weigh f) (queued_with c i t.queue) ∙ weigh-append f (items_queued t.queue) (i ∷ []) in
+    let a : weigh f (items_open t.open_batches ++ items_queued (with_item c i t.queue)) ≡ weigh f (items_open t.open_batches) + weigh f (items_queued (with_item c i t.queue)) = weigh-append f (items_open t.open_batches) (items_queued (with_item c i t.queue)) in
+    let b : weigh f (items_open t.open_batches ++ items_queued t.queue) ≡ weigh f (items_open t.open_batches) + weigh f (items_queued t.queue) = weigh-append f (items_open t.open_batches) (items_queued t.queue) in
+    omega (arith, queue, a, b)
+
+pub accounts_queued : (core : Core) (accepted : List (List Item)) (taken : List ℕ) (handed : List (List Batch)) (told : List Told) (s : ℕ) (i : Item)
+    → Accounts core accepted taken handed told → s < length taken → IsNext (length core.partitions) s accepted taken i → Accounts (in_queue i core) accepted (with_one s taken) handed told
+accounts_queued core accepted taken handed told s i a l next = record {
   taken_count = length-set taken s (slice_index taken s + 1) ∙ a.taken_count;
   handed_count = a.handed_count ∙ sym count;
-  senders = accepts_taken s accepted taken i l next a.senders;
-  each = λ p h. subst (λ (t : Partition). Holds t (handed_at p handed)) (sym (changed p (within p h))) (holds p (within p h) (is_in p (i.partition ∷ [])));
+  senders = λ s'. subst (λ (n : ℕ). Accepts n s' (slice_index_or accepted s' []) (slice_index (with_one s taken) s')) (sym count) (accepts_taken (length core.partitions) s accepted taken i l next a.senders s');
+  each = λ p h. subst (λ (t : Partition). Holds core.correlation t (handed_at p handed)) (sym (changed p (within p h))) (holds p (within p h) (is_in p (i.partition ∷ [])));
   home = home_past (in_queue i core).partitions (λ p h. subst (λ (t : Partition). AllByRecursion (λ x. x.partition ≡ p) (untold t)) (sym (changed p (within p h))) (at_home p (i.partition == p) refl));
   requests = a.requests;
   fates = λ s' q h.
-      subst (λ t. Fates t (of_sender s' (items_queued (partition_at q (in_queue i core).partitions).queue)) (of_sender s' (items_of (handed_at q handed))) (of_sender s' (for_partition q unsent))) (sym (taken_more s accepted taken i l next s' q))
-      (subst (λ w. Fates (taken_for s' q accepted taken ++ picked s' q i) w (of_sender s' (items_of (handed_at q handed))) (of_sender s' (for_partition q unsent))) (sym (queue s' q (within q h)))
-      (more_queued s' q i (taken_for s' q accepted taken) (of_sender s' (items_queued (partition_at q core.partitions).queue)) (of_sender s' (items_of (handed_at q handed))) (of_sender s' (for_partition q unsent))
-      (number_for s accepted taken i next s' q) (a.fates s' q (within q h))));
+      subst (λ t. Fates t (of_sender s' (items_queued (partition_at q (in_queue i core).partitions).queue)) (of_sender s' (items_of (handed_at q handed))) (of_sender s' (for_partition q (unsent_among told)))) (sym (taken_more (length core.partitions) s accepted taken i l next s' q))
+      (subst (λ w. Fates (taken_for s' q accepted taken ++ picked s' q i) w (of_sender s' (items_of (handed_at q handed))) (of_sender s' (for_partition q (unsent_among told)))) (sym (queue s' q (within q h)))
+      (more_queued s' q i (taken_for s' q accepted taken) (of_sender s' (items_queued (partition_at q core.partitions).queue)) (of_sender s' (items_of (handed_at q handed))) (of_sender s' (for_partition q (unsent_among told)))
+      (number_for (length core.partitions) s accepted taken i next s' q) (a.fates s' q (within q h))));
+  weights = λ f.
+      let before : weigh f (items_told told) + weigh f (flat_map untold core.partitions) ≡ weigh f (all_taken accepted taken) = a.weights f in
+      let more : weigh f (all_taken accepted (with_one s taken)) ≡ weigh f (all_taken accepted taken) + f i = weigh_taken f (length core.partitions) s accepted taken i l a.taken_count next in
+      let queue_more : weigh f (flat_map untold (in_queue i core).partitions) ≡ weigh f (flat_map untold core.partitions) + f i =
+      weigh_more f (f i) (new_partition 0) core.partitions (in_queue i core).partitions i.partition count next.known (one_more f) (λ p h ne. ap (weigh f) (ap untold (changed p h ∙ ap (λ (b : Bool). if b || false then with_queued core.config i (partition_at p core.partitions) else partition_at p core.partitions) (elsewhere p ne)))) in
+      omega (arith, before, more, queue_more);
 }
   where
-    rule : ℕ → Partition → Partition
-    rule = λ p t. with_queued core.config i t
-
     count : length (changed_at (i.partition ∷ []) (λ p t. with_queued core.config i t) core.partitions) ≡ length core.partitions
     count = length-changed_at (i.partition ∷ []) (λ p t. with_queued core.config i t) core.partitions
 
@@ -292,8 +374,18 @@ accounts_queued core accepted taken handed unsent s i a l next = record {
         ≡ (if is_in p (i.partition ∷ []) then with_queued core.config i (partition_at p core.partitions) else partition_at p core.partitions)
     changed p h = at-changed_at (i.partition ∷ []) (λ p t. with_queued core.config i t) core.partitions p h
 
-    holds : (p : ℕ) → p < length core.partitions → (b : Bool) → Holds (if b then with_queued core.config i (partition_at p core.partitions) else partition_at p core.partitions) (handed_at p handed)
-    holds p h true = let k = a.each p h in record { number = k.number; below = k.below; opens = k.opens }
+    elsewhere : (p : ℕ) → (p ≡ i.partition → ⊥) → (i.partition == p) ≡ false
+    elsewhere p ne = at_test (i.partition == p) refl
+      where
+        at_test : (b : Bool) → (i.partition == p) ≡ b → b ≡ false
+        at_test true is = absurd (ne (sym (eqb-true i.partition p is)))
+        at_test false is = refl
+
+    one_more : (f : Item → ℕ) → weigh f (untold (partition_at i.partition (changed_at (i.partition ∷ []) (λ p t. with_queued core.config i t) core.partitions))) ≡ weigh f (untold (partition_at i.partition core.partitions)) + f i
+    one_more f = ap (weigh f) (ap untold (changed i.partition next.known ∙ ap (λ (b : Bool). if b || false then with_queued core.config i (partition_at i.partition core.partitions) else partition_at i.partition core.partitions) (eq-eqb i.partition i.partition refl))) ∙ weigh_queued f core.config i (partition_at i.partition core.partitions)
+
+    holds : (p : ℕ) → p < length core.partitions → (b : Bool) → Holds core.correlation (if b then with_queued core.config i (partition_at p core.partitions) else partition_at p core.partitions) (handed_at p handed)
+    holds p h true = let k = a.each p h in record { number = k.number; below = k.below; opens = k.opens; single = k.single; fresh = k.fresh }
     holds p h false = a.each p h
 
     at_home : (p : ℕ) (b : Bool) → (i.partition == p) ≡ b → AllByRecursion (λ x. x.partition ≡ p) (untold (if b || false then with_queued core.config i (partition_at p core.partitions) else partition_at p core.partitions))

@@ -1,7 +1,7 @@
 -- What a call on the core tells of each partition's items, and what it keeps.
-use Rattle.std.proofs.Common.{◌≡◌, ℕ, zero, suc, ◌+◌, ◌<◌, ◌≤◌, Bool, true, false, cond, List, [], ◌∷◌, ◌++◌, length, get_or, map, pos, Some, None, refl, sym, ap, ◌∙◌, subst, arith, append_assoc}
+use Rattle.std.proofs.Common.{◌≡◌, ℕ, zero, suc, ◌+◌, ◌<◌, ◌≤◌, Bool, true, false, cond, List, [], ◌∷◌, ◌++◌, length, get_or, map, pos, Some, None, refl, sym, ap, ◌∙◌, subst, arith}
 use Rattle.std.specs.Prelude.{Option, if◌then◌else◌, find, flat_map, nat_abs, ◌==◌, ◌||◌}
-use Rattle.std.specs.List.{AllByRecursion, filter}
+use Rattle.std.specs.List.{AllByRecursion, filter, range_with_len}
 use Rattle.std.specs.Ordering.{int_eq}
 use Rattle.std.proofs.lemmas.Bool.{eqb-true, eq-eqb}
 use Rattle.std.proofs.lemmas.List.{append-nil, get_or-map, length-map}
@@ -18,14 +18,14 @@ use Rattle.kp_core.specs.Fence.{given_up, end_of, ended}
 use Rattle.kp_core.specs.Flush.{with_marks, flushed}
 use Rattle.kp_core.specs.MaySend.{wants_id}
 use Rattle.kp_core.specs.Mismatch.{Answers, answers_for, answers_of, answer_batches, is_given, answers_id}
-use Rattle.kp_core.specs.Partitions.{partition_at, changed_at, new_partition, is_in, untold, items_queued}
+use Rattle.kp_core.specs.Partitions.{partition_at, changed_at, new_partition, is_in, untold}
 use Rattle.kp_core.specs.Records.{Batch, Partition, Request, IdRequest, Core, Told, Effect, Step}
 use Rattle.kp_core.specs.Replies.{first_answered, answering, batches_answered, batches_replied, under, under_if_wanted, id_given, id_refused, id_answered, id_replied, replied_to, replied, after_end, faulty, known, Replies}
 use Rattle.kp_core.specs.Telling.{with_partitions, at_each, told_at_each, at_these, told_at}
 use Rattle.kp_core.specs.Tick.{passed, has_timed_out, ticked_now, ticked_from, not_ticked, ticked, disconnected, closed}
-use Rattle.kp_world.specs.Accounts.{unsent_among}
-use Rattle.kp_world.proofs.ConservationLemmas.{items_told, Tells, tells_nothing, tells_dropped, tells_marked, tells_given_up, tells_passed, tells_answered}
-use Rattle.kp_world.proofs.FateLemmas.{all_filter, filter_all, filter_none, all_weaker}
+use Rattle.kp_world.proofs.ConservationLemmas.{items_told, attempt_count, Tells, tells_same, tells_both, tells_nothing, tells_dropped, tells_marked, tells_given_up, tells_passed, tells_answered}
+use Rattle.kp_world.proofs.FateLemmas.{all_both, all_filter, filter_all, filter_none, all_weaker}
+use Rattle.kp_world.proofs.WeightLemmas.{weigh, weigh-append, grown_at}
 use Rattle.kp_world.proofs.KeepingLemmas.{OpenIn, Keeps, keeps_same, keeps_dropped, keeps_given_up, keeps_passed, keeps_answered, keeps_marked, at-changed_at, length-changed_at}
 
 -- ---- what is told, by partition
@@ -133,11 +133,7 @@ part_then : (t u v : Partition) (told : List Told) → Part t [] u → Part u to
 part_then t u v told a b = record {
   number = b.number ∙ a.number;
   opens = λ handed h. b.opens handed (a.opens handed h);
-  tells = record {
-    queue = a.tells.queue ∙ b.tells.queue;
-    told_from = λ P h. b.tells.told_from P (a.tells.left_from P h);
-    left_from = λ P h. b.tells.left_from P (a.tells.left_from P h);
-  };
+  tells = tells_both t u v [] told refl a.tells.queue a.tells b.tells;
 }
 
 -- ---- the core
@@ -149,26 +145,34 @@ pub record CoreTells (s : Core) (told : List Told) (s' : Core) : Type 1 where
   pub count : length s'.partitions ≡ length s.partitions
   pub each : (p : ℕ) → p < length s.partitions → Part (partition_at p s.partitions) (told_for p told) (partition_at p s'.partitions)
   pub requests : (P : Request → Type 0) → AllByRecursion P s.requests → AllByRecursion P s'.requests
+  pub correlation : s'.correlation ≡ s.correlation
+  pub there : AllByRecursion (λ t. t.item.partition < length s.partitions) told
 
 pub core_nothing : (s : Core) → CoreTells s [] s
-core_nothing s = record { count = refl; each = λ p h. part_same (partition_at p s.partitions); requests = λ P h. h }
+core_nothing s = record { count = refl; each = λ p h. part_same (partition_at p s.partitions); requests = λ P h. h; correlation = refl; there = tt }
 
 core_then : (s u v : Core) (told : List Told) → CoreTells s [] u → CoreTells u told v → CoreTells s told v
 core_then s u v told a b = record {
   count = b.count ∙ a.count;
   each = λ p h. part_then (partition_at p s.partitions) (partition_at p u.partitions) (partition_at p v.partitions) (told_for p told) (a.each p h) (b.each p (subst (λ (n : ℕ). p < n) (sym a.count) h));
   requests = λ P h. b.requests P (a.requests P h);
+  correlation = b.correlation ∙ a.correlation;
+  there = subst (λ (n : ℕ). AllByRecursion (λ t. t.item.partition < n) told) a.count b.there;
 }
 
 -- past the last partition nothing is there
-pub home_past : (ts : List Partition) → ((p : ℕ) → p < length ts → AllByRecursion (λ i. i.partition ≡ p) (untold (partition_at p ts))) → AtHome ts
+pub past_last : (P : Item → Type 0) (ts : List Partition) (n : ℕ) → (n < length ts → AllByRecursion P (untold (partition_at n ts))) → AllByRecursion P (untold (partition_at n ts))
 unfolding untold
-home_past ts h p = at_place ts p (h p)
-  where
-    at_place : (ts : List Partition) (n : ℕ) → (n < length ts → AllByRecursion (λ i. i.partition ≡ p) (untold (partition_at n ts))) → AllByRecursion (λ i. i.partition ≡ p) (untold (partition_at n ts))
-    at_place [] n h = tt
-    at_place (t ∷ ts) zero h = h (omega arith)
-    at_place (t ∷ ts) (suc n) h = at_place ts n (λ l. h (omega (arith, l)))
+past_last P [] n h = tt
+past_last P (t ∷ ts) zero h = h (omega arith)
+past_last P (t ∷ ts) (suc n) h = past_last P ts n (λ l. h (omega (arith, l)))
+
+pub home_past : (ts : List Partition) → ((p : ℕ) → p < length ts → AllByRecursion (λ i. i.partition ≡ p) (untold (partition_at p ts))) → AtHome ts
+home_past ts h p = past_last (λ i. i.partition ≡ p) ts p (h p)
+
+-- the items of a partition are of one that is there
+home_below : (ts : List Partition) → AtHome ts → (p : ℕ) → AllByRecursion (λ i. i.partition < length ts) (untold (partition_at p ts))
+home_below ts home p = past_last (λ i. i.partition < length ts) ts p (λ l. all_weaker (λ i. i.partition ≡ p) (λ i. i.partition < length ts) (λ i e. omega (arith, e, l)) (untold (partition_at p ts)) (home p))
 
 home_mapped : (f : Partition → Partition) → ((t : Partition) → Tells t [] (f t)) → (ts : List Partition) → AtHome ts → AtHome (map f ts)
 home_mapped f c ts home = home_past (map f ts) (λ p l.
@@ -177,20 +181,22 @@ home_mapped f c ts home = home_past (map f ts) (λ p l.
     subst (λ (t : Partition). AllByRecursion (λ i. i.partition ≡ p) (untold t)) (sym (get_or-map f ts p (new_partition 0) (new_partition 0) within)) ((c (partition_at p ts)).left_from (λ i. i.partition ≡ p) (home p)))
 
 core_map : (f : Partition → Partition) → ((t : Partition) → Part t [] (f t)) → (s s' : Core) → s'.partitions ≡ map f s.partitions
-    → ((P : Request → Type 0) → AllByRecursion P s.requests → AllByRecursion P s'.requests) → CoreTells s [] s'
-core_map f k s s' e requests = record {
+    → s'.correlation ≡ s.correlation → ((P : Request → Type 0) → AllByRecursion P s.requests → AllByRecursion P s'.requests) → CoreTells s [] s'
+core_map f k s s' e correlation requests = record {
   count = ap length e ∙ length-map s.partitions f;
   each = λ p h. subst (Part (partition_at p s.partitions) []) (sym (ap (partition_at p) e ∙ get_or-map f s.partitions p (new_partition 0) (new_partition 0) h)) (k (partition_at p s.partitions));
   requests = requests;
+  correlation = correlation;
+  there = tt;
 }
 
 pub core_dropped : (now : ℕ) (s : Core) → CoreTells s [] (dropped now s)
 unfolding dropped
-core_dropped now s = core_map (without_attempts now) (λ t. part_of t [] (without_attempts now t) (keeps_dropped now t) (tells_dropped now t)) s (dropped now s) refl (λ P h. tt)
+core_dropped now s = core_map (without_attempts now) (λ t. part_of t [] (without_attempts now t) (keeps_dropped now t) (tells_dropped now t)) s (dropped now s) refl refl (λ P h. tt)
 
 pub core_flushed : (s : Core) → CoreTells s [] (flushed s)
 unfolding flushed
-core_flushed s = core_map with_marks (λ t. part_of t [] (with_marks t) (keeps_marked t) (tells_marked t)) s (flushed s) refl (λ P h. h)
+core_flushed s = core_map with_marks (λ t. part_of t [] (with_marks t) (keeps_marked t) (tells_marked t)) s (flushed s) refl refl (λ P h. h)
 
 pub core_disconnected : (now : ℕ) (s : Core) → CoreTells s [] (disconnected now s)
 unfolding disconnected
@@ -206,7 +212,15 @@ core_closed s = at_end s.ended
   where
     at_end : (b : Bool) → CoreTells s [] (if b then s else record s { closing = true })
     at_end true = core_nothing s
-    at_end false = record { count = refl; each = λ p h. part_same (partition_at p s.partitions); requests = λ P h. h }
+    at_end false = record { count = refl; each = λ p h. part_same (partition_at p s.partitions); requests = λ P h. h; correlation = refl; there = tt }
+
+all_flat_places : (P : Told → Type 0) (f : Partition → List Told) (ts : List Partition) (d : Partition) → ((q : ℕ) → q < length ts → AllByRecursion P (f (get_or ts q d))) → AllByRecursion P (flat_map f ts)
+all_flat_places P f [] d h = tt
+all_flat_places P f (t ∷ ts) d h = all_both P (f t) (flat_map f ts) (h 0 (omega arith)) (all_flat_places P f ts d (λ q l. h (suc q) (omega (arith, l))))
+
+all_flat : (P : Told → Type 0) (g : ℕ → List Told) → ((q : ℕ) → AllByRecursion P (g q)) → (ps : List ℕ) → AllByRecursion P (flat_map g ps)
+all_flat P g h [] = tt
+all_flat P g h (q ∷ ps) = all_both P (g q) (flat_map g ps) (h q) (all_flat P g h ps)
 
 core_at_each : (rule : Partition → Effect) → ((t : Partition) → Keeps t (rule t).after) → ((t : Partition) → Tells t (rule t).told (rule t).after)
     → (s : Core) → AtHome s.partitions → CoreTells s (told_at_each rule s) (at_each rule s)
@@ -216,35 +230,97 @@ core_at_each rule keeps tells s home = record {
   each = λ p h.
       let t = partition_at p s.partitions in
       let told : told_for p (flat_map (λ t. (rule t).told) s.partitions) ≡ (rule (partition_at p s.partitions)).told =
-          ap (λ (n : ℕ). told_for n (flat_map (λ t. (rule t).told) s.partitions)) (let same : p ≡ 0 + p = omega arith in same)
-          ∙ told_each (λ t. (rule t).told) s.partitions (new_partition 0) 0 p h
-          (λ q l. let same : q ≡ 0 + q = omega arith in subst (λ (n : ℕ). AllFor n (rule (partition_at q s.partitions)).told) same
-          (all_told (λ i. i.partition ≡ q) (rule (partition_at q s.partitions)).told ((tells (partition_at q s.partitions)).told_from (λ i. i.partition ≡ q) (home q)))) in
+      ap (λ (n : ℕ). told_for n (flat_map (λ t. (rule t).told) s.partitions)) (let same : p ≡ 0 + p = omega arith in same)
+      ∙ told_each (λ t. (rule t).told) s.partitions (new_partition 0) 0 p h
+      (λ q l. let same : q ≡ 0 + q = omega arith in subst (λ (n : ℕ). AllFor n (rule (partition_at q s.partitions)).told) same
+      (all_told (λ i. i.partition ≡ q) (rule (partition_at q s.partitions)).told ((tells (partition_at q s.partitions)).told_from (λ i. i.partition ≡ q) (home q)))) in
       let after : partition_at p (map (λ t. (rule t).after) s.partitions) ≡ (rule (partition_at p s.partitions)).after = get_or-map (λ t. (rule t).after) s.partitions p (new_partition 0) (new_partition 0) h in
       subst (λ (u : Partition). Part (partition_at p s.partitions) (told_for p (flat_map (λ t. (rule t).told) s.partitions)) u) (sym after)
       (subst (λ (x : List Told). Part (partition_at p s.partitions) x (rule (partition_at p s.partitions)).after) (sym told)
       (part_of (partition_at p s.partitions) (rule (partition_at p s.partitions)).told (rule (partition_at p s.partitions)).after (keeps (partition_at p s.partitions)) (tells (partition_at p s.partitions))));
   requests = λ P h. all_filter P (is_live (map (λ t. (rule t).after) s.partitions)) s.requests h;
+  correlation = refl;
+  there = all_flat_places (λ (t : Told). t.item.partition < length s.partitions) (λ t. (rule t).told) s.partitions (new_partition 0)
+      (λ q l. all_told (λ i. i.partition < length s.partitions) (rule (partition_at q s.partitions)).told ((tells (partition_at q s.partitions)).told_from (λ i. i.partition < length s.partitions) (home_below s.partitions home q)));
 }
 
-core_at_these : (ps : List ℕ) (rule : ℕ → Partition → Effect) → ((p : ℕ) (t : Partition) → Keeps t (rule p t).after) → ((p : ℕ) (t : Partition) → Tells t (rule p t).told (rule p t).after)
-    → (s : Core) → Distinct ps → AtHome s.partitions → CoreTells s (told_at ps rule s) (at_these ps rule s)
+core_at_these : (ps : List ℕ) (rule : ℕ → Partition → Effect) → ((p : ℕ) (t : Partition) → Keeps t (rule p t).after) → (s : Core)
+    → ((p : ℕ) → Tells (partition_at p s.partitions) (rule p (partition_at p s.partitions)).told (rule p (partition_at p s.partitions)).after) → Distinct ps → AtHome s.partitions → CoreTells s (told_at ps rule s) (at_these ps rule s)
 unfolding at_these told_at with_partitions
-core_at_these ps rule keeps tells s distinct home = record {
+core_at_these ps rule keeps s tells distinct home = record {
   count = length-changed_at ps (λ p t. (rule p t).after) s.partitions;
   each = λ p h.
       let told : told_for p (flat_map (λ q. (rule q (partition_at q s.partitions)).told) ps) ≡ (if is_in p ps then (rule p (partition_at p s.partitions)).told else []) =
-          told_these (λ q. (rule q (partition_at q s.partitions)).told)
-          (λ q. all_told (λ i. i.partition ≡ q) (rule q (partition_at q s.partitions)).told ((tells q (partition_at q s.partitions)).told_from (λ i. i.partition ≡ q) (home q))) ps p distinct in
+      told_these (λ q. (rule q (partition_at q s.partitions)).told)
+      (λ q. all_told (λ i. i.partition ≡ q) (rule q (partition_at q s.partitions)).told ((tells q).told_from (λ i. i.partition ≡ q) (home q))) ps p distinct in
       subst (λ (u : Partition). Part (partition_at p s.partitions) (told_for p (flat_map (λ q. (rule q (partition_at q s.partitions)).told) ps)) u) (sym (at-changed_at ps (λ p t. (rule p t).after) s.partitions p h))
       (subst (λ (x : List Told). Part (partition_at p s.partitions) x (if is_in p ps then (rule p (partition_at p s.partitions)).after else partition_at p s.partitions)) (sym told)
-      (at_test p (partition_at p s.partitions) (is_in p ps)));
+      (at_test p (is_in p ps)));
   requests = λ P h. all_filter P (is_live (changed_at ps (λ p t. (rule p t).after) s.partitions)) s.requests h;
+  correlation = refl;
+  there = all_flat (λ (t : Told). t.item.partition < length s.partitions) (λ q. (rule q (partition_at q s.partitions)).told)
+      (λ q. all_told (λ i. i.partition < length s.partitions) (rule q (partition_at q s.partitions)).told ((tells q).told_from (λ i. i.partition < length s.partitions) (home_below s.partitions home q))) ps;
 }
   where
-    at_test : (p : ℕ) (t : Partition) (b : Bool) → Part t (if b then (rule p t).told else []) (if b then (rule p t).after else t)
-    at_test p t true = part_of t (rule p t).told (rule p t).after (keeps p t) (tells p t)
-    at_test p t false = part_same t
+    at_test : (p : ℕ) (b : Bool) → Part (partition_at p s.partitions) (if b then (rule p (partition_at p s.partitions)).told else []) (if b then (rule p (partition_at p s.partitions)).after else partition_at p s.partitions)
+    at_test p true = part_of (partition_at p s.partitions) (rule p (partition_at p s.partitions)).told (rule p (partition_at p s.partitions)).after (keeps p (partition_at p s.partitions)) (tells p)
+    at_test p false = part_same (partition_at p s.partitions)
+
+-- ---- weighed
+
+weigh_items : (f : Item → ℕ) (told : List Told) → weigh f (items_told told) ≡ weigh (λ (t : Told). f t.item) told
+weigh_items f [] = refl
+weigh_items f (t ∷ told) = ap (λ (n : ℕ). f t.item + n) (weigh_items f told)
+
+-- what is told is what is told of each partition
+told_parts : (g : Told → ℕ) (n : ℕ) (told : List Told) → AllByRecursion (λ t. t.item.partition < n) told → weigh g (flat_map (λ p. told_for p told) (range_with_len 0 n)) ≡ weigh g told
+told_parts g n [] h = nothing 0 n
+  where
+    nothing : (a m : ℕ) → weigh g (flat_map (λ p. told_for p []) (range_with_len a m)) ≡ 0
+    nothing a zero = refl
+    nothing a (suc m) = nothing (a + 1) m
+told_parts g n (t ∷ told) h =
+    let one : weigh g (flat_map (λ p. told_for p (t ∷ told)) (range_with_len 0 n)) ≡ weigh g (flat_map (λ p. told_for p told) (range_with_len 0 n)) + g t =
+    grown_at g (λ p. told_for p told) (λ p. told_for p (t ∷ told)) t.item.partition (g t) here other 0 n (omega arith) (omega (arith, h.0)) in
+    let rest : weigh g (flat_map (λ p. told_for p told) (range_with_len 0 n)) ≡ weigh g told = told_parts g n told h.1 in
+    omega (arith, one, rest)
+  where
+    here : weigh g (cond (t.item.partition == t.item.partition) (t ∷ told_for t.item.partition told) (told_for t.item.partition told)) ≡ weigh g (told_for t.item.partition told) + g t
+    here = ap (λ (b : Bool). weigh g (cond b (t ∷ told_for t.item.partition told) (told_for t.item.partition told))) (eq-eqb t.item.partition t.item.partition refl) ∙ (let swap : g t + weigh g (told_for t.item.partition told) ≡ weigh g (told_for t.item.partition told) + g t = omega arith in swap)
+
+    other : (p : ℕ) → (p == t.item.partition) ≡ false → weigh g (cond (t.item.partition == p) (t ∷ told_for p told) (told_for p told)) ≡ weigh g (told_for p told)
+    other p is = ap (λ (b : Bool). weigh g (cond b (t ∷ told_for p told) (told_for p told))) (apart t.item.partition p (λ (e : t.item.partition ≡ p). differ (eq-eqb p t.item.partition (sym e)) is))
+      where
+        differ : (p == t.item.partition) ≡ true → (p == t.item.partition) ≡ false → ⊥
+        differ same other = absurd cc
+
+-- place by place
+weigh_places : (f : Item → ℕ) (told : List Told) (k : ℕ) (ts ts' : List Partition) (d : Partition) → length ts' ≡ length ts
+    → ((q : ℕ) → q < length ts → weigh f (items_told (told_for (k + q) told)) + weigh f (untold (get_or ts' q d)) ≡ weigh f (untold (get_or ts q d)))
+    → weigh (λ (t : Told). f t.item) (flat_map (λ p. told_for p told) (range_with_len k (length ts))) + weigh f (flat_map untold ts') ≡ weigh f (flat_map untold ts)
+weigh_places f told k [] [] d e h = refl
+weigh_places f told k [] (t' ∷ ts') d e h = absurd (omega (arith, e))
+weigh_places f told k (t ∷ ts) [] d e h = absurd (omega (arith, e))
+weigh_places f told k (t ∷ ts) (t' ∷ ts') d e h =
+    let g : Told → ℕ = λ (x : Told). f x.item in
+    let zero_on : k + 0 ≡ k = omega arith in
+    let here : weigh f (items_told (told_for k told)) + weigh f (untold t') ≡ weigh f (untold t) = subst (λ (n : ℕ). weigh f (items_told (told_for n told)) + weigh f (untold t') ≡ weigh f (untold t)) zero_on (h 0 (omega arith)) in
+    let moved : weigh f (items_told (told_for k told)) ≡ weigh (λ (x : Told). f x.item) (told_for k told) = weigh_items f (told_for k told) in
+    let rest : weigh (λ (x : Told). f x.item) (flat_map (λ p. told_for p told) (range_with_len (k + 1) (length ts))) + weigh f (flat_map untold ts') ≡ weigh f (flat_map untold ts) =
+    weigh_places f told (k + 1) ts ts' d (omega (arith, e)) (λ q l. let next : k + suc q ≡ k + 1 + q = omega arith in subst (λ (n : ℕ). weigh f (items_told (told_for n told)) + weigh f (untold (get_or ts' q d)) ≡ weigh f (untold (get_or ts q d))) next (h (suc q) (omega (arith, l)))) in
+    let a : weigh (λ (x : Told). f x.item) (told_for k told ++ flat_map (λ p. told_for p told) (range_with_len (k + 1) (length ts))) ≡ weigh (λ (x : Told). f x.item) (told_for k told) + weigh (λ (x : Told). f x.item) (flat_map (λ p. told_for p told) (range_with_len (k + 1) (length ts))) = weigh-append (λ (x : Told). f x.item) (told_for k told) (flat_map (λ p. told_for p told) (range_with_len (k + 1) (length ts))) in
+    let b : weigh f (untold t' ++ flat_map untold ts') ≡ weigh f (untold t') + weigh f (flat_map untold ts') = weigh-append f (untold t') (flat_map untold ts') in
+    let c : weigh f (untold t ++ flat_map untold ts) ≡ weigh f (untold t) + weigh f (flat_map untold ts) = weigh-append f (untold t) (flat_map untold ts) in
+    omega (arith, here, moved, rest, a, b, c)
+
+pub core_weighs : (s : Core) (told : List Told) (s' : Core) → CoreTells s told s' → (f : Item → ℕ)
+    → weigh f (items_told told) + weigh f (flat_map untold s'.partitions) ≡ weigh f (flat_map untold s.partitions)
+core_weighs s told s' k f =
+    let places : weigh (λ (t : Told). f t.item) (flat_map (λ p. told_for p told) (range_with_len 0 (length s.partitions))) + weigh f (flat_map untold s'.partitions) ≡ weigh f (flat_map untold s.partitions) =
+    weigh_places f told 0 s.partitions s'.partitions (new_partition 0) k.count (λ q l. let same : q ≡ 0 + q = omega arith in subst (λ (n : ℕ). weigh f (items_told (told_for n told)) + weigh f (untold (partition_at q s'.partitions)) ≡ weigh f (untold (partition_at q s.partitions))) same ((k.each q l).tells.weighs f)) in
+    let parts : weigh (λ (t : Told). f t.item) (flat_map (λ p. told_for p told) (range_with_len 0 (length s.partitions))) ≡ weigh (λ (t : Told). f t.item) told = told_parts (λ (t : Told). f t.item) (length s.partitions) told k.there in
+    let items : weigh f (items_told told) ≡ weigh (λ (t : Told). f t.item) told = weigh_items f told in
+    omega (arith, places, parts, items)
 
 -- ---- the calls
 
@@ -279,7 +355,7 @@ core_ended s home = at_end s.ended
 
     at_end : (b : Bool) → CoreTells s (end_step s b).told (end_step s b).after
     at_end true = core_nothing s
-    at_end false = record { count = k.count; each = k.each; requests = k.requests }
+    at_end false = record { count = k.count; each = k.each; requests = k.requests; correlation = k.correlation; there = k.there }
 
 -- ---- a reply
 
@@ -314,33 +390,39 @@ keeps_answering now k answers p t = at_first (answers_for p answers)
     at_first [] = keeps_same t
     at_first (a ∷ xs) = keeps_answered now k t a
 
-tells_answering : (now k : ℕ) (answers : Answers) (p : ℕ) (t : Partition) → Tells t (answering now k answers p t).told (answering now k answers p t).after
-tells_answering now k answers p t = at_first (answers_for p answers)
+tells_answering : (now k : ℕ) (answers : Answers) (p : ℕ) (t : Partition) → attempt_count k t.open_batches ≤ 1 → Tells t (answering now k answers p t).told (answering now k answers p t).after
+tells_answering now k answers p t one = at_first (answers_for p answers)
   where
     at_first : (xs : Answers) → Tells t (first_answered now k t xs).told (first_answered now k t xs).after
     at_first [] = tells_nothing t
-    at_first (a ∷ xs) = tells_answered now k t a
+    at_first (a ∷ xs) = tells_answered now k t a one
 
 abbrev batches_step : ℕ → Request → Core → Answers → Bool → Replies
 batches_step now r s answers b = if b then batches_answered now r answers s else faulty Mismatch s
 
-core_batches : (now : ℕ) (r : Request) (s : Core) (o : Option Answers) → Distinct r.partitions → AtHome s.partitions → CoreTells s (batches_replied now r s o).told (batches_replied now r s o).after
-core_batches now r s None distinct home = core_nothing s
-core_batches now r s (Some answers) distinct home = at_test (answer_batches r.correlation r.partitions s.partitions answers)
+-- of each partition at most one batch is in a request
+abbrev pub AreSingle : List Partition → Type 0
+AreSingle ts = (p k : ℕ) → attempt_count k (partition_at p ts).open_batches ≤ 1
+
+core_batches : (now : ℕ) (r : Request) (s : Core) (o : Option Answers) → AreSingle s.partitions → Distinct r.partitions → AtHome s.partitions → CoreTells s (batches_replied now r s o).told (batches_replied now r s o).after
+core_batches now r s None single distinct home = core_nothing s
+core_batches now r s (Some answers) single distinct home = at_test (answer_batches r.correlation r.partitions s.partitions answers)
   where
     at_test : (b : Bool) → CoreTells s (batches_step now r s answers b).told (batches_step now r s answers b).after
-    at_test true = core_at_these r.partitions (answering now r.correlation answers) (keeps_answering now r.correlation answers) (tells_answering now r.correlation answers) s distinct home
+    at_test true = core_at_these r.partitions (answering now r.correlation answers) (keeps_answering now r.correlation answers) s (λ p. tells_answering now r.correlation answers p (partition_at p s.partitions) (single p r.correlation)) distinct home
     at_test false = core_nothing s
 
 part_under : (id : ℕ) (t : Partition) → Part t [] (under id t)
 unfolding untold
-part_under id t = record { number = refl; opens = λ handed h. h; tells = record { queue = refl; told_from = λ P h. tt; left_from = λ P h. h } }
+part_under id t = record { number = refl; opens = λ handed h. h; tells = tells_same t (under id t) refl refl (λ k. omega arith) }
 
 core_given : (id : ℕ) (q : IdRequest) (s : Core) → CoreTells s [] (id_given id q s)
 core_given id q s = record {
   count = length-changed_at (q.partition ∷ []) (under_if_wanted id s) s.partitions;
   each = λ p h. subst (Part (partition_at p s.partitions) []) (sym (at-changed_at (q.partition ∷ []) (under_if_wanted id s) s.partitions p h)) (at_place p (partition_at p s.partitions) (is_in p (q.partition ∷ [])));
   requests = λ P h. h;
+  correlation = refl;
+  there = tt;
 }
   where
     at_want : (t : Partition) (b : Bool) → Part t [] (if b then under id t else t)
@@ -356,7 +438,7 @@ core_id now q x s = at_valid (answers_id x)
   where
     at_given : (b : Bool) → CoreTells s [] (if b then id_given (nat_abs x.producer_id) q s else id_refused now s)
     at_given true = core_given (nat_abs x.producer_id) q s
-    at_given false = record { count = refl; each = λ p h. part_same (partition_at p s.partitions); requests = λ P h. h }
+    at_given false = record { count = refl; each = λ p h. part_same (partition_at p s.partitions); requests = λ P h. h; correlation = refl; there = tt }
 
     at_valid : (b : Bool) → CoreTells s (if b then known (id_answered now q x s) [] else faulty Mismatch s).told (if b then known (id_answered now q x s) [] else faulty Mismatch s).after
     at_valid true = at_given (is_given x)
@@ -365,14 +447,14 @@ core_id now q x s = at_valid (answers_id x)
 abbrev reply_step : ℕ → Response → Core → Bool → Replies
 reply_step now response s b = if b then after_end s else replied_to now s (awaited response.correlation s) response.body
 
-pub core_replied : (now : ℕ) (response : Response) (s : Core) → AllByRecursion (λ r. Distinct r.partitions) s.requests → AtHome s.partitions
+pub core_replied : (now : ℕ) (response : Response) (s : Core) → AreSingle s.partitions → AllByRecursion (λ r. Distinct r.partitions) s.requests → AtHome s.partitions
     → CoreTells s (replied now response s).told (replied now response s).after
 unfolding replied
-core_replied now response s distinct home = at_end s.ended
+core_replied now response s single distinct home = at_end s.ended
   where
     at_body : (who : Awaited) → awaited response.correlation s ≡ who → (body : ResponseBody) → CoreTells s (replied_to now s who body).told (replied_to now s who body).after
     at_body Nothing is body = core_nothing s
-    at_body (Batches r) is (Produce x) = core_batches now r s (answers_of s.names.topic x.topics) (awaited_batches (λ r. Distinct r.partitions) response.correlation s r is distinct) home
+    at_body (Batches r) is (Produce x) = core_batches now r s (answers_of s.names.topic x.topics) single (awaited_batches (λ r. Distinct r.partitions) response.correlation s r is distinct) home
     at_body (Batches r) is (Metadata x) = core_nothing s
     at_body (Batches r) is (InitProducerId x) = core_nothing s
     at_body (Id q) is (Produce x) = core_nothing s

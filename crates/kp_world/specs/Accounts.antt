@@ -1,10 +1,11 @@
 -- What became of the items that were accepted: handed over, told, or still waiting.
-use Rattle.std.specs.Prelude.{◌≡◌, ℕ, Bool, true, false, List, map, filter, flat_map, length, drop, not, ◌==◌, ◌&&◌, ◌||◌}
-use Rattle.std.specs.List.{AllByRecursion, list_any, range_with_len}
+use Rattle.std.specs.Prelude.{◌≡◌, ℕ, Bool, true, false, List, map, filter, flat_map, sum_by, length, take, drop, not, ◌==◌, ◌&&◌, ◌||◌}
+use Rattle.std.specs.List.{AllByRecursion, IsDistinct, list_any, range_with_len}
 use Rattle.kp_accum.specs.declared.item.Item.{Item}
+use Rattle.kp_accum.specs.Queue.{charge_of}
 use Rattle.kp_core.specs.declared.outcome.Outcome.{Outcome}
 use Rattle.kp_core.specs.declared.outcome.Outcome.TheVariants.{Unsent}
-use Rattle.kp_core.specs.Partitions.{partition_at, items_queued}
+use Rattle.kp_core.specs.Partitions.{partition_at, items_queued, used}
 use Rattle.kp_core.specs.Records.{Told}
 use Rattle.kp_world.specs.Accepting.{accepted_by, for_partition, taken_by}
 use Rattle.kp_world.specs.Client.{handed_at}
@@ -32,6 +33,9 @@ items_handed p w = flat_map (λ b. b.items) (handed_at p w.handed)
 -- all that was told, in order
 abbrev pub told_in : List Happened → List Told
 told_in past = flat_map (λ h. h.told) past
+
+abbrev pub told_items : World → List Item
+told_items w = map (λ t. t.item) (told_in w.past)
 
 abbrev pub is_unsent : Outcome → Bool
 is_unsent (Unsent why) = true
@@ -77,3 +81,19 @@ pub record ArePlaced (s p : ℕ) (w : World) : Type 0 where
 -- No item that was told Unsent was handed over.
 abbrev pub IsNeverSent : ℕ → World → Type 0
 IsNeverSent p w = AllByRecursion (λ i. is_among i (told_unsent w) ≡ false) (items_handed p w)
+
+-- ---- what was taken is told once, and uses memory until then
+
+-- No two of the items that were told are one.
+abbrev pub IsToldOnce : World → Type 0
+IsToldOnce w = IsDistinct is_same (told_items w)
+
+-- the items that were taken, by sender
+abbrev pub items_taken : World → List Item
+items_taken w =
+    flat_map (λ s. take (taken_by s w) (accepted_by s w)) (range_with_len 0 (length w.accepted))
+
+-- The memory that is used is what the items take that were taken and are not told.
+abbrev pub IsUsedByUntold : World → Type 0
+IsUsedByUntold w =
+    used w.core ≡ sum_by charge_of (filter (λ i. not (is_among i (told_items w))) (items_taken w))

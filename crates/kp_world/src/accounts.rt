@@ -4,7 +4,7 @@ ghost use Rattle.std.specs.Prelude.{◌≡◌, ◌<◌, ◌∷◌, ℕ, List};
 ghost use Rattle.kp_accum.specs.declared.config.Config.{Config};
 ghost use Rattle.kp_world.specs.declared.event.Event.{Event};
 ghost use Rattle.kp_world.specs.declared.event.Event.TheVariants as event;
-ghost use Rattle.kp_world.specs.Accounts.{AreAccountedFor, ArePlaced, IsNeverSent};
+ghost use Rattle.kp_world.specs.Accounts.{AreAccountedFor, ArePlaced, IsNeverSent, IsToldOnce, IsUsedByUntold};
 ghost use Rattle.kp_world.specs.Run.{Run, IsReached};
 ghost use Rattle.kp_world.specs.World.{World};
 
@@ -15,7 +15,8 @@ pub fn what_was_accepted_is_accounted_for()
         → IsReached c partitions senders es w → p < partitions → AreAccountedFor s p w }
 {}
 
-/// So that the items of a sender and partition are told apart by their numbers: each one's number is its place.
+/// An item's number is its place among those that its sender had accepted for its partition; so numbers tell them
+/// apart.
 pub fn items_are_numbered_by_place()
     ensures { (c : Config) (partitions senders : ℕ) (es : List Event) (w : World) (s p : ℕ)
         → IsReached c partitions senders es w → ArePlaced s p w }
@@ -31,4 +32,17 @@ pub fn unsent_is_never_sent()
 pub fn nothing_is_accepted_after_close()
     ensures { (w : World) (es : List Event) (v : World)
         → Run w (event.Close ∷ es) v → v.accepted ≡ w.accepted }
+{}
+
+/// Each item is told of at most once.
+pub fn each_item_is_told_once()
+    ensures { (c : Config) (partitions senders : ℕ) (es : List Event) (w : World)
+        → IsReached c partitions senders es w → IsToldOnce w }
+{}
+
+/// The memory that is used is what the items take that were taken and are not told; those that were turned away were
+/// told at once.
+pub fn memory_is_of_what_is_not_told()
+    ensures { (c : Config) (partitions senders : ℕ) (es : List Event) (w : World)
+        → IsReached c partitions senders es w → IsUsedByUntold w }
 {}
