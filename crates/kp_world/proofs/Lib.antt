@@ -34,3 +34,4 @@ pub mod AccountedLemmas
 pub mod GateLemmas
 pub mod ToldLemmas
 pub mod AccountLaws
+pub mod OutcomeLemmas
