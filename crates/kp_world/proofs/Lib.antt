@@ -35,3 +35,4 @@ pub mod GateLemmas
 pub mod ToldLemmas
 pub mod AccountLaws
 pub mod OutcomeLemmas
+pub mod OutcomeLaws

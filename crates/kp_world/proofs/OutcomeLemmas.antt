@@ -127,9 +127,9 @@ pub record Comes (w : World) (j k : ℕ) (answers : Answers) : Type 0 where
   pub answers_are : answers ≡ map part_response parts
   pub correlation : k ≡ reply.correlation
 
-judged_tells : (w : World) (j k p : ℕ) (answers : Answers) (part : PartAnswer) (o : Open) → Comes w j k answers → (c : Comes w j k answers) → In part c.parts → part.partition ≡ p
+judged_tells : (w : World) (j k p : ℕ) (answers : Answers) (part : PartAnswer) (o : Open) → (c : Comes w j k answers) → In part c.parts → part.partition ≡ p
     → awaiting k (partition_of p w) ≡ Some o → (v : Verdict) → verdict_of part.answer.code ≡ v → AllByRecursion (Telling w (event.Reply j) p) (judged w.moment k (partition_of p w) o (part_response part) v).told
-judged_tells w j k p answers part o same c there at awaits_it v is = at_verdict v is
+judged_tells w j k p answers part o c there at awaits_it v is = at_verdict v is
   where
     heard : (v : Verdict) → verdict_of part.answer.code ≡ v → IsAnswered w (event.Reply j) p v part o
     heard v is = record {
@@ -164,7 +164,7 @@ reply_tells w j k p answers c = at_first (answers_for p answers) refl
     at_open : (part : PartAnswer) → In part c.parts → part.partition ≡ p → (o : Option Open) → awaiting k (partition_of p w) ≡ o
         → AllByRecursion (Telling w (event.Reply j) p) (answered_if w.moment k (partition_of p w) (part_response part) o).told
     at_open part there at None is = tt
-    at_open part there at (Some o) is = judged_tells w j k p answers part o c c there at is (verdict_of part.answer.code) refl
+    at_open part there at (Some o) is = judged_tells w j k p answers part o c there at is (verdict_of part.answer.code) refl
 
     at_first : (xs : Answers) → answers_for p answers ≡ xs → AllByRecursion (Telling w (event.Reply j) p) (first_answered w.moment k (partition_of p w) xs).told
     at_first [] e = tt

@@ -1,7 +1,7 @@
 -- Which outcomes an event may tell (KIP-98 and the error codes of the protocol guide say what a code
 -- means; fences are this producer's own rule).
-use Rattle.std.specs.Prelude.{◌≡◌, ◌⊎◌, ℕ, ℤ, pos, ◌+ℤ◌, true, false, List, Contains, Some, slice_get}
-use Rattle.std.specs.List.{list_any}
+use Rattle.std.specs.Prelude.{◌≡◌, ◌⊎◌, ℕ, ℤ, pos, ◌+ℤ◌, true, false, List, [], ◌∷◌, ◌++◌, Contains, Some, slice_get}
+use Rattle.std.specs.List.{AllByRecursion, list_any}
 use Rattle.kp_accum.specs.declared.item.Item.{Item}
 use Rattle.kp_core.specs.declared.outcome.Outcome.{Outcome}
 use Rattle.kp_core.specs.declared.outcome.Outcome.TheVariants.{Delivered, DeliveredNoOffset, Unknown, Rejected, Unsent}
@@ -73,3 +73,9 @@ MayTell w e p i (Unsent Ended) =
 
 abbrev pub IsAllowedOutcome : World → Event → Told → Type 0
 IsAllowedOutcome w e t = (p : ℕ) × MayTell w e p t.item t.outcome
+
+-- Each outcome that this event told is allowed.
+pub record TellsByRule (w : World) (e : Event) (v : World) : Type 0 where
+  pub happened : Happened
+  pub noted : v.past ≡ w.past ++ happened ∷ []
+  pub allowed : AllByRecursion (IsAllowedOutcome w e) happened.told
