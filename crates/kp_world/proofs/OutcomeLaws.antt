@@ -1,6 +1,6 @@
 -- Each outcome that an event tells is allowed.
-use Rattle.std.proofs.Common.{◌≡◌, ℕ, ◌<◌, Bool, true, false, List, [], ◌∷◌, ◌++◌, length, map, ℤ, pos, Some, None, refl, sym, ap, ◌∙◌, subst, inl, inr}
-use Rattle.std.specs.Prelude.{Option, Result, Ok, Err, flat_map, if◌then◌else◌, find, slice_get, ◌&&◌, ◌||◌}
+use Rattle.std.proofs.Common.{◌≡◌, ℕ, ◌<◌, Bool, true, false, List, [], ◌∷◌, ◌++◌, length, map, pos, Some, None, refl, sym, ap, subst, inr}
+use Rattle.std.specs.Prelude.{Option, Result, Ok, Err, if◌then◌else◌, find, slice_get, ◌&&◌, ◌||◌}
 use Rattle.std.specs.List.{AllByRecursion, list_any}
 use Rattle.std.specs.Ordering.{int_eq}
 use Rattle.std.specs.Str.{bytes_eq}
@@ -10,15 +10,14 @@ use Rattle.kp_accum.specs.declared.item.Item.{Item}
 use Rattle.kp_frames.specs.declared.response.ResponseBody.{ResponseBody}
 use Rattle.kp_core.specs.declared.fault.CoreFault.{CoreFault}
 use Rattle.kp_core.specs.declared.fault.CoreFault.TheVariants as fault
-use Rattle.kp_core.specs.declared.outcome.Outcome.TheVariants.{Unsent}
 use Rattle.kp_core.specs.declared.outcome.Reason.TheVariants.{Fenced, Ended}
-use Rattle.kp_core.specs.Appending.{Appends, TakenIn, BufferFull, turned_away, refused, queued, would_exhaust, appended}
+use Rattle.kp_core.specs.Appending.{Appends, turned_away, refused, queued, would_exhaust, appended}
 use Rattle.kp_core.specs.Attempts.{dropped_batch, without_attempts, dropped}
 use Rattle.kp_core.specs.Awaited.{Awaited, Nothing, Batches, Id, id_awaited, or_id, awaited}
 use Rattle.kp_core.specs.Fence.{given_up, end_of, ended}
 use Rattle.kp_core.specs.Flush.{flushed}
-use Rattle.kp_core.specs.Mismatch.{Answers, answers_of, answer_batches, answers_id}
-use Rattle.kp_core.specs.Partitions.{partition_at, new_partition, items_open}
+use Rattle.kp_core.specs.Mismatch.{Answers, answer_batches, answers_id}
+use Rattle.kp_core.specs.Partitions.{partition_at, new_partition}
 use Rattle.kp_core.specs.Records.{Open, Partition, Request, IdRequest, Core, Told, Step}
 use Rattle.kp_core.specs.Replies.{answering, batches_answered, batches_replied, id_answered, id_replied, known, faulty, replied_to, replied, after_end, Replies}
 use Rattle.kp_core.specs.Requesting.{Outgoing, requested}
@@ -35,8 +34,8 @@ use Rattle.kp_world.specs.Line as line
 use Rattle.kp_world.specs.Loopback.{logs_with_others}
 use Rattle.kp_world.specs.Message.{part_response, body_of_reply, response_of}
 use Rattle.kp_world.specs.Noting.{ends_flush, noted, only_noted}
-use Rattle.kp_world.specs.OutcomeRule.{partition_of, MayTell, IsAllowedOutcome, TellsByRule}
-use Rattle.kp_world.specs.Run.{answer_line, with_delivery, with_others_at, Arrives, Steps}
+use Rattle.kp_world.specs.OutcomeRule.{MayTell, IsAllowedOutcome, TellsByRule}
+use Rattle.kp_world.specs.Run.{answer_line, with_delivery, with_others_at, Steps}
 use Rattle.kp_world.specs.World.{Happened, PartAnswer, ReplyContent, Reply, World, names}
 use Rattle.kp_world.specs.World as world
 use Rattle.kp_world.proofs.ConservationLemmas.{open_map}

@@ -1,35 +1,32 @@
 -- What the rules of a partition tell is allowed.
-use Rattle.std.proofs.Common.{◌≡◌, ◌⊎◌, ℕ, zero, suc, ◌+◌, ◌<◌, Bool, true, false, not, cond, List, [], ◌∷◌, ◌++◌, length, get_or, map, ℤ, pos, Some, None, refl, sym, ap, ◌∙◌, subst, inl, inr, arith, Contains}
-use Rattle.std.specs.Prelude.{Option, flat_map, if◌then◌else◌, find, slice_get, ◌+ℤ◌, ◌||◌}
+use Rattle.std.proofs.Common.{◌≡◌, ℕ, suc, ◌+◌, Bool, true, false, not, cond, List, [], ◌∷◌, map, ℤ, pos, Some, None, refl, sym, ap, ◌∙◌, subst, inl, inr, arith, Contains}
+use Rattle.std.specs.Prelude.{Option, if◌then◌else◌, slice_get, ◌+ℤ◌}
 use Rattle.std.specs.List.{AllByRecursion, filter, list_any, enumerate_from}
-use Rattle.std.specs.Ordering.{int_eq}
 use Rattle.std.proofs.lemmas.Bool.Decides.{Decides-int_eq}
-use Rattle.kp_accum.specs.declared.config.Config.{Config}
 use Rattle.kp_accum.specs.declared.item.Item.{Item}
 use Rattle.kp_accum.specs.Queue.{Pending}
 use Rattle.kp_frames.specs.declared.produce.PartitionProduceResponse.{PartitionProduceResponse}
 use Rattle.kp_log.proofs.PlaceLemmas.{In, In-head, In-tail, contains_from_In}
 use Rattle.kp_core.specs.declared.outcome.Outcome.{Outcome}
 use Rattle.kp_core.specs.declared.outcome.Outcome.TheVariants.{Delivered, DeliveredNoOffset, Unknown, Rejected, Unsent}
-use Rattle.kp_core.specs.declared.outcome.Reason.{Reason}
 use Rattle.kp_core.specs.declared.outcome.Reason.TheVariants.{Expired, Fenced, Ended}
 use Rattle.kp_core.specs.declared.verdict.Verdict.{Verdict}
 use Rattle.kp_core.specs.declared.verdict.Verdict.TheVariants.{Stored, Duplicate, Retry, Reject}
 use Rattle.kp_core.specs.Answered.{verdict_of, without_attempt, judged, answered_if, answered}
-use Rattle.kp_core.specs.Attempts.{awaits, awaiting, dropped_batch, without_attempts}
-use Rattle.kp_core.specs.Fence.{told_given_up, fenced, given_up}
+use Rattle.kp_core.specs.Attempts.{awaits, awaiting}
+use Rattle.kp_core.specs.Fence.{fenced, given_up}
 use Rattle.kp_core.specs.Mismatch.{Answers, is_for, answers_for}
-use Rattle.kp_core.specs.Partitions.{partition_at, items_open, items_queued}
-use Rattle.kp_core.specs.Records.{Batch, Open, Partition, Told, Effect}
+use Rattle.kp_core.specs.Partitions.{items_open, items_queued}
+use Rattle.kp_core.specs.Records.{Open, Partition, Told}
 use Rattle.kp_core.specs.Replies.{first_answered, answering}
-use Rattle.kp_core.specs.Telling.{told_all, told_offsets}
+use Rattle.kp_core.specs.Telling.{told_all}
 use Rattle.kp_core.specs.Tick.{late_front, expired_front, is_open_late, passed}
 use Rattle.kp_world.specs.declared.event.Event.{Event}
 use Rattle.kp_world.specs.declared.event.Event.TheVariants as event
 use Rattle.kp_world.specs.Message.{part_response}
-use Rattle.kp_world.specs.OutcomeRule.{partition_of, IsAnswered, IsFenced, MayTell, IsAllowedOutcome}
+use Rattle.kp_world.specs.OutcomeRule.{partition_of, IsAnswered, IsFenced, MayTell}
 use Rattle.kp_world.specs.World.{PartAnswer, Batches, Reply, World}
-use Rattle.kp_world.proofs.ConservationLemmas.{told_as, all_open_filter, open_map}
+use Rattle.kp_world.proofs.ConservationLemmas.{told_as, all_open_filter}
 use Rattle.kp_world.proofs.FateLemmas.{all_both, all_weaker}
 
 -- ---- lists
@@ -50,8 +47,7 @@ all_offsets : (Q : Item → Outcome → Type 0) (base : ℤ) (n : ℕ) (items : 
     → AllByRecursion (λ (t : Told). Q t.item t.outcome) (map (λ (x : ℕ × Item). told_as (Delivered (base +ℤ pos x.0)) x.1) (enumerate_from n items))
 all_offsets Q base n [] h = tt
 all_offsets Q base n (i ∷ items) h =
-    let here : n + 0 ≡ n = omega arith in
-    (
+    let here : n + 0 ≡ n = omega arith in (
       subst (λ (m : ℕ). Q i (Delivered (base +ℤ pos m))) here (h 0 i refl),
       all_offsets Q base (n + 1) items (λ k j e. let there : n + suc k ≡ n + 1 + k = omega arith in subst (λ (m : ℕ). Q j (Delivered (base +ℤ pos m))) there (h (suc k) j e)),
     )

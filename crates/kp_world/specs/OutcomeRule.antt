@@ -1,6 +1,6 @@
 -- Which outcomes an event may tell (KIP-98 and the error codes of the protocol guide say what a code
 -- means; fences are this producer's own rule).
-use Rattle.std.specs.Prelude.{◌≡◌, ◌⊎◌, ℕ, ℤ, pos, ◌+ℤ◌, true, false, List, [], ◌∷◌, ◌++◌, Contains, Some, slice_get}
+use Rattle.std.specs.Prelude.{◌≡◌, ◌⊎◌, ℕ, pos, ◌+ℤ◌, true, false, List, [], ◌∷◌, ◌++◌, Contains, Some, slice_get}
 use Rattle.std.specs.List.{AllByRecursion, list_any}
 use Rattle.kp_accum.specs.declared.item.Item.{Item}
 use Rattle.kp_core.specs.declared.outcome.Outcome.{Outcome}
@@ -40,7 +40,7 @@ pub record IsAnswered (w : World) (e : Event) (p : ℕ) (v : Verdict) (answer : 
 abbrev pub IsFenced : World → Event → ℕ → Type 0
 IsFenced w e p =
     ((e ≡ event.Tick)
-        × (list_any (is_open_late w.core.config w.moment) (partition_of p w).open_batches ≡ true))
+    × (list_any (is_open_late w.core.config w.moment) (partition_of p w).open_batches ≡ true))
     ⊎ ((answer : PartAnswer) × (o : Open) × IsAnswered w e p Reject answer o)
 
 -- The item is taken in this event.
