@@ -1,0 +1,3 @@
+pub mod QueueLemmas
+pub mod MarkLemmas
+pub mod AccumLemmas

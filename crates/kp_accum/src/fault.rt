@@ -1,4 +1,4 @@
-//! Why a configuration is refused.
+//! Why a configuration or an item is refused.
 
 ghost use Rattle.std.specs.Prelude.{◌≡◌};
 ghost use Rattle.kp_accum.specs.Config.{number_of};
@@ -48,4 +48,14 @@ impl ConfigFault {
             ConfigFault::BatchAboveRequest => 10,
         }
     }
+}
+
+/// Why an item is refused: of these the first that applies. The item comes back.
+#[derive(Clone, Copy, Debug, PartialEq, Eq, Error)]
+pub enum AppendFault {
+    /// With the item, the items would take more than `buffer.memory`.
+    #[error("the buffer memory is full")]
+    BufferFull,
+    #[error("out of memory")]
+    OutOfMemory,
 }

@@ -1,8 +1,10 @@
 //! A record that was accepted, and whose it is.
 
-ghost use Rattle.std.specs.Prelude.{◌≡◌, IfOk};
+ghost use Rattle.std.specs.Prelude.{◌≡◌, ◌≤◌, IfOk};
+ghost use Rattle.kp_batch.specs.Spelling.{measured};
+ghost use Rattle.kp_accum.specs.Queue.{charge_of};
 
-use kp_batch::{AsRecord, Record};
+use kp_batch::{AsRecord, Record, SIZE_LIMIT, charge};
 use std::alloc::{AllocError, Global};
 
 /// A record that was accepted, and whose it is.
@@ -31,6 +33,15 @@ impl Item {
             at: self.at,
             body: self.body.copy(alloc)?,
         })
+    }
+
+    /// The memory that it takes: the size of the batch that holds it alone; u64::MAX where that is above the limit.
+    pub fn charge(&self) -> u64
+        ensures value { result ≡ measured (charge_of self.now) }
+        ensures exact { charge_of self.now ≤ SIZE_LIMIT → result ≡ charge_of self.now }
+        ensures told { result ≤ SIZE_LIMIT → result ≡ charge_of self.now }
+    {
+        charge(&self.body)
     }
 }
 

@@ -3,6 +3,8 @@ use kp_batch::{AsRecord, Record, Timestamp, charge};
 use kp_wire::{Blob, Seq};
 use std::test::Fail;
 
+mod waiting;
+
 const DEFAULTS: Config = Config {
     batch_size: 16384,
     linger_ms: 0,

@@ -1,5 +1,5 @@
 -- The records in a list of things that have one.
-use Rattle.std.proofs.Common.{◌≡◌, ℕ, ◌<◌, max, List, [], ◌∷◌, length, map, get_or, sym, ap, ◌∙◌, arith}
+use Rattle.std.proofs.Common.{◌≡◌, ℕ, ◌<◌, max, List, [], ◌∷◌, ◌++◌, length, map, get_or, refl, sym, ap, ◌∙◌, arith}
 use Rattle.std.proofs.lemmas.List.{length-map, get_or-map}
 use Rattle.kp_batch.specs.declared.record.Record.{Record}
 use Rattle.kp_batch.specs.Spelling.{base_timestamp, max_timestamp}
@@ -14,6 +14,11 @@ record_here record_in items k item r lt here is = is ∙ ap record_in here ∙ s
 pub first_timestamp : {T : Type 0} (record_in : T → Record) (items : List T) (item : T) (r : Record) → 0 < length items → item ≡ get_or items 0 item → r ≡ record_in item → r.timestamp ≡ base_timestamp (map record_in items)
 first_timestamp record_in [] item r some here is = absurd (omega arith)
 first_timestamp record_in (x ∷ items) item r some here is = ap (λ (y : Record). y.timestamp) (is ∙ ap record_in here)
+
+-- with more records behind them, the first is the same
+pub base_timestamp-append : (rs more : List Record) → 0 < length rs → base_timestamp (rs ++ more) ≡ base_timestamp rs
+base_timestamp-append [] more some = absurd (omega arith)
+base_timestamp-append (r ∷ rs) more some = refl
 
 pub latest_timestamp : (rs : List Record) → max (base_timestamp rs) (max_timestamp rs) ≡ max_timestamp rs
 latest_timestamp [] = omega arith

@@ -154,3 +154,21 @@ pub ruleset size_laws = (length-header, length-headers, fields_size-parts, lengt
 pub many_records : (base k : ℕ) (rs : List Record) → length rs ≤ bytes_from base k rs
 many_records base k [] = omega arith
 many_records base k (r ∷ rs) = omega (arith, bytes_from-cons base k r rs, some_bytes (relative base k r), many_records base (suc k) rs)
+
+-- ---- one record more
+
+bytes_from-last : (base k n : ℕ) (rs : List Record) (r : Record) → k + length rs ≡ n → bytes_from base k (rs ++ r ∷ []) ≡ bytes_from base k rs + length (relative_record.spell (relative base n r))
+bytes_from-last base k n [] r e =
+    let at : k ≡ n = omega (arith, e) in
+    omega (arith, bytes_from-cons base k r [], ap (λ (m : ℕ). length (relative_record.spell (relative base m r))) at)
+bytes_from-last base k n (x ∷ rs) r e =
+    let at : suc k + length rs ≡ n = omega (arith, e) in
+    omega (arith, bytes_from-last base (suc k) n rs r at, bytes_from-cons base k x (rs ++ r ∷ []), bytes_from-cons base k x rs)
+
+pub size_of_batch-last : (rs : List Record) (r : Record) → size_of_batch (rs ++ r ∷ []) ≡ size_of_batch rs + length (relative_record.spell (relative (base_timestamp (rs ++ r ∷ [])) (length rs) r))
+size_of_batch-last [] r =
+    let at : 0 + length {A = Record} [] ≡ length {A = Record} [] = omega arith in
+    omega (arith, size_of_batch-is (r ∷ []), size_of_batch-is [], bytes_from-last r.timestamp 0 (length {A = Record} []) [] r at)
+size_of_batch-last (x ∷ rs) r =
+    let at : 0 + length (x ∷ rs) ≡ length (x ∷ rs) = omega arith in
+    omega (arith, size_of_batch-is (x ∷ rs ++ r ∷ []), size_of_batch-is (x ∷ rs), bytes_from-last x.timestamp 0 (length (x ∷ rs)) (x ∷ rs) r at)

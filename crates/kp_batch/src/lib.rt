@@ -17,7 +17,7 @@ pub use batch::{Batch, BatchHead};
 pub use fault::BatchFault;
 pub use reading::read_batch;
 pub use record::{Header, Record, Timestamp};
-pub use size::{SIZE_LIMIT, batch_size, charge, record_size};
+pub use size::{SIZE_LIMIT, batch_size, charge, record_size, size_with};
 pub use writing::write_batch;
 
 #[cfg(test)]

@@ -1,13 +1,13 @@
 //! The sizes of records and of batches, in bytes.
 
-ghost use Rattle.std.specs.Prelude.{◌≡◌, ℕ, ◌+◌, ◌*◌, ◌≤◌, List, [], ◌∷◌, length, map, pos, ℤ};
+ghost use Rattle.std.specs.Prelude.{◌≡◌, ℕ, ◌+◌, ◌*◌, ◌≤◌, List, [], ◌∷◌, ◌++◌, length, map, pos, ℤ};
 ghost use Rattle.std.specs.List.{flat_map};
 ghost use Rattle.kp_wire.specs.Varint.{varint};
 ghost use Rattle.kp_batch.specs.Record.{bytes_or_null, header, headers, fields_size, relative_record};
-ghost use Rattle.kp_batch.specs.Spelling.{relative_by, measured, up_to_limit, size_of_batch};
+ghost use Rattle.kp_batch.specs.Spelling.{relative_by, base_timestamp, measured, up_to_limit, size_of_batch};
 
 use crate::as_record::AsRecord;
-use crate::record::{Header, Record};
+use crate::record::{Header, Record, Timestamp};
 use kp_wire::{Blob, varint_len, varlong_len};
 
 /// The greatest size of a batch, and so of a record: the greatest int32.
@@ -156,6 +156,29 @@ pub fn batch_size<T: AsRecord>(records: &[T]) -> u64
     ensures fits { result ≤ SIZE_LIMIT → size_of_batch (map T.body records.now) ≤ SIZE_LIMIT }
 {
     measure(records)
+}
+
+/// The size of the batch of these records and one more, where theirs is `size`; u64::MAX where it is above the limit.
+#[inline]
+pub fn size_with<T: AsRecord>(size: u64, records: &[T], body: &Record) -> u64
+    requires is_theirs { size ≡ size_of_batch (map T.body records.now) }
+    requires fits { size ≤ SIZE_LIMIT }
+    ensures { result ≡ measured (size_of_batch (map T.body records.now ++ body.now ∷ [])) }
+{
+    let timestamp_delta = body.timestamp.millis() - base_with(records, body).millis();
+    let offset_delta = records.len() as i32;
+    add_sizes(size, record_size(body, timestamp_delta, offset_delta))
+}
+
+/// The base timestamp of the batch of these records and one more.
+#[inline]
+fn base_with<T: AsRecord>(records: &[T], body: &Record) -> Timestamp
+    ensures { result ≡ base_timestamp (map T.body records.now ++ body.now ∷ []) }
+{
+    match records {
+        [] => body.timestamp,
+        [first, ..] => first.as_record().timestamp,
+    }
 }
 
 /// The length of the bytes, 0 where there are none.

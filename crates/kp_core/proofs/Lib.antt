@@ -3,3 +3,5 @@ pub mod Scenes
 pub mod ReplyFacts
 pub mod RequestFacts
 pub mod DueFacts
+pub mod MessageFacts
+pub mod OutcomeLemmas

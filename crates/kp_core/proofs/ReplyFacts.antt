@@ -64,7 +64,7 @@ another_topic_is_there = refl
 
 pub a_second_topic_is_there :
     IsRefused one_sent (reply 2 (
-        topic (codes "t") (part 0 (pos 0) (pos 5) ∷ []) ∷ topic (codes "u") [] ∷ []))
+    topic (codes "t") (part 0 (pos 0) (pos 5) ∷ []) ∷ topic (codes "u") [] ∷ []))
 unfolding evaluated
 a_second_topic_is_there = refl
 

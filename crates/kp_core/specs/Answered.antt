@@ -1,6 +1,6 @@
 -- What a broker's answer to a partition's batch does to the partition (error codes of the protocol
--- guide; which of them may be tried again is this producer's own choice among those that Kafka
--- calls retriable).
+-- guide; which of them are tried again is this producer's own choice: codes that Kafka calls
+-- retriable, and 45, which comes where a batch has overtaken another).
 use Rattle.std.specs.Prelude.{ℕ, ℤ, pos, Bool, List, [], ◌∷◌, ◌++◌, map, filter, Option, Some, None, ◌==◌, ◌&&◌, ◌||◌, not, if◌then◌else◌}
 use Rattle.std.specs.List.{list_any}
 use Rattle.std.specs.Ordering.{int_eq}
@@ -39,10 +39,11 @@ without_attempt k t = record t { open_batches = filter (λ o. not (awaits k o)) 
 abbrev pub is_first_under_id : Partition → Batch → Bool
 is_first_under_id t b = b.sequence == 0 && (b.id == present_id t)
 
--- It stands in the log: its items are told so, and it is acknowledged.
+-- once this batch is acknowledged, whether the first under the present id is
 abbrev pub is_acknowledged_by : Batch → Partition → Bool
 is_acknowledged_by b t = t.acknowledged || is_first_under_id t b
 
+-- It stands in the log: its items are told so, and it is acknowledged.
 abbrev pub acknowledged : ℕ → Partition → Open → List Told → Effect
 acknowledged k t o told = record {
   after = record (without_attempt k t) { acknowledged = is_acknowledged_by o.batch t };
@@ -67,14 +68,14 @@ rejected k t o code =
 
 -- ---- the partition's answer within the reply to request k, heard at this moment
 
-abbrev pub judged : ℕ → ℕ → Partition → Open → PartitionProduceResponse → Verdict → Effect
-judged now k t o answer Stored = acknowledged k t o (told_offsets answer.base_offset o.batch.items)
-judged now k t o answer Duplicate = acknowledged k t o (told_all DeliveredNoOffset o.batch.items)
-judged now k t o answer Retry = to_retry now k t
-judged now k t o answer Reject = rejected k t o answer.error_code
+abbrev pub settled : ℕ → ℕ → Partition → Open → PartitionProduceResponse → Verdict → Effect
+settled now k t o answer Stored = acknowledged k t o (told_offsets answer.base_offset o.batch.items)
+settled now k t o answer Duplicate = acknowledged k t o (told_all DeliveredNoOffset o.batch.items)
+settled now k t o answer Retry = to_retry now k t
+settled now k t o answer Reject = rejected k t o answer.error_code
 
 abbrev pub answered_if : ℕ → ℕ → Partition → PartitionProduceResponse → Option Open → Effect
-answered_if now k t answer (Some o) = judged now k t o answer (verdict_of answer.error_code)
+answered_if now k t answer (Some o) = settled now k t o answer (verdict_of answer.error_code)
 answered_if now k t answer None = record { after = t; told = [] }
 
 -- An answer to an attempt that a fence ended does nothing.

@@ -1,6 +1,8 @@
 -- Appending an item.
-use Rattle.std.specs.Prelude.{◌+◌, Bool, true, [], ◌∷◌, nat_lt, if◌then◌else◌}
+use Rattle.std.specs.Prelude.{Result, Ok, Err, ◌+◌, Bool, true, [], ◌∷◌, nat_lt, if◌then◌else◌}
 use Rattle.kp_accum.specs.declared.config.Config.{Config}
+use Rattle.kp_accum.specs.declared.fault.AppendFault.{AppendFault}
+use Rattle.kp_accum.specs.declared.fault.AppendFault.TheVariants.{BufferFull}
 use Rattle.kp_accum.specs.declared.item.Item.{Item}
 use Rattle.kp_accum.specs.Queue.{charge_of, with_item}
 use Rattle.kp_core.specs.declared.outcome.Outcome.TheVariants.{Unsent}
@@ -10,13 +12,8 @@ use Rattle.kp_core.specs.Records.{Partition, Core, Step}
 use Rattle.kp_core.specs.Partitions.{used, partition_at, changed_at}
 use Rattle.kp_core.specs.Telling.{told_all, with_reports}
 
--- whether the item was taken in
-pub data Appended : Type 0 where
-  TakenIn : Appended
-  BufferFull : Appended
-
 abbrev pub Appends : Type 0
-Appends = Step Appended
+Appends = Step (Result (Unit {0}) AppendFault)
 
 -- with the item, more memory would be used than there may be
 unfoldable pub would_exhaust : Item → Core → Bool
@@ -31,18 +28,18 @@ in_queue i s = record s {
 }
 
 abbrev pub queued : Item → Core → Appends
-queued i s = record { after = in_queue i s; told = []; answer = TakenIn }
+queued i s = record { after = in_queue i s; told = []; answer = Ok tt }
 
 -- It is told at once, and takes no memory.
 abbrev pub turned_away : Reason → Item → Core → Appends
 turned_away why i s =
     let told = told_all (Unsent why) (i ∷ []) in
     let after = record s { reports = with_reports told s.reports } in
-    record { after = after; told = told; answer = TakenIn }
+    record { after = after; told = told; answer = Ok tt }
 
 -- The item is the caller's still, and every front batch is ready from now on.
 abbrev pub refused : Core → Appends
-refused s = record { after = record s { exhausted = true }; told = []; answer = BufferFull }
+refused s = record { after = record s { exhausted = true }; told = []; answer = Err BufferFull }
 
 unfoldable pub appended : Item → Core → Appends
 appended i s =

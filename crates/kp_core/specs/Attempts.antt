@@ -33,7 +33,7 @@ awaiting k t = find (awaits k) t.open_batches
 abbrev pub lowest_waiting : Partition → Option Open
 lowest_waiting t = find is_waiting t.open_batches
 
--- ---- dropping
+-- ---- an attempt is dropped
 
 abbrev pub dropped_attempt : ℕ → Attempt → Attempt
 dropped_attempt now (InFlight c) = Waiting now
@@ -60,13 +60,13 @@ in_flight_count s = length s.requests + (if is_some s.id_request then 1 else 0)
 unfoldable pub has_window : Core → Bool
 has_window s = nat_lt (in_flight_count s) s.config.max_in_flight_requests_per_connection
 
--- ---- dropping all of them
+-- ---- all attempts are dropped
 
 abbrev pub since_dropped : ℕ → Option IdRequest → Option ℕ → Option ℕ
 since_dropped now None waits = waits
 since_dropped now (Some r) waits = Some now
 
--- All attempts are dropped: nothing is in flight, and what was waits from this moment on.
+-- All attempts are dropped: nothing is in flight, and what was in flight waits from this moment on.
 unfoldable pub dropped : ℕ → Core → Core
 dropped now s = record s {
   partitions = map (without_attempts now) s.partitions;

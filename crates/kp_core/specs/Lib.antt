@@ -14,5 +14,7 @@ pub mod Mismatch
 pub mod Awaited
 pub mod Replies
 pub mod Appending
+pub mod Causes
+pub mod OutcomeRule
 pub mod Due
 pub mod Opening

@@ -1,5 +1,6 @@
--- When a partition may send, and which batch (KIP-98: at most five batches of a partition are on
--- their way; here the second goes out only once the first was acknowledged).
+-- Which batch a partition may send (KIP-98; a broker knows a producer's last five batches, so at
+-- most five may be on their way; that the second waits for the first to be acknowledged is this
+-- producer's own rule).
 use Rattle.std.specs.Prelude.{ℕ, ◌+◌, ◌-◌, Bool, true, false, List, [], ◌∷◌, length, Option, Some, None, ◌==◌, ◌&&◌, ◌||◌, not, nat_le, nat_lt, if◌then◌else◌}
 use Rattle.kp_accum.specs.declared.config.Config.{Config}
 use Rattle.kp_accum.specs.declared.flags.Flags.{Flags}
@@ -63,6 +64,8 @@ sends_first c flags now t (Some lowest) =
     if is_rested c now lowest.attempt then Some lowest.batch else None
 sends_first c flags now t None = sends_new c flags now t t.queue
 
+-- The batch that the partition may send, while the core has not ended and one request more may be
+-- in flight.
 unfoldable pub sends : Config → Flags → ℕ → Partition → Option Batch
 sends c flags now t = if t.fenced then None else sends_first c flags now t (lowest_waiting t)
 

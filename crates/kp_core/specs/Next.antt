@@ -56,12 +56,12 @@ next_batches now s = fitting s.config.max_request_size (filter_map (sending_of s
 
 -- ---- the id
 
--- no id request is in flight, and the last one that was refused or dropped has waited for
--- retry.backoff.ms
+-- the last id request that was refused or dropped was so retry.backoff.ms ago
 abbrev pub has_rested : Config → ℕ → Option ℕ → Bool
 has_rested c now None = true
 has_rested c now (Some since) = is_over since c.retry_backoff_ms now
 
+-- that is so, and none is in flight
 abbrev pub may_ask : ℕ → Core → Bool
 may_ask now s = is_none s.id_request && has_rested s.config now s.id_waits
 

@@ -1,5 +1,5 @@
 -- Partitions and their items, and the memory that is used.
-use Rattle.std.specs.Prelude.{ℕ, Bool, false, true, List, [], ◌∷◌, ◌++◌, map, sum, flat_map, unwrap_or, None, slice_index_or, ◌==◌, if◌then◌else◌}
+use Rattle.std.specs.Prelude.{ℕ, Bool, false, true, List, [], ◌∷◌, ◌++◌, map, sum_by, flat_map, unwrap_or, None, slice_index_or, ◌==◌, if◌then◌else◌}
 use Rattle.std.specs.List.{enumerate_from, last_or, list_any}
 use Rattle.kp_accum.specs.declared.item.Item.{Item}
 use Rattle.kp_accum.specs.Queue.{Pending, charge_of}
@@ -53,4 +53,4 @@ changed_at ps change ts =
 
 -- The memory that is used: the charges of the items that are not told.
 unfoldable pub used : Core → ℕ
-used s = sum (map charge_of (flat_map untold s.partitions))
+used s = sum_by charge_of (flat_map untold s.partitions)

@@ -1,9 +1,6 @@
 -- A reply: which request it names, and what it does.
-use Rattle.std.specs.Prelude.{ℕ, ℤ, pos, true, false, List, [], ◌∷◌, ◌++◌, length, Option, Some, None, Result, Ok, Err, find, nat_abs, if◌then◌else◌}
-use Rattle.std.specs.Ordering.{int_eq}
+use Rattle.std.specs.Prelude.{ℕ, ℤ, true, false, List, [], ◌∷◌, ◌++◌, length, Option, Some, None, Result, Ok, Err, nat_abs, if◌then◌else◌}
 use Rattle.kp_wire.specs.Fields.{int32}
-use Rattle.kp_frames.specs.declared.api.Api.{Api}
-use Rattle.kp_frames.specs.declared.api.Api.TheVariants as api
 use Rattle.kp_frames.specs.declared.fault.FrameFault.{FrameFault}
 use Rattle.kp_frames.specs.declared.fault.FrameFault.TheVariants.{Short, Mismatch}
 use Rattle.kp_frames.specs.declared.producer_id.InitProducerIdResponse.{InitProducerIdResponse}

@@ -5,6 +5,7 @@
 mod attempt;
 mod audit;
 mod fault;
+pub mod laws;
 mod names;
 mod outcome;
 mod ticked;

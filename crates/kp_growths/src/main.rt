@@ -4,6 +4,7 @@
 #![tactic(auto)]
 
 mod frames;
+mod waiting;
 
 use kp_batch::{
     Batch, BatchFault, BatchHead, Header, Record, SIZE_LIMIT, Timestamp, batch_size, charge,
@@ -277,6 +278,9 @@ fn outcome_of<R: Files + AllocGlobal>(rt: &R) -> Outcome {
     if bytes.len() as u64 != batch_size(&records) {
         return Outcome::Wrong;
     }
+    let Ok(waiting) = record_of(alloc) else {
+        return Outcome::Refused;
+    };
     let outcomes = [
         copied(alloc, record),
         wrote,
@@ -285,6 +289,7 @@ fn outcome_of<R: Files + AllocGlobal>(rt: &R) -> Outcome {
         frames::request_with(alloc, &bytes),
         frames::response(alloc),
         frames::stream(alloc),
+        waiting::appended(alloc, waiting),
         pack(rt),
     ];
     if outcomes.contains(&Outcome::Wrong) {

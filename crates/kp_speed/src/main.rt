@@ -3,13 +3,18 @@
 //! times, `write N` writes a batch of 149 records of 100 bytes, `read N` reads it, `drop N` reads it and drops what was
 //! read, `request N` writes a Produce request with 16 KiB for each of four partitions, `response N` reads a response
 //! for four partitions, `byte N` cuts a stream of a hundred frames of 100 bytes that comes byte by byte, `whole N` cuts
-//! it where it comes whole, and `waiting N` takes N frames that wait, between each two of which a byte comes.
+//! it where it comes whole, and `waiting N` takes N frames that wait, between each two of which a byte comes. `make N`
+//! makes and keeps N items of 100 bytes, and `queue N` appends as many to a partition, marks them, takes them out with
+//! their batches and releases their memory; `expire N` has them expire. `makes N`, `queues N` and `expires N` do so in 64
+//! lists and partitions.
 #![tactic(auto)]
 
 mod messages;
+mod queueing;
 mod work;
 
 use messages::{cuts_bytes, cuts_whole, requests, responses, takes_waiting};
+use queueing::{Way, makes, queues};
 use std::alloc::{AllocError, Global};
 use std::io;
 use work::{checksums, reads, reads_and_drops, writes};
@@ -32,6 +37,12 @@ fn answer(alloc: Global, line: &str) -> Result<Option<u64>, AllocError> {
         "byte" => cuts_bytes(alloc, times).map(Some),
         "whole" => cuts_whole(alloc, times).map(Some),
         "waiting" => takes_waiting(alloc, times).map(Some),
+        "make" => makes(alloc, 1, times).map(Some),
+        "makes" => makes(alloc, 64, times).map(Some),
+        "queue" => queues(alloc, 1, times, Way::Taken).map(Some),
+        "queues" => queues(alloc, 64, times, Way::Taken).map(Some),
+        "expire" => queues(alloc, 1, times, Way::Expired).map(Some),
+        "expires" => queues(alloc, 64, times, Way::Expired).map(Some),
         _ => Ok(None),
     }
 }

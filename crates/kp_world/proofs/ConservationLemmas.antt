@@ -18,7 +18,7 @@ use Rattle.kp_core.specs.declared.verdict.Verdict.{Verdict}
 use Rattle.kp_core.specs.declared.verdict.Verdict.TheVariants.{Stored, Duplicate, Retry, Reject}
 use Rattle.kp_core.specs.declared.attempt.Attempt.TheVariants.{InFlight, Waiting}
 use Rattle.kp_core.specs.declared.attempt.Attempt.{Attempt}
-use Rattle.kp_core.specs.Answered.{without_attempt, acknowledged, to_retry, waiting_since, judged, answered_if, answered, verdict_of}
+use Rattle.kp_core.specs.Answered.{without_attempt, acknowledged, to_retry, waiting_since, settled, answered_if, answered, verdict_of}
 use Rattle.kp_core.specs.Attempts.{is_attempt_in, awaits, awaiting, dropped_attempt, dropped_batch, without_attempts}
 use Rattle.kp_core.specs.Fence.{told_given_up, fenced, given_up}
 use Rattle.kp_core.specs.Flush.{marked_open, with_marks}
@@ -317,7 +317,7 @@ pub tells_answered : (now k : ℕ) (t : Partition) (a : PartitionProduceResponse
 unfolding answered
 tells_answered now k t a one = at_option (awaiting k t) refl
   where
-    at_verdict : (o : Open) → awaiting k t ≡ Some o → (v : Verdict) → Tells t (judged now k t o a v).told (judged now k t o a v).after
+    at_verdict : (o : Open) → awaiting k t ≡ Some o → (v : Verdict) → Tells t (settled now k t o a v).told (settled now k t o a v).after
     at_verdict o at Stored =
         let told = told_offsets a.base_offset o.batch.items in
         let offset : ℕ → Outcome = λ n. Delivered (a.base_offset +ℤ pos n) in

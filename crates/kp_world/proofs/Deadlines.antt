@@ -9,8 +9,8 @@ use Rattle.kp_world.proofs.Schedules.{told, feed}
 -- Two partitions' batches are in one request. At their deadline both partitions are fenced.
 pub what_was_sent_is_unknown :
     told default_config 2 1 (
-        Accept 0 0 (97 ∷ []) ∷ Accept 0 1 (98 ∷ []) ∷ Take 0 ∷ Take 0 ∷ Send ∷ Now 119999
-        ∷ Tick ∷ Now 120000 ∷ Tick ∷ Accept 0 0 (99 ∷ []) ∷ Take 0 ∷ [])
+    Accept 0 0 (97 ∷ []) ∷ Accept 0 1 (98 ∷ []) ∷ Take 0 ∷ Take 0 ∷ Send ∷ Now 119999
+    ∷ Tick ∷ Now 120000 ∷ Tick ∷ Accept 0 0 (99 ∷ []) ∷ Take 0 ∷ [])
     ≡ codes "sent 0 0:0+1 1:0+1\nreconnect\nreport 0 0 0 unknown\nreport 0 1 0 unknown\n"
     ++ codes "report 0 0 1 fenced\naudit 0 0 0 1\naudit 1 0 0 1\n"
 unfolding evaluated
@@ -18,7 +18,7 @@ what_was_sent_is_unknown = refl
 
 pub what_was_queued_expires :
     told default_config 1 1 (
-        feed 97 ++ Now 119999 ∷ Tick ∷ Now 120000 ∷ Tick ∷ [])
+    feed 97 ++ Now 119999 ∷ Tick ∷ Now 120000 ∷ Tick ∷ [])
     ≡ codes "report 0 0 0 expired\n"
 unfolding evaluated
 what_was_queued_expires = refl

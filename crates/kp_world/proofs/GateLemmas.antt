@@ -6,7 +6,8 @@ use Rattle.kp_log.specs.History.{History, with_others}
 use Rattle.kp_accum.specs.declared.item.Item.{Item}
 use Rattle.kp_core.specs.declared.fault.CoreFault.{CoreFault}
 use Rattle.kp_core.specs.declared.fault.CoreFault.TheVariants as fault
-use Rattle.kp_core.specs.Appending.{Appended, TakenIn, BufferFull, appended}
+use Rattle.kp_accum.specs.declared.fault.AppendFault.{AppendFault}
+use Rattle.kp_core.specs.Appending.{appended}
 use Rattle.kp_core.specs.Flush.{flushed}
 use Rattle.kp_core.specs.Next.{Sending, Demand, Produce, InitProducerId}
 use Rattle.kp_core.specs.Records.{Core, Told}
@@ -66,9 +67,9 @@ unfolding noted
 follows_taking s None w = record { count = refl; logs = refl; shut = λ h. h; accepted = λ h. refl }
 follows_taking s (Some i) w = at_answer (appended i w.core).answer
   where
-    at_answer : (x : Appended) → Follows w (taking_of s (appended i w.core).after (appended i w.core).told x w)
-    at_answer TakenIn = record { count = refl; logs = refl; shut = λ h. h; accepted = λ h. refl }
-    at_answer BufferFull = record { count = refl; logs = refl; shut = λ h. h; accepted = λ h. refl }
+    at_answer : (x : Result (Unit {0}) AppendFault) → Follows w (taking_of s (appended i w.core).after (appended i w.core).told x w)
+    at_answer (Ok done) = record { count = refl; logs = refl; shut = λ h. h; accepted = λ h. refl }
+    at_answer (Err refusal) = record { count = refl; logs = refl; shut = λ h. h; accepted = λ h. refl }
 
 follows_sending : (w : World) (core : Core) (answer : Result (Option Outgoing) CoreFault) → Follows w (sending w core answer)
 unfolding noted

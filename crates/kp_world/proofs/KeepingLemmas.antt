@@ -15,7 +15,7 @@ use Rattle.kp_core.specs.declared.outcome.Reason.{Reason}
 use Rattle.kp_core.specs.declared.outcome.Reason.TheVariants.{Fenced, Ended}
 use Rattle.kp_core.specs.declared.verdict.Verdict.{Verdict}
 use Rattle.kp_core.specs.declared.verdict.Verdict.TheVariants.{Stored, Duplicate, Retry, Reject}
-use Rattle.kp_core.specs.Answered.{without_attempt, waiting_since, judged, answered_if, answered, verdict_of}
+use Rattle.kp_core.specs.Answered.{without_attempt, waiting_since, settled, answered_if, answered, verdict_of}
 use Rattle.kp_core.specs.Appending.{turned_away, refused, queued, with_queued, would_exhaust, appended}
 use Rattle.kp_core.specs.Attempts.{awaits, awaiting, dropped_batch, without_attempts, dropped}
 use Rattle.kp_core.specs.Fence.{fenced, given_up, end_of, ended}
@@ -54,12 +54,14 @@ keeps_more t u v k l = record {
   queue = λ h. l.queue (k.queue h);
 }
 
-opens_map : (f : Open → Open) → ((o : Open) → (f o).batch ≡ o.batch) → (handed : List Batch) (os : List Open) → OpenIn handed os → OpenIn handed (map f os)
+opens_map : (f : Open → Open) → ((o : Open) → (f o).batch ≡ o.batch)
+    → (handed : List Batch) (os : List Open) → OpenIn handed os → OpenIn handed (map f os)
 opens_map f same handed [] h = tt
 opens_map f same handed (o ∷ os) h =
     (subst (λ b. In b handed) (sym (same o)) h.0, opens_map f same handed os h.1)
 
-opens_filter : (p : Open → Bool) (handed : List Batch) (os : List Open) → OpenIn handed os → OpenIn handed (filter p os)
+opens_filter : (p : Open → Bool) (handed : List Batch) (os : List Open) → OpenIn handed os
+    → OpenIn handed (filter p os)
 opens_filter p handed [] h = tt
 opens_filter p handed (o ∷ os) h = at_test (p o) (opens_filter p handed os h.1)
   where
@@ -86,12 +88,14 @@ unfolding given_up
 keeps_given_up t =
     record { number = refl; sequence = refl; ids = refl; opens = λ handed h. tt; queue = λ h. tt }
 
-queue_behind_late : (c : Config) (now : ℕ) (q : List Pending) → AllByRecursion HasItems q → AllByRecursion HasItems (behind_late c now q)
+queue_behind_late : (c : Config) (now : ℕ) (q : List Pending) → AllByRecursion HasItems q
+    → AllByRecursion HasItems (behind_late c now q)
 unfolding behind_late
 queue_behind_late c now [] h = tt
 queue_behind_late c now (b ∷ q) h = at_test (is_late c now b) (queue_behind_late c now q h.1)
   where
-    at_test : (late : Bool) → AllByRecursion HasItems (behind_late c now q) → AllByRecursion HasItems (if late then behind_late c now q else b ∷ q)
+    at_test : (late : Bool) → AllByRecursion HasItems (behind_late c now q)
+        → AllByRecursion HasItems (if late then behind_late c now q else b ∷ q)
     at_test true rest = rest
     at_test false rest = h
 
@@ -128,17 +132,31 @@ keeps_without k t = record {
   queue = λ h. h;
 }
 
-keeps_judged : (now k : ℕ) (t : Partition) (o : Open) (a : PartitionProduceResponse) (v : Verdict) → Keeps t (judged now k t o a v).after
-keeps_judged now k t o a Stored = record { number = refl; sequence = refl; ids = refl; opens = (keeps_without k t).opens; queue = λ h. h }
-keeps_judged now k t o a Duplicate = record { number = refl; sequence = refl; ids = refl; opens = (keeps_without k t).opens; queue = λ h. h }
-keeps_judged now k t o a Retry = record {
+keeps_settled : (now k : ℕ) (t : Partition) (o : Open) (a : PartitionProduceResponse) (v : Verdict)
+    → Keeps t (settled now k t o a v).after
+keeps_settled now k t o a Stored = record {
+  number = refl;
+  sequence = refl;
+  ids = refl;
+  opens = (keeps_without k t).opens;
+  queue = λ h. h;
+}
+keeps_settled now k t o a Duplicate = record {
+  number = refl;
+  sequence = refl;
+  ids = refl;
+  opens = (keeps_without k t).opens;
+  queue = λ h. h;
+}
+keeps_settled now k t o a Retry = record {
   number = refl;
   sequence = refl;
   ids = refl;
   opens = λ handed h. opens_map (waiting_since now k) (same_waiting now k) handed t.open_batches h;
   queue = λ h. h;
 }
-keeps_judged now k t o a Reject = keeps_more t (without_attempt k t) (fenced (without_attempt k t)).after (keeps_without k t) (keeps_fenced (without_attempt k t))
+keeps_settled now k t o a Reject = keeps_more t (without_attempt k t)
+    (fenced (without_attempt k t)).after (keeps_without k t) (keeps_fenced (without_attempt k t))
 
 pub keeps_answered : (now k : ℕ) (t : Partition) (a : PartitionProduceResponse) → Keeps t (answered now k t a).after
 unfolding answered
@@ -146,7 +164,7 @@ keeps_answered now k t a = at_option (awaiting k t)
   where
     at_option : (o : Option Open) → Keeps t (answered_if now k t a o).after
     at_option None = keeps_same t
-    at_option (Some o) = keeps_judged now k t o a (verdict_of a.error_code)
+    at_option (Some o) = keeps_settled now k t o a (verdict_of a.error_code)
 
 queue_marked : (q : List Pending) → AllByRecursion HasItems q → AllByRecursion HasItems (map marked_by_flush q)
 queue_marked [] h = tt
@@ -161,7 +179,8 @@ keeps_marked t = record {
   queue = λ h. queue_marked t.queue h;
 }
 
-queue_with_item : (c : Config) (i : Item) (q : List Pending) → AllByRecursion HasItems q → AllByRecursion HasItems (with_item c i q)
+queue_with_item : (c : Config) (i : Item) (q : List Pending) → AllByRecursion HasItems q
+    → AllByRecursion HasItems (with_item c i q)
 unfolding with_item
 queue_with_item c i [] h = (omega arith, tt)
 queue_with_item c i (b ∷ []) h = at_test (joins c i b)
@@ -183,7 +202,8 @@ keeps_queued c i t = record {
 -- ---- all partitions
 
 -- what a function of places makes of a list, at a place
-pub by_place : {X Y : Type 0} (g : (ℕ × X) → Y) (xs : List X) (k p : ℕ) (d : Y) (e : X) → p < length xs → get_or (map g (enumerate_from k xs)) p d ≡ g (k + p, get_or xs p e)
+pub by_place : {X Y : Type 0} (g : (ℕ × X) → Y) (xs : List X) (k p : ℕ) (d : Y) (e : X)
+    → p < length xs → get_or (map g (enumerate_from k xs)) p d ≡ g (k + p, get_or xs p e)
 by_place g [] k p d e h = absurd (omega arith)
 by_place g (x ∷ xs) k zero d e h =
     let same : k ≡ k + 0 = omega arith in ap (λ (n : ℕ). g (n, x)) same
@@ -192,11 +212,13 @@ by_place g (x ∷ xs) k (suc p) d e h =
     let same : k + 1 + p ≡ k + suc p = omega arith in
     by_place g xs (k + 1) p d e within ∙ ap (λ (n : ℕ). g (n, get_or xs p e)) same
 
-pub length-enumerated : {X Y : Type 0} (g : (ℕ × X) → Y) (xs : List X) (k : ℕ) → length (map g (enumerate_from k xs)) ≡ length xs
+pub length-enumerated : {X Y : Type 0} (g : (ℕ × X) → Y) (xs : List X) (k : ℕ)
+    → length (map g (enumerate_from k xs)) ≡ length xs
 length-enumerated g [] k = refl
 length-enumerated g (x ∷ xs) k = ap suc (length-enumerated g xs (k + 1))
 
-pub length-changed_at : (ps : List ℕ) (f : ℕ → Partition → Partition) (ts : List Partition) → length (changed_at ps f ts) ≡ length ts
+pub length-changed_at : (ps : List ℕ) (f : ℕ → Partition → Partition) (ts : List Partition)
+    → length (changed_at ps f ts) ≡ length ts
 unfolding changed_at
 length-changed_at ps f ts = length-enumerated _ ts 0
 
@@ -205,7 +227,8 @@ pub at-changed_at : (ps : List ℕ) (f : ℕ → Partition → Partition) (ts : 
 unfolding changed_at
 at-changed_at ps f ts p h =
     let same : 0 + p ≡ p = omega arith in
-    by_place (λ (x : ℕ × Partition). if is_in x.0 ps then f x.0 x.1 else x.1) ts 0 p (new_partition 0) (new_partition 0) h
+    by_place (λ (x : ℕ × Partition). if is_in x.0 ps then f x.0 x.1 else x.1) ts 0 p
+    (new_partition 0) (new_partition 0) h
     ∙ ap (λ (n : ℕ). if is_in n ps then f n (partition_at p ts) else partition_at p ts) same
 
 pub keeps_changed : (ps : List ℕ) (f : ℕ → Partition → Partition) → ((p : ℕ) (t : Partition) → Keeps t (f p t))
@@ -226,26 +249,39 @@ pub record CoreKeeps (s s' : Core) : Type 0 where
   pub asked : (q : IdRequest) → s'.id_request ≡ Some q → s.id_request ≡ Some q
 
 pub core_same : (s : Core) → CoreKeeps s s
-core_same s = record { count = refl; each = λ p h. keeps_same (partition_at p s.partitions); correlation = refl; asked = λ q e. e }
-
-pub core_more : (s u v : Core) → CoreKeeps s u → CoreKeeps u v → CoreKeeps s v
-core_more s u v k l = record {
-  count = l.count ∙ k.count;
-  each = λ p h. keeps_more (partition_at p s.partitions) (partition_at p u.partitions) (partition_at p v.partitions) (k.each p h) (l.each p (subst (λ (n : ℕ). p < n) (sym k.count) h));
-  correlation = l.correlation ∙ k.correlation;
-  asked = λ q e. k.asked q (l.asked q e);
-}
-
-pub core_at_each : (rule : Partition → Effect) → ((t : Partition) → Keeps t (rule t).after) → (s : Core) → CoreKeeps s (at_each rule s)
-unfolding at_each with_partitions
-core_at_each rule k s = record {
-  count = length-map s.partitions (λ t. (rule t).after);
-  each = λ p h. subst (Keeps (partition_at p s.partitions)) (sym (get_or-map (λ t. (rule t).after) s.partitions p (new_partition 0) (new_partition 0) h)) (k (partition_at p s.partitions));
+core_same s = record {
+  count = refl;
+  each = λ p h. keeps_same
+      (partition_at p s.partitions);
   correlation = refl;
   asked = λ q e. e;
 }
 
-pub core_at_these : (ps : List ℕ) (rule : ℕ → Partition → Effect) → ((p : ℕ) (t : Partition) → Keeps t (rule p t).after) → (s : Core) → CoreKeeps s (at_these ps rule s)
+pub core_more : (s u v : Core) → CoreKeeps s u → CoreKeeps u v → CoreKeeps s v
+core_more s u v k l = record {
+  count = l.count ∙ k.count;
+  each = λ p h. keeps_more (partition_at p s.partitions) (partition_at p u.partitions)
+      (partition_at p v.partitions) (k.each p h)
+      (l.each p (subst (λ (n : ℕ). p < n) (sym k.count) h));
+  correlation = l.correlation ∙ k.correlation;
+  asked = λ q e. k.asked q (l.asked q e);
+}
+
+pub core_at_each : (rule : Partition → Effect) → ((t : Partition) → Keeps t (rule t).after)
+    → (s : Core) → CoreKeeps s (at_each rule s)
+unfolding at_each with_partitions
+core_at_each rule k s = record {
+  count = length-map s.partitions (λ t. (rule t).after);
+  each = λ p h. subst (Keeps (partition_at p s.partitions))
+      (sym (get_or-map (λ t. (rule t).after) s.partitions p (new_partition 0) (new_partition 0) h))
+      (k (partition_at p s.partitions));
+  correlation = refl;
+  asked = λ q e. e;
+}
+
+pub core_at_these : (ps : List ℕ) (rule : ℕ → Partition → Effect)
+    → ((p : ℕ) (t : Partition) → Keeps t (rule p t).after) → (s : Core)
+    → CoreKeeps s (at_these ps rule s)
 unfolding at_these with_partitions
 core_at_these ps rule k s = record {
   count = length-changed_at ps (λ p t. (rule p t).after) s.partitions;
@@ -258,7 +294,9 @@ pub core_dropped : (now : ℕ) (s : Core) → CoreKeeps s (dropped now s)
 unfolding dropped
 core_dropped now s = record {
   count = length-map s.partitions (without_attempts now);
-  each = λ p h. subst (Keeps (partition_at p s.partitions)) (sym (get_or-map (without_attempts now) s.partitions p (new_partition 0) (new_partition 0) h)) (keeps_dropped now (partition_at p s.partitions));
+  each = λ p h. subst (Keeps (partition_at p s.partitions))
+      (sym (get_or-map (without_attempts now) s.partitions p (new_partition 0) (new_partition 0) h))
+      (keeps_dropped now (partition_at p s.partitions));
   correlation = refl;
   asked = λ q e. absurd cc;
 }
@@ -267,8 +305,12 @@ pub core_ticked : (now : ℕ) (s : Core) → CoreKeeps s (ticked now s).after
 unfolding ticked
 core_ticked now s = at_end s.ended
   where
-    at_test : (b : Bool) → CoreKeeps s (if b then ticked_from now true (dropped now s) else ticked_from now false s).after
-    at_test true = core_more s (dropped now s) (at_each (passed (dropped now s).config now) (dropped now s)) (core_dropped now s) (core_at_each (passed (dropped now s).config now) (keeps_passed (dropped now s).config now) (dropped now s))
+    at_test : (b : Bool) → CoreKeeps s
+        (if b then ticked_from now true (dropped now s) else ticked_from now false s).after
+    at_test true = core_more s (dropped now s)
+        (at_each (passed (dropped now s).config now) (dropped now s)) (core_dropped now s)
+        (core_at_each (passed (dropped now s).config now) (keeps_passed (dropped now s).config now)
+        (dropped now s))
     at_test false = core_at_each (passed s.config now) (keeps_passed s.config now) s
 
     at_end : (b : Bool) → CoreKeeps s (if b then not_ticked s else ticked_now now s).after
@@ -276,7 +318,8 @@ core_ticked now s = at_end s.ended
     at_end false = at_test (has_timed_out now s)
 
 abbrev end_step : Core → Bool → Step (Unit {0})
-end_step s b = if b then record { after = s; told = []; answer = tt } else record { after = end_of s; told = told_at_each given_up s; answer = tt }
+end_step s b = if b then record { after = s; told = []; answer = tt } else record
+    { after = end_of s; told = told_at_each given_up s; answer = tt }
 
 pub core_ended : (s : Core) → CoreKeeps s (ended s).after
 unfolding ended
@@ -293,7 +336,9 @@ pub core_flushed : (s : Core) → CoreKeeps s (flushed s)
 unfolding flushed
 core_flushed s = record {
   count = length-map s.partitions with_marks;
-  each = λ p h. subst (Keeps (partition_at p s.partitions)) (sym (get_or-map with_marks s.partitions p (new_partition 0) (new_partition 0) h)) (keeps_marked (partition_at p s.partitions));
+  each = λ p h. subst (Keeps (partition_at p s.partitions))
+      (sym (get_or-map with_marks s.partitions p (new_partition 0) (new_partition 0) h))
+      (keeps_marked (partition_at p s.partitions));
   correlation = refl;
   asked = λ q e. e;
 }
@@ -312,28 +357,51 @@ core_closed s = at_end s.ended
   where
     at_end : (b : Bool) → CoreKeeps s (if b then s else record s { closing = true })
     at_end true = core_same s
-    at_end false = record { count = refl; each = λ p h. keeps_same (partition_at p s.partitions); correlation = refl; asked = λ q e. e }
+    at_end false = record {
+      count = refl;
+      each = λ p h. keeps_same
+          (partition_at p s.partitions);
+      correlation = refl;
+      asked = λ q e. e;
+    }
 
 pub core_appended : (i : Item) (s : Core) → CoreKeeps s (appended i s).after
 unfolding appended
 core_appended i s = at_end s.ended
   where
     turned : (why : Reason) → CoreKeeps s (turned_away why i s).after
-    turned why = record { count = refl; each = λ p h. keeps_same (partition_at p s.partitions); correlation = refl; asked = λ q e. e }
-
-    at_room : (b : Bool) → CoreKeeps s (if b then refused s else queued i s).after
-    at_room true = record { count = refl; each = λ p h. keeps_same (partition_at p s.partitions); correlation = refl; asked = λ q e. e }
-    at_room false = record {
-      count = length-changed_at (i.partition ∷ []) (λ p t. with_queued s.config i t) s.partitions;
-      each = λ p h. keeps_changed (i.partition ∷ []) (λ p t. with_queued s.config i t) (λ p t. keeps_queued s.config i t) s.partitions p h;
+    turned why = record {
+      count = refl;
+      each = λ p h. keeps_same
+          (partition_at p s.partitions);
       correlation = refl;
       asked = λ q e. e;
     }
 
-    at_fence : (b : Bool) → CoreKeeps s (if b then turned_away Fenced i s else if would_exhaust i s then refused s else queued i s).after
+    at_room : (b : Bool) → CoreKeeps s (if b then refused s else queued i s).after
+    at_room true = record {
+      count = refl;
+      each = λ p h. keeps_same
+          (partition_at p s.partitions);
+      correlation = refl;
+      asked = λ q e. e;
+    }
+    at_room false = record {
+      count = length-changed_at (i.partition ∷ []) (λ p t. with_queued s.config i t) s.partitions;
+      each = λ p h. keeps_changed (i.partition ∷ []) (λ p t. with_queued s.config i t)
+          (λ p t. keeps_queued s.config i t) s.partitions p h;
+      correlation = refl;
+      asked = λ q e. e;
+    }
+
+    at_fence : (b : Bool) → CoreKeeps s
+        (if b then turned_away Fenced i s else if would_exhaust i s then refused s else queued i
+        s).after
     at_fence true = turned Fenced
     at_fence false = at_room (would_exhaust i s)
 
-    at_end : (b : Bool) → CoreKeeps s (if b then turned_away Ended i s else if (partition_at i.partition s.partitions).fenced then turned_away Fenced i s else if would_exhaust i s then refused s else queued i s).after
+    at_end : (b : Bool) → CoreKeeps s
+        (if b then turned_away Ended i s else if (partition_at i.partition s.partitions).fenced then
+        turned_away Fenced i s else if would_exhaust i s then refused s else queued i s).after
     at_end true = turned Ended
     at_end false = at_fence (partition_at i.partition s.partitions).fenced

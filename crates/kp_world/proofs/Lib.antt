@@ -34,5 +34,3 @@ pub mod AccountedLemmas
 pub mod GateLemmas
 pub mod ToldLemmas
 pub mod AccountLaws
-pub mod OutcomeLemmas
-pub mod OutcomeLaws

@@ -10,14 +10,14 @@ use Rattle.kp_world.proofs.Schedules.{told, feed}
 -- Eleven batches were stored, and then the first comes again.
 pub an_old_batch_is_not_stored_again :
     told (record default_config { batch_size = 0 }) 1 1 (
-        feed 97 ++ feed 98 ++ feed 99 ++ feed 100 ++ feed 101 ++ feed 102 ++ feed 103
-        ++ feed 104 ++ feed 105 ++ feed 106 ++ feed 107 ++ Send ∷ Deliver 0 Judged ∷ Reply 0
-        ∷ Send ∷ Deliver 1 Judged ∷ Reply 1 ∷ Send ∷ Deliver 2 Judged ∷ Reply 2 ∷ Send
-        ∷ Deliver 3 Judged ∷ Reply 3 ∷ Send ∷ Deliver 4 Judged ∷ Reply 4 ∷ Send
-        ∷ Deliver 5 Judged ∷ Reply 5 ∷ Send ∷ Deliver 6 Judged ∷ Reply 6 ∷ Send
-        ∷ Deliver 7 Judged ∷ Reply 7 ∷ Send ∷ Deliver 8 Judged ∷ Reply 8 ∷ Send
-        ∷ Deliver 9 Judged ∷ Reply 9 ∷ Send ∷ Deliver 10 Judged ∷ Reply 10 ∷ Deliver 0 Judged
-        ∷ Reply 11 ∷ [])
+    feed 97 ++ feed 98 ++ feed 99 ++ feed 100 ++ feed 101 ++ feed 102 ++ feed 103
+    ++ feed 104 ++ feed 105 ++ feed 106 ++ feed 107 ++ Send ∷ Deliver 0 Judged ∷ Reply 0
+    ∷ Send ∷ Deliver 1 Judged ∷ Reply 1 ∷ Send ∷ Deliver 2 Judged ∷ Reply 2 ∷ Send
+    ∷ Deliver 3 Judged ∷ Reply 3 ∷ Send ∷ Deliver 4 Judged ∷ Reply 4 ∷ Send
+    ∷ Deliver 5 Judged ∷ Reply 5 ∷ Send ∷ Deliver 6 Judged ∷ Reply 6 ∷ Send
+    ∷ Deliver 7 Judged ∷ Reply 7 ∷ Send ∷ Deliver 8 Judged ∷ Reply 8 ∷ Send
+    ∷ Deliver 9 Judged ∷ Reply 9 ∷ Send ∷ Deliver 10 Judged ∷ Reply 10 ∷ Deliver 0 Judged
+    ∷ Reply 11 ∷ [])
     ≡ codes "sent 0 0:0+1\nanswer 0 0:0@0\nreport 0 0 0 delivered 0\nsent 1 0:1+1\n"
     ++ codes "answer 1 0:0@1\nreport 0 0 1 delivered 1\nsent 2 0:2+1\nanswer 2 0:0@2\n"
     ++ codes "report 0 0 2 delivered 2\nsent 3 0:3+1\nanswer 3 0:0@3\n"

@@ -1,17 +1,18 @@
 -- A replay is a run: each event of it is a step that a run may take.
-use Rattle.std.proofs.Common.{◌≡◌, ℕ, suc, zero, ◌+◌, ◌<◌, Bool, true, false, List, [], ◌∷◌, length, replicate, ℤ, pos, negsuc, Some, None, refl, sym, ap, ◌∙◌, subst, ⊎_elim, arith}
+use Rattle.std.proofs.Common.{◌≡◌, ℕ, suc, zero, ◌+◌, ◌<◌, Bool, true, false, List, [], ◌∷◌, length, replicate, ℤ, pos, negsuc, Some, None, refl, sym, ◌∙◌, subst, ⊎_elim, arith}
 use Rattle.std.specs.Prelude.{Option, Result, Ok, Err, if◌then◌else◌, ◌&&◌, nat_abs, slice_get}
 use Rattle.std.specs.List.{AllByRecursion}
 use Rattle.std.proofs.lemmas.Bool.{ltb-true}
 use Rattle.std.proofs.lemmas.Bool.Decides.{Decides-int_eq}
 use Rattle.std.proofs.lemmas.List.{get_or-replicate, length-replicate}
 use Rattle.kp_accum.specs.declared.config.Config.{Config}
+use Rattle.kp_accum.specs.declared.fault.AppendFault.{AppendFault}
 use Rattle.kp_accum.specs.declared.item.Item.{Item}
 use Rattle.kp_frames.specs.declared.producer_id.InitProducerIdResponse.{InitProducerIdResponse}
 use Rattle.kp_frames.specs.declared.response.ResponseBody.TheVariants as body
 use Rattle.kp_log.specs.History.{History, empty_history}
 use Rattle.kp_log.proofs.PlaceLemmas.{In, In-nil, In-head, In-tail, In-cons}
-use Rattle.kp_core.specs.Appending.{Appended, TakenIn, BufferFull, appended}
+use Rattle.kp_core.specs.Appending.{appended}
 use Rattle.kp_core.specs.Fence.{ended}
 use Rattle.kp_core.specs.Flush.{flushed}
 use Rattle.kp_core.specs.MaySend.{wants_id}
@@ -77,9 +78,10 @@ unfolding noted
 good_taking s None w g = g
 good_taking s (Some i) w g = at_answer (appended i w.core).answer
   where
-    at_answer : (a : Appended) → IsGood (taking_of s (appended i w.core).after (appended i w.core).told a w)
-    at_answer TakenIn = good_of w (appended i w.core).after g (core_appended i w.core)
-    at_answer BufferFull = good_of w (appended i w.core).after g (core_appended i w.core)
+    at_answer : (a : Result (Unit {0}) AppendFault)
+        → IsGood (taking_of s (appended i w.core).after (appended i w.core).told a w)
+    at_answer (Ok x) = good_of w (appended i w.core).after g (core_appended i w.core)
+    at_answer (Err x) = good_of w (appended i w.core).after g (core_appended i w.core)
 
 -- ---- a reply that gives an id
 
@@ -90,40 +92,66 @@ record GivenId (code id : ℤ) : Type 0 where
   pub code_is : code ≡ pos 0
 
 abbrev answer_of : ℤ → ℤ → InitProducerIdResponse
-answer_of code id = record { throttle_time_ms = pos 0; error_code = code; producer_id = id; producer_epoch = epoch_for code }
+answer_of code id = record {
+  throttle_time_ms = pos 0;
+  error_code = code;
+  producer_id =
+      id;
+  producer_epoch = epoch_for code;
+}
 
 id_at_zero : (id : ℤ) → answers_id (answer_of (pos 0) id) ≡ true → (n : ℕ) × (id ≡ pos n)
 unfolding answers_id
 id_at_zero (pos n) v = (n, refl)
 id_at_zero (negsuc n) v = absurd cc
 
-given_id : (code id : ℤ) → is_given (answer_of code id) ≡ true → answers_id (answer_of code id) ≡ true → GivenId code id
+given_id : (code id : ℤ) → is_given (answer_of code id) ≡ true → answers_id (answer_of code id)
+    ≡ true → GivenId code id
 given_id code id g v =
     let zero_code : code ≡ pos 0 = (Decides-int_eq code (pos 0)).0 g in
-    let at : (n : ℕ) × (id ≡ pos n) = id_at_zero id (subst (λ (c : ℤ). answers_id (answer_of c id) ≡ true) zero_code v) in
+    let at : (n : ℕ) × (id ≡ pos n) = id_at_zero id
+    (subst (λ (c : ℤ). answers_id (answer_of c id) ≡ true) zero_code v) in
     record { number = at.0; id_is = at.1; code_is = zero_code }
 
 -- what a reply's content is, whose body is this answer
-content_given : (c : ReplyContent) (x : InitProducerIdResponse) → body_of_reply c ≡ body.InitProducerId x → is_given x ≡ true → answers_id x ≡ true → c ≡ given (nat_abs x.producer_id)
+content_given : (c : ReplyContent) (x : InitProducerIdResponse) → body_of_reply c
+    ≡ body.InitProducerId x → is_given x ≡ true → answers_id x ≡ true → c
+    ≡ given (nat_abs x.producer_id)
 content_given (Batches parts) x e g v = absurd cc
 content_given (Id code id) x e g v =
     let same : answer_of code id ≡ x = cc in
-    let known : GivenId code id = given_id code id (subst (λ (y : InitProducerIdResponse). is_given y ≡ true) (sym same) g) (subst (λ (y : InitProducerIdResponse). answers_id y ≡ true) (sym same) v) in
-    let number : nat_abs x.producer_id ≡ known.number = ap (λ (y : InitProducerIdResponse). nat_abs y.producer_id) (sym same) ∙ ap (λ (z : ℤ). nat_abs z) known.id_is in
-    let this : Id code id ≡ Id (pos 0) (pos known.number) = ap (λ (z : ℤ). Id z id) known.code_is ∙ ap (λ (z : ℤ). Id (pos 0) z) known.id_is in
-    this ∙ ap (λ (n : ℕ). given n) (sym number)
+    let known : GivenId code id = given_id code id
+    (subst (λ (y : InitProducerIdResponse). is_given y ≡ true) (sym same) g)
+    (subst (λ (y : InitProducerIdResponse). answers_id y ≡ true) (sym same) v) in
+    let id_same : id ≡ x.producer_id = cc in
+    let id_known : id ≡ pos known.number = known.id_is in
+    let number : nat_abs x.producer_id ≡ nat_abs (pos known.number) = cc in
+    let code_is : code ≡ pos 0 = known.code_is in
+    let id_is : id ≡ pos known.number = known.id_is in
+    let this : Id code id ≡ Id (pos 0) (pos known.number) = cc in
+    let back : given known.number ≡ given (nat_abs x.producer_id) = cc in
+    let whole : Id code id ≡ given (nat_abs x.producer_id) = cc in
+    whole
 
-good_taken : (w : World) (r : Reply) (s : Core) → IsGood w → In r w.replies → TakesId w.core (response_of r).correlation (response_of r).body s
+good_taken : (w : World) (r : Reply) (s : Core) → IsGood w → In r w.replies
+    → TakesId w.core (response_of r).correlation (response_of r).body s
     → Good s w.logs w.handed w.packets w.replies w.ids
-good_taken w r s g i t = subst (λ (c : Core). Good c w.logs w.handed w.packets w.replies w.ids) (sym t.after_is) (record {
-  count = length-changed_at (t.request.partition ∷ []) (under_if_wanted id w.core) w.core.partitions ∙ g.count;
-  handed_count = g.handed_count;
-  each = each;
-  packets_all = λ o j. let k = g.packets_all o j in record { before = k.before; parts = k.parts };
-  replies_all = λ x j. let k = g.replies_all x j in record { before = k.before; drawn = k.drawn; spare = λ n q e a c p h at. absurd (nobody q a) };
-  drawn = g.drawn;
-  asked = λ q a. absurd (nobody q a);
-})
+good_taken w r s g i t = subst (λ (c : Core). Good c w.logs w.handed w.packets w.replies w.ids)
+    (sym t.after_is) (record {
+      count = length-changed_at (t.request.partition ∷ []) (under_if_wanted id w.core) w.core.partitions ∙ g.count;
+      handed_count = g.handed_count;
+      each = each;
+      packets_all = λ o j. let k = g.packets_all o j in record { before = k.before; parts = k.parts };
+      replies_all = λ x j. let k = g.replies_all x j
+          in record {
+            before = k.before;
+            drawn = k.drawn;
+            spare = λ n q e a c p h at. absurd
+                (nobody q a);
+          };
+      drawn = g.drawn;
+      asked = λ q a. absurd (nobody q a);
+    })
   where
     id : ℕ
     id = nat_abs t.answer.producer_id
@@ -137,16 +165,32 @@ good_taken w r s g i t = subst (λ (c : Core). Good c w.logs w.handed w.packets 
     same : t.request.correlation ≡ r.correlation
     same = let named : pos t.request.correlation ≡ pos r.correlation = t.named in cc
 
-    one : (p : ℕ) → p < length w.logs → (b : Bool) → Sound w.ids (if b then under (nat_abs t.answer.producer_id) (partition_at p w.core.partitions) else partition_at p w.core.partitions) (handed_at p w.handed) (log_at p w.logs)
-    one p h true = sound_fresh w.ids (nat_abs t.answer.producer_id) (partition_at p w.core.partitions) (handed_at p w.handed) (log_at p w.logs) (g.each p h) ((g.replies_all r i).drawn (nat_abs t.answer.producer_id) content) (λ at. (g.replies_all r i).spare (nat_abs t.answer.producer_id) t.request content t.asked same p h at)
+    one : (p : ℕ) → p < length w.logs → (b : Bool)
+        → Sound w.ids (if b then under (nat_abs t.answer.producer_id)
+        (partition_at p w.core.partitions) else partition_at p w.core.partitions)
+        (handed_at p w.handed) (log_at p w.logs)
+    one p h true = sound_fresh w.ids (nat_abs t.answer.producer_id)
+        (partition_at p w.core.partitions) (handed_at p w.handed) (log_at p w.logs) (g.each p h)
+        ((g.replies_all r i).drawn (nat_abs t.answer.producer_id) content)
+        (λ at. (g.replies_all r i).spare (nat_abs t.answer.producer_id) t.request content t.asked
+        same p h at)
     one p h false = g.each p h
 
-    wanted : (p : ℕ) → p < length w.logs → (b : Bool) → Sound w.ids (if b then under_if_wanted (nat_abs t.answer.producer_id) w.core p (partition_at p w.core.partitions) else partition_at p w.core.partitions) (handed_at p w.handed) (log_at p w.logs)
+    wanted : (p : ℕ) → p < length w.logs → (b : Bool)
+        → Sound w.ids (if b then under_if_wanted (nat_abs t.answer.producer_id) w.core p
+        (partition_at p w.core.partitions) else partition_at p w.core.partitions)
+        (handed_at p w.handed) (log_at p w.logs)
     wanted p h true = one p h (wants_id w.core.config (partition_at p w.core.partitions))
     wanted p h false = g.each p h
 
-    each : (p : ℕ) → p < length w.logs → Sound w.ids (partition_at p (id_given (nat_abs t.answer.producer_id) t.request w.core).partitions) (handed_at p w.handed) (log_at p w.logs)
-    each p h = subst (λ (u : Partition). Sound w.ids u (handed_at p w.handed) (log_at p w.logs)) (sym (at-changed_at (t.request.partition ∷ []) (under_if_wanted (nat_abs t.answer.producer_id) w.core) w.core.partitions p (subst (λ (n : ℕ). p < n) (sym g.count) h))) (wanted p h (is_in p (t.request.partition ∷ [])))
+    each : (p : ℕ) → p < length w.logs
+        → Sound w.ids (partition_at p (id_given (nat_abs t.answer.producer_id) t.request
+        w.core).partitions) (handed_at p w.handed) (log_at p w.logs)
+    each p h = subst (λ (u : Partition). Sound w.ids u (handed_at p w.handed) (log_at p w.logs))
+        (sym (at-changed_at (t.request.partition ∷ [])
+        (under_if_wanted (nat_abs t.answer.producer_id) w.core) w.core.partitions p
+        (subst (λ (n : ℕ). p < n) (sym g.count) h)))
+        (wanted p h (is_in p (t.request.partition ∷ [])))
 
 in_at : {A : Type 0} (xs : List A) (j : ℕ) (x : A) → slice_get xs j ≡ Some x → In x xs
 in_at [] j x e = absurd cc
@@ -157,8 +201,15 @@ good_replying : (j : ℕ) (w v : World) → replying j (slice_get w.replies j) w
 unfolding noted
 good_replying j w v e g = at_reply (slice_get w.replies j) refl e
   where
-    heard : (r : Reply) → In r w.replies → Good (replied w.moment (response_of r) w.core).after w.logs w.handed w.packets w.replies w.ids
-    heard r i = ⊎_elim (λ (k : CoreKeeps w.core (replied w.moment (response_of r) w.core).after). good_of w (replied w.moment (response_of r) w.core).after g k) (λ (t : TakesId w.core (response_of r).correlation (response_of r).body (replied w.moment (response_of r) w.core).after). good_taken w r (replied w.moment (response_of r) w.core).after g i t) (replied_cases w.moment (response_of r) w.core)
+    heard : (r : Reply) → In r w.replies
+        → Good (replied w.moment (response_of r) w.core).after w.logs w.handed w.packets w.replies
+        w.ids
+    heard r i = ⊎_elim (λ (k : CoreKeeps w.core (replied w.moment (response_of r) w.core).after).
+        good_of w (replied w.moment (response_of r) w.core).after g k)
+        (λ (t : TakesId w.core (response_of r).correlation (response_of r).body
+        (replied w.moment (response_of r) w.core).after). good_taken w r
+        (replied w.moment (response_of r) w.core).after g i t)
+        (replied_cases w.moment (response_of r) w.core)
 
     at_reply : (o : Option Reply) → slice_get w.replies j ≡ o → replying j o w ≡ Some v → IsGood v
     at_reply None is e' = absurd cc
@@ -176,14 +227,19 @@ good_client (event.Accept s p value) w v e g = at_test (has_sender s w && has_pa
 good_client (event.Take s) w v e g = at_test (has_sender s w) e
   where
     at_test : (b : Bool) → only_if b (taking s (slice_get (accepted_by s w) (taken_by s w)) w) ≡ Some v → IsGood v
-    at_test true e' = good_some (taking s (slice_get (accepted_by s w) (taken_by s w)) w) v e' (good_taking s (slice_get (accepted_by s w) (taken_by s w)) w g)
+    at_test true e' = good_some (taking s (slice_get (accepted_by s w) (taken_by s w)) w) v e'
+        (good_taking s (slice_get (accepted_by s w) (taken_by s w)) w g)
     at_test false e' = absurd cc
 good_client (event.Now moment) w v e g =
     good_some (only_noted [] (record w { moment = moment })) v e g
-good_client event.Tick w v e g = good_some (ticking w) v e (good_of w (ticked w.moment w.core).after g (core_ticked w.moment w.core))
-good_client event.Send w v e g = good_some (sending w (requested w.moment w.core).after (requested w.moment w.core).answer) v e (good_sending w g)
+good_client event.Tick w v e g = good_some (ticking w) v e
+    (good_of w (ticked w.moment w.core).after g (core_ticked w.moment w.core))
+good_client event.Send w v e g = good_some
+    (sending w (requested w.moment w.core).after (requested w.moment w.core).answer) v e
+    (good_sending w g)
 good_client (event.Reply j) w v e g = good_replying j w v e g
-good_client event.Drop w v e g = good_some (noted (disconnected w.moment w.core) [] [] w) v e (good_of w (disconnected w.moment w.core) g (core_disconnected w.moment w.core))
+good_client event.Drop w v e g = good_some (noted (disconnected w.moment w.core) [] [] w) v e
+    (good_of w (disconnected w.moment w.core) g (core_disconnected w.moment w.core))
 good_client event.Close w v e g =
     good_some (closing w) v e (good_of w (closed w.core) g (core_closed w.core))
 good_client event.End w v e g =
@@ -199,19 +255,34 @@ good_others : (p n : ℕ) (w v : World) → with_others_at p n w ≡ Some v → 
 unfolding with_others_at noted
 good_others p n w v e g = at_test (has_partition p w) refl e
   where
-    at_test : (b : Bool) → has_partition p w ≡ b → only_if b (only_noted [] (record w { logs = logs_with_others p n w.logs })) ≡ Some v → IsGood v
-    at_test true is e' = good_some (only_noted [] (record w { logs = logs_with_others p n w.logs })) v e' (others_good p n w.core w.logs w.handed w.packets w.replies w.ids (ltb-true p (length w.logs) is) g)
+    at_test : (b : Bool) → has_partition p w ≡ b
+        → only_if b (only_noted [] (record w { logs = logs_with_others p n w.logs })) ≡ Some v
+        → IsGood v
+    at_test true is e' = good_some (only_noted [] (record w { logs = logs_with_others p n w.logs }))
+        v e' (others_good p n w.core w.logs w.handed w.packets w.replies w.ids
+        (ltb-true p (length w.logs) is) g)
     at_test false is e' = absurd cc
 
-arrives : (k : ℕ) (how : Treatment) (w v : World) → MayTreat how → IsGood w → arrived k how (slice_get w.packets k) w ≡ Some v → Arrives w k v × IsGood v
+arrives : (k : ℕ) (how : Treatment) (w v : World) → MayTreat how → IsGood w
+    → arrived k how (slice_get w.packets k) w ≡ Some v → Arrives w k v × IsGood v
 arrives k how w v may g e = at_packet (slice_get w.packets k) refl e
   where
-    at_packet : (o : Option Outgoing) → slice_get w.packets k ≡ o → arrived k how o w ≡ Some v → Arrives w k v × IsGood v
+    at_packet : (o : Option Outgoing) → slice_get w.packets k ≡ o → arrived k how o w ≡ Some v
+        → Arrives w k v × IsGood v
     at_packet None is e' = absurd cc
     at_packet (Some o) is e' =
         let both = came how w o may g (in_at w.packets k o is) in
-        let same : with_delivery o (delivered how w o.demand) w ≡ v = cc in
-        (record { packet = o; went_out = is; delivery = delivered how w o.demand; honest = both.0; after_is = sym same }, subst IsGood same both.1)
+        let same : with_delivery o (delivered how w o.demand) w ≡ v = cc in (
+          record {
+            packet = o;
+            went_out = is;
+            delivery = delivered how w o.demand;
+            honest =
+                both.0;
+            after_is = sym same;
+          },
+          subst IsGood same both.1,
+        )
 
 step : (e : Event) (w v : World) → MayHappen e → IsGood w → stepped e w ≡ Some v → Steps w e v × IsGood v
 unfolding stepped Steps
@@ -228,12 +299,15 @@ step event.Close w v may g e = (e, good_client event.Close w v e g)
 step event.End w v may g e = (e, good_client event.End w v e g)
 step event.Flush w v may g e = (e, good_client event.Flush w v e g)
 
-run : (n : ℕ) (es : List Event) (w v : World) → AllByRecursion MayHappen es → IsGood w → replayed_from n es w ≡ Ok v → Run w es v
+run : (n : ℕ) (es : List Event) (w v : World) → AllByRecursion MayHappen es → IsGood w
+    → replayed_from n es w ≡ Ok v → Run w es v
 unfolding replayed_from Run
 run n [] w v may g e = let same : w ≡ v = cc in sym same
 run n (x ∷ es) w v may g e = at_step (stepped x w) refl e (λ u h e'. run (n + 1) es u v may.1 h e')
   where
-    at_step : (o : Option World) → stepped x w ≡ o → elim o as (λ _. Result World ℕ) [ Some u ↦ replayed_from (n + 1) es u | None ↦ Err n ] ≡ Ok v
+    at_step : (o : Option World) → stepped x w ≡ o
+        → elim o as (λ _. Result World ℕ) [ Some u ↦ replayed_from (n + 1) es u | None ↦ Err n ]
+        ≡ Ok v
         → ((u : World) → IsGood u → replayed_from (n + 1) es u ≡ Ok v → Run u es v) → Run w (x ∷ es) v
     at_step None is e' rest = absurd cc
     at_step (Some u) is e' rest = let one = step x w u may.0 g is in (u, one.0, rest u one.1 e')
@@ -244,19 +318,29 @@ good_opening : (c : Config) (partitions senders : ℕ) → IsGood (opening c par
 unfolding opening new_core
 good_opening c partitions senders = record {
   count = length-replicate partitions (new_partition FIRST_ID) ∙ sym (length-replicate partitions empty_history);
-  handed_count = let none : List Batch = [] in length-replicate partitions none ∙ sym (length-replicate partitions empty_history);
+  handed_count = let none : List Batch = [] in length-replicate partitions none
+      ∙ sym (length-replicate partitions empty_history);
   each = λ p h. each p (subst (λ (n : ℕ). p < n) (length-replicate partitions empty_history) h);
   packets_all = λ o i. absurd (In-nil o i);
   replies_all = λ r i. absurd (In-nil r i);
-  drawn = λ id i. ⊎_elim (λ (same : id ≡ FIRST_ID). omega arith) (λ (z : In id []). absurd (In-nil id z)) (In-cons id FIRST_ID [] i);
+  drawn = λ id i. ⊎_elim (λ (same : id ≡ FIRST_ID). omega arith)
+      (λ (z : In id []). absurd (In-nil id z)) (In-cons id FIRST_ID [] i);
   asked = λ q e. absurd cc;
 }
   where
-    each : (p : ℕ) → p < partitions → Sound (FIRST_ID ∷ []) (partition_at p (replicate partitions (new_partition FIRST_ID))) (handed_at p (replicate partitions [])) (log_at p (replicate partitions empty_history))
+    each : (p : ℕ) → p < partitions
+        → Sound (FIRST_ID ∷ []) (partition_at p (replicate partitions (new_partition FIRST_ID)))
+        (handed_at p (replicate partitions [])) (log_at p (replicate partitions empty_history))
     each p h =
-        subst (λ (u : Partition). Sound (FIRST_ID ∷ []) u (handed_at p (replicate partitions [])) (log_at p (replicate partitions empty_history))) (sym (get_or-replicate partitions p (new_partition FIRST_ID) (new_partition 0) h))
-        (subst (λ (hs : List Batch). Sound (FIRST_ID ∷ []) (new_partition FIRST_ID) hs (log_at p (replicate partitions empty_history))) (sym (get_or-replicate {A = List Batch} partitions p [] [] h))
-        (subst (λ (l : History). Sound (FIRST_ID ∷ []) (new_partition FIRST_ID) [] l) (sym (get_or-replicate partitions p empty_history empty_history h)) (sound_new FIRST_ID)))
+        subst (λ (u : Partition). Sound (FIRST_ID ∷ []) u (handed_at p (replicate partitions []))
+        (log_at p (replicate partitions empty_history)))
+        (sym (get_or-replicate partitions p (new_partition FIRST_ID) (new_partition 0) h))
+        (subst (λ (hs : List Batch). Sound (FIRST_ID ∷ []) (new_partition FIRST_ID) hs
+        (log_at p (replicate partitions empty_history)))
+        (sym (get_or-replicate {A = List Batch} partitions p [] [] h))
+        (subst (λ (l : History). Sound (FIRST_ID ∷ []) (new_partition FIRST_ID) [] l)
+        (sym (get_or-replicate partitions p empty_history empty_history h))
+        (sound_new FIRST_ID)))
 
 pub replay_is_run : (c : Config) (partitions senders : ℕ) (es : List Event) (w : World) → AllByRecursion MayHappen es
     → replayed es (opening c partitions senders) ≡ Ok w → Run (opening c partitions senders) es w

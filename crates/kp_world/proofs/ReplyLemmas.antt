@@ -27,18 +27,21 @@ pub record TakesId (s : Core) (k : ℤ) (body : ResponseBody) (s' : Core) : Type
   pub valid : answers_id answer ≡ true
   pub after_is : s' ≡ id_given (nat_abs answer.producer_id) request s
 
-awaited_id : (k : ℤ) (s : Core) (q : IdRequest) → awaited k s ≡ Id q → (s.id_request ≡ Some q) × (pos q.correlation ≡ k)
+awaited_id : (k : ℤ) (s : Core) (q : IdRequest) → awaited k s ≡ Id q → (s.id_request ≡ Some q)
+    × (pos q.correlation ≡ k)
 unfolding awaited
 awaited_id k s q e = at_request (find (λ (r : Request). int_eq (pos r.correlation) k) s.requests) e
   where
-    at_test : (r : IdRequest) (b : Bool) → int_eq (pos r.correlation) k ≡ b → s.id_request ≡ Some r → (if b then Id r else Nothing) ≡ Id q → (s.id_request ≡ Some q) × (pos q.correlation ≡ k)
+    at_test : (r : IdRequest) (b : Bool) → int_eq (pos r.correlation) k ≡ b → s.id_request ≡ Some r
+        → (if b then Id r else Nothing) ≡ Id q → (s.id_request ≡ Some q) × (pos q.correlation ≡ k)
     at_test r true is at e' =
         let same : r ≡ q = cc in
         let named : pos r.correlation ≡ k = (Decides-int_eq (pos r.correlation) k).0 is in
         (at ∙ ap (λ (x : IdRequest). Some x) same, subst (λ (x : IdRequest). pos x.correlation ≡ k) same named)
     at_test r false is at e' = absurd cc
 
-    at_option : (o : Option IdRequest) → s.id_request ≡ o → id_awaited k o ≡ Id q → (s.id_request ≡ Some q) × (pos q.correlation ≡ k)
+    at_option : (o : Option IdRequest) → s.id_request ≡ o → id_awaited k o ≡ Id q
+        → (s.id_request ≡ Some q) × (pos q.correlation ≡ k)
     at_option None at e' = absurd cc
     at_option (Some r) at e' = at_test r (int_eq (pos r.correlation) k) refl at e'
 
@@ -46,7 +49,8 @@ awaited_id k s q e = at_request (find (λ (r : Request). int_eq (pos r.correlati
     at_request (Some r) e' = absurd cc
     at_request None e' = at_option s.id_request refl e'
 
-keeps_answering : (now k : ℕ) (answers : Answers) (p : ℕ) (t : Partition) → Keeps t (answering now k answers p t).after
+keeps_answering : (now k : ℕ) (answers : Answers) (p : ℕ) (t : Partition)
+    → Keeps t (answering now k answers p t).after
 keeps_answering now k answers p t = at_first (answers_for p answers)
   where
     at_first : (xs : Answers) → Keeps t (first_answered now k t xs).after
@@ -62,11 +66,18 @@ batches_keep now r s (Some answers) =
     at_test (answer_batches r.correlation r.partitions s.partitions answers)
   where
     at_test : (b : Bool) → CoreKeeps s (batches_step now r s answers b).after
-    at_test true = core_at_these r.partitions (answering now r.correlation answers) (keeps_answering now r.correlation answers) s
+    at_test true = core_at_these r.partitions (answering now r.correlation answers)
+        (keeps_answering now r.correlation answers) s
     at_test false = core_same s
 
 core_refused : (now : ℕ) (s : Core) → CoreKeeps s (id_refused now s)
-core_refused now s = record { count = refl; each = λ p h. keeps_same (partition_at p s.partitions); correlation = refl; asked = λ q e. absurd cc }
+core_refused now s = record {
+  count = refl;
+  each = λ p h. keeps_same
+      (partition_at p s.partitions);
+  correlation = refl;
+  asked = λ q e. absurd cc;
+}
 
 abbrev id_step : ℕ → IdRequest → InitProducerIdResponse → Core → Bool → Replies
 id_step now q x s b = if b then known (id_answered now q x s) [] else faulty Mismatch s
@@ -77,11 +88,24 @@ id_cases : (now : ℕ) (s : Core) (q : IdRequest) (k : ℤ) (body : ResponseBody
 id_cases now s q k body x asked named is = at_valid (answers_id x) refl
   where
     at_given : (b : Bool) → is_given x ≡ b → answers_id x ≡ true
-        → CoreKeeps s (if b then id_given (nat_abs x.producer_id) q s else id_refused now s) ⊎ TakesId s k body (if b then id_given (nat_abs x.producer_id) q s else id_refused now s)
-    at_given true g v = inr (record { request = q; asked = asked; named = named; answer = x; body_is = is; given = g; valid = v; after_is = refl })
+        → CoreKeeps s (if b then id_given (nat_abs x.producer_id) q s else id_refused now s)
+        ⊎ TakesId s k body (if b then id_given (nat_abs x.producer_id) q s else id_refused now
+        s)
+    at_given true g v = inr (record {
+      request = q;
+      asked = asked;
+      named = named;
+      answer = x;
+      body_is = is;
+      given = g;
+      valid =
+          v;
+      after_is = refl;
+    })
     at_given false g v = inl (core_refused now s)
 
-    at_valid : (b : Bool) → answers_id x ≡ b → CoreKeeps s (id_step now q x s b).after ⊎ TakesId s k body (id_step now q x s b).after
+    at_valid : (b : Bool) → answers_id x ≡ b → CoreKeeps s (id_step now q x s b).after
+        ⊎ TakesId s k body (id_step now q x s b).after
     at_valid true v = at_given (is_given x) refl v
     at_valid false v = inl (core_same s)
 
@@ -90,12 +114,14 @@ reply_step now response s b =
     if b then after_end s else replied_to now s (awaited response.correlation s) response.body
 
 pub replied_cases : (now : ℕ) (response : Response) (s : Core)
-    → CoreKeeps s (replied now response s).after ⊎ TakesId s response.correlation response.body (replied now response s).after
+    → CoreKeeps s (replied now response s).after
+    ⊎ TakesId s response.correlation response.body (replied now response s).after
 unfolding replied
 replied_cases now response s = at_end s.ended
   where
     at_body : (who : Awaited) → awaited response.correlation s ≡ who → (body : ResponseBody) → response.body ≡ body
-        → CoreKeeps s (replied_to now s who body).after ⊎ TakesId s response.correlation response.body (replied_to now s who body).after
+        → CoreKeeps s (replied_to now s who body).after
+        ⊎ TakesId s response.correlation response.body (replied_to now s who body).after
     at_body Nothing is body e = inl (core_same s)
     at_body (Batches r) is (Produce x) e = inl (batches_keep now r s (answers_of s.names.topic x.topics))
     at_body (Batches r) is (Metadata x) e = inl (core_same s)
@@ -106,6 +132,7 @@ replied_cases now response s = at_end s.ended
         let named = awaited_id response.correlation s q is in
         id_cases now s q response.correlation response.body x named.0 named.1 e
 
-    at_end : (b : Bool) → CoreKeeps s (reply_step now response s b).after ⊎ TakesId s response.correlation response.body (reply_step now response s b).after
+    at_end : (b : Bool) → CoreKeeps s (reply_step now response s b).after
+        ⊎ TakesId s response.correlation response.body (reply_step now response s b).after
     at_end true = inl (core_same s)
     at_end false = at_body (awaited response.correlation s) refl response.body refl

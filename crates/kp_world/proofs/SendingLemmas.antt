@@ -31,12 +31,14 @@ pub record HandsOver (t t' : Partition) (b : Batch) : Type 0 where
   pub batch : b ≡ new_batch t front
   pub after_is : t' ≡ handed_over_in request t (front ∷ rest)
 
-pub find_open : (handed : List Batch) (os : List Open) (o : Open) → find is_waiting os ≡ Some o → OpenIn handed os → In o.batch handed
+pub find_open : (handed : List Batch) (os : List Open) (o : Open) → find is_waiting os ≡ Some o
+    → OpenIn handed os → In o.batch handed
 find_open handed [] o e h = absurd cc
 find_open handed (x ∷ os) o e h =
     at_test (is_waiting x) e (λ (e' : find is_waiting os ≡ Some o). find_open handed os o e' h.1)
   where
-    at_test : (b : Bool) → cond b (Some x) (find is_waiting os) ≡ Some o → (find is_waiting os ≡ Some o → In o.batch handed) → In o.batch handed
+    at_test : (b : Bool) → cond b (Some x) (find is_waiting os) ≡ Some o
+        → (find is_waiting os ≡ Some o → In o.batch handed) → In o.batch handed
     at_test true same later = let is : x ≡ o = cc in subst (λ (y : Open). In y.batch handed) is h.0
     at_test false same later = later same
 
@@ -45,36 +47,59 @@ unfolding sent_again_in
 opens_again k handed [] h = tt
 opens_again k handed (o ∷ os) h = at_test (is_waiting o) (opens_again k handed os h.1)
   where
-    at_test : (b : Bool) → OpenIn handed (sent_again_in k os) → OpenIn handed (if b then again_in k o ∷ os else o ∷ sent_again_in k os)
+    at_test : (b : Bool) → OpenIn handed (sent_again_in k os)
+        → OpenIn handed (if b then again_in k o ∷ os else o ∷ sent_again_in k os)
     at_test true rest = (h.0, h.1)
     at_test false rest = (h.0, rest)
 
-pub goes_out_of : (c : Config) (f : Flags) (now k : ℕ) (t : Partition) (b : Batch) → sends c f now t ≡ Some b → Again t (sent_in k t) b ⊎ HandsOver t (sent_in k t) b
+pub goes_out_of : (c : Config) (f : Flags) (now k : ℕ) (t : Partition) (b : Batch) → sends c f now t
+    ≡ Some b → Again t (sent_in k t) b ⊎ HandsOver t (sent_in k t) b
 unfolding sends sent_in
 goes_out_of c f now k t b e = at_fence t.fenced e
   where
-    at_front : (q : List Pending) → t.queue ≡ q → sends_new c f now t q ≡ Some b → HandsOver t (handed_over_in k t q) b
+    at_front : (q : List Pending) → t.queue ≡ q → sends_new c f now t q ≡ Some b
+        → HandsOver t (handed_over_in k t q) b
     at_front [] is e' = absurd cc
-    at_front (front ∷ rest) is e' = record { front = front; rest = rest; request = k; queue = is; batch = at_test (may_hand_over c f now t front) e'; after_is = refl }
+    at_front (front ∷ rest) is e' = record {
+      front = front;
+      rest = rest;
+      request = k;
+      queue = is;
+      batch = at_test
+          (may_hand_over c f now t front) e';
+      after_is = refl;
+    }
       where
         at_test : (may : Bool) → (if may then Some (new_batch t front) else None) ≡ Some b → b ≡ new_batch t front
         at_test true same = cc
         at_test false same = absurd cc
 
-    at_lowest : (o : Option Open) → lowest_waiting t ≡ o → sends_first c f now t o ≡ Some b → Again t (sent_first_in k t o) b ⊎ HandsOver t (sent_first_in k t o) b
+    at_lowest : (o : Option Open) → lowest_waiting t ≡ o → sends_first c f now t o ≡ Some b
+        → Again t (sent_first_in k t o) b ⊎ HandsOver t (sent_first_in k t o) b
     at_lowest None is e' = inr (at_front t.queue refl e')
     at_lowest (Some lowest) is e' = inl (at_test (is_rested c now lowest.attempt) e')
       where
-        at_test : (rested : Bool) → (if rested then Some lowest.batch else None) ≡ Some b → Again t (sent_first_in k t (Some lowest)) b
+        at_test : (rested : Bool) → (if rested then Some lowest.batch else None) ≡ Some b
+            → Again t (sent_first_in k t (Some lowest)) b
         at_test true same =
             let known : lowest.batch ≡ b = cc in
             record {
-              keeps = record { number = refl; sequence = refl; ids = refl; opens = λ handed h. opens_again k handed t.open_batches h; queue = λ h. h };
-              known = λ handed h. subst (λ (y : Batch). In y handed) known (find_open handed t.open_batches lowest is h);
+              keeps = record {
+                number = refl;
+                sequence = refl;
+                ids = refl;
+                opens = λ handed h.
+                    opens_again k handed t.open_batches h;
+                queue = λ h. h;
+              };
+              known = λ handed h. subst (λ (y : Batch). In y handed) known
+                  (find_open handed t.open_batches lowest is h);
             }
         at_test false same = absurd cc
 
-    at_fence : (fence : Bool) → (if fence then None else sends_first c f now t (lowest_waiting t)) ≡ Some b → Again t (sent_first_in k t (lowest_waiting t)) b ⊎ HandsOver t (sent_first_in k t (lowest_waiting t)) b
+    at_fence : (fence : Bool) → (if fence then None else sends_first c f now t (lowest_waiting t))
+        ≡ Some b → Again t (sent_first_in k t (lowest_waiting t)) b
+        ⊎ HandsOver t (sent_first_in k t (lowest_waiting t)) b
     at_fence true e' = absurd cc
     at_fence false e' = at_lowest (lowest_waiting t) refl e'
 
@@ -85,7 +110,8 @@ pub record IsSent (now : ℕ) (s : Core) (x : Sending) : Type 0 where
   pub there : x.partition < length s.partitions
   pub sends : sends s.config (flags_of s) now (partition_at x.partition s.partitions) ≡ Some x.batch
 
-all_append : {A : Type 0} (P : A → Type 0) (xs ys : List A) → AllByRecursion P xs → AllByRecursion P ys → AllByRecursion P (xs ++ ys)
+all_append : {A : Type 0} (P : A → Type 0) (xs ys : List A) → AllByRecursion P xs
+    → AllByRecursion P ys → AllByRecursion P (xs ++ ys)
 all_append P [] ys h k = k
 all_append P (x ∷ xs) ys h k = (h.0, all_append P xs ys h.1 k)
 
@@ -99,7 +125,8 @@ all_drop P zero xs h = h
 all_drop P (suc n) [] h = tt
 all_drop P (suc n) (x ∷ xs) h = all_drop P n xs h.1
 
-pub all_weaker : {A : Type 0} (P Q : A → Type 0) → ((x : A) → P x → Q x) → (xs : List A) → AllByRecursion P xs → AllByRecursion Q xs
+pub all_weaker : {A : Type 0} (P Q : A → Type 0) → ((x : A) → P x → Q x) → (xs : List A)
+    → AllByRecursion P xs → AllByRecursion Q xs
 all_weaker P Q f [] h = tt
 all_weaker P Q f (x ∷ xs) h = (f x h.0, all_weaker P Q f xs h.1)
 
@@ -111,10 +138,10 @@ pub record IsPlace {A : Type 0} (k : ℕ) (xs : List A) (d : A) (y : ℕ × A) :
 places : {A : Type 0} (k : ℕ) (xs : List A) (d : A) → AllByRecursion (IsPlace k xs d) (enumerate_from k xs)
 places k [] d = tt
 places {A = A} k (x ∷ xs) d =
-    let here : k - k ≡ 0 = omega arith in
-    (
+    let here : k - k ≡ 0 = omega arith in (
       record { least = omega arith; most = omega arith; there = ap (λ (n : ℕ). get_or (x ∷ xs) n d) here },
-      all_weaker (IsPlace (k + 1) xs d) (IsPlace k (x ∷ xs) d) later (enumerate_from (k + 1) xs) (places (k + 1) xs d),
+      all_weaker (IsPlace (k + 1) xs d) (IsPlace k (x ∷ xs) d) later (enumerate_from (k + 1) xs)
+          (places (k + 1) xs d),
     )
   where
     later : (y : ℕ × A) → IsPlace (k + 1) xs d y → IsPlace k (x ∷ xs) d y
@@ -124,53 +151,70 @@ places {A = A} k (x ∷ xs) d =
         let n : y.0 - k ≡ suc (y.0 - (k + 1)) = omega arith in
         record { least = omega arith; most = omega arith; there = ap (λ (i : ℕ). get_or (x ∷ xs) i d) n ∙ h.there }
 
-all_filter_map : {A B : Type 0} (P : B → Type 0) (Q : A → Type 0) (h : A → Option B) → ((x : A) (y : B) → Q x → h x ≡ Some y → P y)
+all_filter_map : {A B : Type 0} (P : B → Type 0) (Q : A → Type 0) (h : A → Option B)
+    → ((x : A) (y : B) → Q x → h x ≡ Some y → P y)
     → (xs : List A) → AllByRecursion Q xs → AllByRecursion P (filter_map h xs)
 all_filter_map P Q h f [] k = tt
 all_filter_map {B = B} P Q h f (x ∷ xs) k = at_option (h x) refl (all_filter_map P Q h f xs k.1)
   where
-    at_option : (o : Option B) → h x ≡ o → AllByRecursion P (filter_map h xs) → AllByRecursion P (cons_option o (filter_map h xs))
+    at_option : (o : Option B) → h x ≡ o → AllByRecursion P (filter_map h xs)
+        → AllByRecursion P (cons_option o (filter_map h xs))
     at_option None is rest = rest
     at_option (Some y) is rest = (f x y k.0 is, rest)
 
-all_fitting : (P : Sending → Type 0) (room : ℕ) (xs : List Sending) → AllByRecursion P xs → AllByRecursion P (fitting room xs)
+all_fitting : (P : Sending → Type 0) (room : ℕ) (xs : List Sending) → AllByRecursion P xs
+    → AllByRecursion P (fitting room xs)
 unfolding fitting
 all_fitting P room [] h = tt
-all_fitting P room (x ∷ xs) h = at_test (nat_le (size_of x.batch.items) room) (all_fitting P (room - size_of x.batch.items) xs h.1)
+all_fitting P room (x ∷ xs) h = at_test (nat_le (size_of x.batch.items) room)
+    (all_fitting P (room - size_of x.batch.items) xs h.1)
   where
-    at_test : (b : Bool) → AllByRecursion P (fitting (room - size_of x.batch.items) xs) → AllByRecursion P (if b then x ∷ fitting (room - size_of x.batch.items) xs else [])
+    at_test : (b : Bool) → AllByRecursion P (fitting (room - size_of x.batch.items) xs)
+        → AllByRecursion P (if b then x ∷ fitting (room - size_of x.batch.items) xs else [])
     at_test true rest = (h.0, rest)
     at_test false rest = tt
 
-sending_is : (now : ℕ) (s : Core) (y : ℕ × Partition) (x : Sending) → IsPlace 0 s.partitions (new_partition 0) y → sending_of s now y ≡ Some x → IsSent now s x
+sending_is : (now : ℕ) (s : Core) (y : ℕ × Partition) (x : Sending)
+    → IsPlace 0 s.partitions (new_partition 0) y → sending_of s now y ≡ Some x → IsSent now s x
 sending_is now s y x place e = at_option (sends s.config (flags_of s) now y.1) refl e
   where
-    at_option : (o : Option Batch) → sends s.config (flags_of s) now y.1 ≡ o → option_map (λ b. record { partition = y.0; batch = b }) o ≡ Some x → IsSent now s x
+    at_option : (o : Option Batch) → sends s.config (flags_of s) now y.1 ≡ o
+        → option_map (λ b. record { partition = y.0; batch = b }) o ≡ Some x → IsSent now s x
     at_option None is e' = absurd cc
     at_option (Some b) is e' =
         let made : (record { partition = y.0; batch = b }) ≡ x = cc in
         let at : y.0 - 0 ≡ y.0 = omega arith in
-        let same : partition_at y.0 s.partitions ≡ y.1 = ap (λ (n : ℕ). partition_at n s.partitions) (sym at) ∙ place.there in
+        let same : partition_at y.0 s.partitions
+        ≡ y.1 = ap (λ (n : ℕ). partition_at n s.partitions) (sym at) ∙ place.there in
         let within : y.0 < length s.partitions = omega (arith, place.most) in
-        subst (IsSent now s) made (record { there = within; sends = ap (λ (t : Partition). sends s.config (flags_of s) now t) same ∙ is })
+        subst (IsSent now s) made (record {
+          there = within;
+          sends = ap (λ (t : Partition). sends s.config (flags_of s) now t) same
+              ∙ is;
+        })
 
 pub all_sent : (now : ℕ) (s : Core) → AllByRecursion (IsSent now s) (next_batches now s)
 unfolding next_batches
 all_sent now s =
-    let all : AllByRecursion (IsPlace 0 s.partitions (new_partition 0)) (enumerate_from 0 s.partitions) = places 0 s.partitions (new_partition 0) in
+    let all : AllByRecursion (IsPlace 0 s.partitions (new_partition 0))
+    (enumerate_from 0 s.partitions) = places 0 s.partitions (new_partition 0) in
     let n = used_up_to s.last_used in
     all_fitting (IsSent now s) s.config.max_request_size (filter_map (sending_of s now) (in_turn s))
-    (all_filter_map (IsSent now s) (IsPlace 0 s.partitions (new_partition 0)) (sending_of s now) (sending_is now s) (in_turn s)
-    (all_append (IsPlace 0 s.partitions (new_partition 0)) (drop n (enumerate_from 0 s.partitions)) (take n (enumerate_from 0 s.partitions))
+    (all_filter_map (IsSent now s) (IsPlace 0 s.partitions (new_partition 0)) (sending_of s now)
+    (sending_is now s) (in_turn s)
+    (all_append (IsPlace 0 s.partitions (new_partition 0)) (drop n (enumerate_from 0 s.partitions))
+    (take n (enumerate_from 0 s.partitions))
     (all_drop (IsPlace 0 s.partitions (new_partition 0)) n (enumerate_from 0 s.partitions) all)
     (all_take (IsPlace 0 s.partitions (new_partition 0)) n (enumerate_from 0 s.partitions) all)))
 
 -- the batches of the next request are those that may be sent
-pub demand_is_sent : (now : ℕ) (s : Core) (xs : List Sending) → next_demand now s ≡ Some (Produce xs) → AllByRecursion (IsSent now s) xs
+pub demand_is_sent : (now : ℕ) (s : Core) (xs : List Sending) → next_demand now s
+    ≡ Some (Produce xs) → AllByRecursion (IsSent now s) xs
 unfolding next_demand
 demand_is_sent now s xs e = at_window (has_window s) e
   where
-    at_batches : (ys : List Sending) → AllByRecursion (IsSent now s) ys → produce_of ys ≡ Some (Produce xs) → AllByRecursion (IsSent now s) xs
+    at_batches : (ys : List Sending) → AllByRecursion (IsSent now s) ys → produce_of ys
+        ≡ Some (Produce xs) → AllByRecursion (IsSent now s) xs
     at_batches [] all e' = absurd cc
     at_batches (y ∷ ys) all e' = let same : y ∷ ys ≡ xs = cc in subst (AllByRecursion (IsSent now s)) same all
 
@@ -178,6 +222,7 @@ demand_is_sent now s xs e = at_window (has_window s) e
     at_asking None e' = at_batches (next_batches now s) (all_sent now s) e'
     at_asking (Some p) e' = absurd cc
 
-    at_window : (b : Bool) → (if b then demand_of now s (next_asking now s) else None) ≡ Some (Produce xs) → AllByRecursion (IsSent now s) xs
+    at_window : (b : Bool) → (if b then demand_of now s (next_asking now s) else None)
+        ≡ Some (Produce xs) → AllByRecursion (IsSent now s) xs
     at_window true e' = at_asking (next_asking now s) e'
     at_window false e' = absurd cc

@@ -45,7 +45,8 @@ pub record Sound (drawn : List ℕ) (t : Partition) (handed : List Batch) (h : H
 
 -- ---- what keeps it
 
-pub sound_kept : (drawn : List ℕ) (t t' : Partition) (handed : List Batch) (h : History) → Sound drawn t handed h → Keeps t t' → Sound drawn t' handed h
+pub sound_kept : (drawn : List ℕ) (t t' : Partition) (handed : List Batch) (h : History)
+    → Sound drawn t handed h → Keeps t t' → Sound drawn t' handed h
 sound_kept drawn t t' handed h s k = record {
   number = k.number ∙ s.number;
   sequence = k.sequence ∙ (s.sequence ∙ ap (λ (ids : List ℕ). count_under ids handed) (sym k.ids));
@@ -59,7 +60,8 @@ sound_kept drawn t t' handed h s k = record {
   queue = k.queue s.queue;
 }
 
-pub sound_history : (drawn : List ℕ) (t : Partition) (handed : List Batch) (h h' : History) → Sound drawn t handed h → CameBy (sents handed) h' → Sound drawn t handed h'
+pub sound_history : (drawn : List ℕ) (t : Partition) (handed : List Batch) (h h' : History)
+    → Sound drawn t handed h → CameBy (sents handed) h' → Sound drawn t handed h'
 sound_history drawn t handed h h' s c = record {
   number = s.number;
   sequence = s.sequence;
@@ -73,7 +75,8 @@ sound_history drawn t handed h h' s c = record {
   queue = s.queue;
 }
 
-pub sound_drawn : (drawn : List ℕ) (id : ℕ) (t : Partition) (handed : List Batch) (h : History) → Sound drawn t handed h → Sound (drawn ++ id ∷ []) t handed h
+pub sound_drawn : (drawn : List ℕ) (id : ℕ) (t : Partition) (handed : List Batch) (h : History)
+    → Sound drawn t handed h → Sound (drawn ++ id ∷ []) t handed h
 sound_drawn drawn id t handed h s = record {
   number = s.number;
   sequence = s.sequence;
@@ -112,31 +115,50 @@ one_more : (handed : List Batch) (b : Batch) → sents (handed ++ b ∷ []) ≡ 
 one_more handed b = map-append sent_of handed (b ∷ [])
 
 count_one_more : (id : ℕ) (handed : List Batch) (b : Batch) → b.id ≡ id
-    → count_of (pos id) (records_of (sents (handed ++ b ∷ []))) ≡ count_of (pos id) (records_of (sents handed)) + length b.items
+    → count_of (pos id) (records_of (sents (handed ++ b ∷ [])))
+    ≡ count_of (pos id) (records_of (sents handed)) + length b.items
 count_one_more id handed b same =
-    let split : records_of (sents (handed ++ b ∷ [])) ≡ records_of (sents handed) ++ records_of (sent_of b ∷ []) = ap records_of (one_more handed b) ∙ flat_map-append stored_of (sents handed) (sent_of b ∷ []) in
-    let parts : count_of (pos id) (records_of (sents (handed ++ b ∷ []))) ≡ count_of (pos id) (records_of (sents handed)) + count_of (pos id) (records_of (sent_of b ∷ [])) = ap (count_of (pos id)) split ∙ count_of-append (pos id) (records_of (sents handed)) (records_of (sent_of b ∷ [])) in
-    let last : count_of (pos id) (stored_of (sent_of b) ++ []) ≡ count_of (pos id) (stored_of (sent_of b)) + 0 = count_of-append (pos id) (stored_of (sent_of b)) [] in
-    let own : count_of (pos id) (stored_of (sent_of b)) ≡ length (map body_of b.items) = ap (λ (n : ℕ). count_of (pos n) (stored_of (sent_of b))) (sym same) ∙ count_of_own (pos b.id) (map body_of b.items) in
+    let split : records_of (sents (handed ++ b ∷ [])) ≡ records_of (sents handed)
+    ++ records_of (sent_of b ∷ []) = ap records_of (one_more handed b)
+    ∙ flat_map-append stored_of (sents handed) (sent_of b ∷ []) in
+    let parts : count_of (pos id) (records_of (sents (handed ++ b ∷ [])))
+    ≡ count_of (pos id) (records_of (sents handed)) + count_of (pos id)
+    (records_of (sent_of b ∷ [])) = ap (count_of (pos id)) split
+    ∙ count_of-append (pos id) (records_of (sents handed)) (records_of (sent_of b ∷ [])) in
+    let last : count_of (pos id) (stored_of (sent_of b) ++ [])
+    ≡ count_of (pos id) (stored_of (sent_of b)) + 0 = count_of-append (pos id)
+    (stored_of (sent_of b)) [] in
+    let own : count_of (pos id) (stored_of (sent_of b))
+    ≡ length (map body_of b.items) = ap (λ (n : ℕ). count_of (pos n) (stored_of (sent_of b)))
+    (sym same) ∙ count_of_own (pos b.id) (map body_of b.items) in
     let size : length (map body_of b.items) ≡ length b.items = length-map b.items body_of in
     omega (arith, parts, last, own, size)
 
 pub opens_more : (handed : List Batch) (b : Batch) (os : List Open) → OpenIn handed os → OpenIn (handed ++ b ∷ []) os
-opens_more handed b os h = all_weaker (λ (o : Open). In o.batch handed) (λ (o : Open). In o.batch (handed ++ b ∷ [])) (λ o i. In-append_left o.batch handed (b ∷ []) i) os h
+opens_more handed b os h = all_weaker (λ (o : Open). In o.batch handed)
+    (λ (o : Open). In o.batch (handed ++ b ∷ [])) (λ o i. In-append_left o.batch handed (b ∷ []) i)
+    os h
 
-pub opens_last : (handed : List Batch) (o : Open) (os : List Open) → In o.batch handed → OpenIn handed os → OpenIn handed (os ++ o ∷ [])
+pub opens_last : (handed : List Batch) (o : Open) (os : List Open) → In o.batch handed
+    → OpenIn handed os → OpenIn handed (os ++ o ∷ [])
 opens_last handed o [] i h = (i, tt)
 opens_last handed o (x ∷ os) i h = (h.0, opens_last handed o os i h.1)
 
-pub sound_handed : (drawn : List ℕ) (t t' : Partition) (b : Batch) (handed : List Batch) (h : History) → Sound drawn t handed h → HandsOver t t' b → Sound drawn t' (handed ++ b ∷ []) h
+pub sound_handed : (drawn : List ℕ) (t t' : Partition) (b : Batch) (handed : List Batch)
+    (h : History) → Sound drawn t handed h → HandsOver t t' b → Sound drawn t' (handed ++ b ∷ []) h
 unfolding handed_over_in
-sound_handed drawn t t' b handed h s o = subst (λ (u : Partition). Sound drawn u (handed ++ b ∷ []) h) (sym o.after_is) (subst (λ (c : Batch). Sound drawn (handed_over_in o.request t (o.front ∷ o.rest)) (handed ++ c ∷ []) h) (sym o.batch) it)
+sound_handed drawn t t' b handed h s o = subst
+    (λ (u : Partition). Sound drawn u (handed ++ b ∷ []) h) (sym o.after_is)
+    (subst (λ (c : Batch). Sound drawn (handed_over_in o.request t (o.front ∷ o.rest)) (handed
+    ++ c ∷ []) h) (sym o.batch) it)
   where
     first : AllByRecursion HasItems (o.front ∷ o.rest)
     first = subst (AllByRecursion HasItems) o.queue s.queue
 
     some : 0 < length (map body_of o.front.items)
-    some = let size : length (map body_of o.front.items) ≡ length o.front.items = length-map o.front.items body_of in let any : 0 < length o.front.items = first.0 in omega arith
+    some = let size : length (map body_of o.front.items)
+        ≡ length o.front.items = length-map o.front.items body_of
+        in let any : 0 < length o.front.items = first.0 in omega arith
 
     follows : Follows (sents handed) (new t o.front)
     follows = record { some_records = some; sequence = s.sequence }
@@ -147,25 +169,50 @@ sound_handed drawn t t' b handed h s o = subst (λ (u : Partition). Sound drawn 
     it : Sound drawn (handed_over_in o.request t (o.front ∷ o.rest)) (handed ++ new_batch t o.front ∷ []) h
     it = record {
       number = let n : t.next_number ≡ length handed = s.number in omega (arith, all, n);
-      sequence = let n : t.next_sequence ≡ count_under t.ids handed = s.sequence in let m : count_under t.ids (handed ++ new_batch t o.front ∷ []) ≡ count_under t.ids handed + length o.front.items = count_one_more (present_id t) handed (new_batch t o.front) refl in omega (arith, n, m);
-      in_sequence = subst AreInSequence (sym (one_more handed (new_batch t o.front))) (one_more_handed (sents handed) (new t o.front) s.in_sequence follows);
-      came = subst (λ (ss : List Sent). CameBy ss h) (sym (one_more handed (new_batch t o.front))) (came_of_more (sents handed) (new t o.front) h s.came);
-      numbers = λ x i. ⊎_elim (λ (j : In x handed). let n : x.number < length handed = s.numbers x j in omega (arith, all, n)) (λ (j : In x (new_batch t o.front ∷ [])). ⊎_elim (λ (same : x ≡ new_batch t o.front). let n : t.next_number ≡ length handed = s.number in let m : x.number ≡ t.next_number = ap (λ (y : Batch). y.number) same in omega (arith, all, n, m)) (λ (z : In x []). absurd (In-nil x z)) (In-cons x (new_batch t o.front) [] j)) (In-append_cases x handed (new_batch t o.front ∷ []) i);
-      under = λ x i. ⊎_elim (λ (j : In x handed). s.under x j) (λ (j : In x (new_batch t o.front ∷ [])). ⊎_elim (λ (same : x ≡ new_batch t o.front). subst (λ (y : Batch). In y.id t.ids) (sym same) s.present) (λ (z : In x []). absurd (In-nil x z)) (In-cons x (new_batch t o.front) [] j)) (In-append_cases x handed (new_batch t o.front ∷ []) i);
+      sequence = let n : t.next_sequence ≡ count_under t.ids handed = s.sequence
+          in let m : count_under t.ids (handed ++ new_batch t o.front ∷ [])
+          ≡ count_under t.ids handed + length o.front.items = count_one_more (present_id t) handed
+          (new_batch t o.front) refl in omega (arith, n, m);
+      in_sequence = subst AreInSequence (sym (one_more handed (new_batch t o.front)))
+          (one_more_handed (sents handed) (new t o.front) s.in_sequence follows);
+      came = subst (λ (ss : List Sent). CameBy ss h) (sym (one_more handed (new_batch t o.front)))
+          (came_of_more (sents handed) (new t o.front) h s.came);
+      numbers = λ x i. ⊎_elim (λ (j : In x handed). let n : x.number < length handed = s.numbers x j
+          in omega (arith, all, n)) (λ (j : In x (new_batch t o.front ∷ [])). ⊎_elim
+          (λ (same : x ≡ new_batch t o.front). let n : t.next_number ≡ length handed = s.number
+          in let m : x.number ≡ t.next_number = ap (λ (y : Batch). y.number) same
+          in omega (arith, all, n, m)) (λ (z : In x []). absurd (In-nil x z))
+          (In-cons x (new_batch t o.front) [] j))
+          (In-append_cases x handed (new_batch t o.front ∷ []) i);
+      under = λ x i. ⊎_elim (λ (j : In x handed). s.under x j)
+          (λ (j : In x (new_batch t o.front ∷ [])). ⊎_elim
+          (λ (same : x ≡ new_batch t o.front). subst (λ (y : Batch). In y.id t.ids) (sym same)
+          s.present) (λ (z : In x []). absurd (In-nil x z)) (In-cons x (new_batch t o.front) [] j))
+          (In-append_cases x handed (new_batch t o.front ∷ []) i);
       present = s.present;
       drawn_all = s.drawn_all;
-      opens = opens_last (handed ++ new_batch t o.front ∷ []) (opened_in o.request t o.front) t.open_batches (In-append_right (new_batch t o.front) handed (new_batch t o.front ∷ []) (In-head (new_batch t o.front) [])) (opens_more handed (new_batch t o.front) t.open_batches s.opens);
+      opens = opens_last (handed ++ new_batch t o.front ∷ []) (opened_in o.request t o.front)
+          t.open_batches (In-append_right (new_batch t o.front) handed (new_batch t o.front ∷ [])
+          (In-head (new_batch t o.front) []))
+          (opens_more handed (new_batch t o.front) t.open_batches s.opens);
       queue = first.1;
     }
 
 -- ---- a fresh id
 
-count_none : (id : ℕ) (handed : List Batch) → ((b : Batch) → In b handed → b.id ≡ id → ⊥) → count_of (pos id) (records_of (sents handed)) ≡ 0
+count_none : (id : ℕ) (handed : List Batch) → ((b : Batch) → In b handed → b.id ≡ id → ⊥)
+    → count_of (pos id) (records_of (sents handed)) ≡ 0
 count_none id [] h = refl
 count_none id (b ∷ handed) h =
-    let rest : count_of (pos id) (records_of (sents handed)) ≡ 0 = count_none id handed (λ c i e. h c (In-tail c b handed i) e) in
-    let parts : count_of (pos id) (records_of (sents (b ∷ handed))) ≡ count_of (pos id) (stored_of (sent_of b)) + count_of (pos id) (records_of (sents handed)) = count_of-append (pos id) (stored_of (sent_of b)) (records_of (sents handed)) in
-    let none : count_of (pos id) (stored_of (sent_of b)) ≡ 0 = count_of_others (pos id) (pos b.id) (map body_of b.items) (ids_apart b.id id (at_test (b.id == id) refl)) in
+    let rest : count_of (pos id) (records_of (sents handed))
+    ≡ 0 = count_none id handed (λ c i e. h c (In-tail c b handed i) e) in
+    let parts : count_of (pos id) (records_of (sents (b ∷ handed)))
+    ≡ count_of (pos id) (stored_of (sent_of b)) + count_of (pos id)
+    (records_of (sents handed)) = count_of-append (pos id) (stored_of (sent_of b))
+    (records_of (sents handed)) in
+    let none : count_of (pos id) (stored_of (sent_of b))
+    ≡ 0 = count_of_others (pos id) (pos b.id) (map body_of b.items)
+    (ids_apart b.id id (at_test (b.id == id) refl)) in
     omega (arith, rest, parts, none)
   where
     at_test : (t : Bool) → (b.id == id) ≡ t → (b.id == id) ≡ false
@@ -176,16 +223,23 @@ last_is : (o : Option ℕ) (ids : List ℕ) (id : ℕ) → last_or o (ids ++ id 
 last_is o [] id = refl
 last_is o (x ∷ ids) id = last_is (Some x) ids id
 
-pub sound_fresh : (drawn : List ℕ) (id : ℕ) (t : Partition) (handed : List Batch) (h : History) → Sound drawn t handed h → In id drawn → (In id t.ids → ⊥) → Sound drawn (under id t) handed h
+pub sound_fresh : (drawn : List ℕ) (id : ℕ) (t : Partition) (handed : List Batch) (h : History)
+    → Sound drawn t handed h → In id drawn → (In id t.ids → ⊥) → Sound drawn (under id t) handed h
 sound_fresh drawn id t handed h s known fresh = record {
   number = s.number;
-  sequence = sym (ap (λ (o : Option ℕ). count_of (pos (unwrap_or o 0)) (records_of (sents handed))) (last_is None t.ids id) ∙ count_none id handed (λ b i e. fresh (subst (λ (n : ℕ). In n t.ids) e (s.under b i))));
+  sequence = sym (ap (λ (o : Option ℕ). count_of (pos (unwrap_or o 0)) (records_of (sents handed)))
+      (last_is None t.ids id) ∙ count_none id handed
+      (λ b i e. fresh (subst (λ (n : ℕ). In n t.ids) e (s.under b i))));
   in_sequence = s.in_sequence;
   came = s.came;
   numbers = s.numbers;
   under = λ b i. In-append_left b.id t.ids (id ∷ []) (s.under b i);
-  present = subst (λ (o : Option ℕ). In (unwrap_or o 0) (t.ids ++ id ∷ [])) (sym (last_is None t.ids id)) (In-append_right id t.ids (id ∷ []) (In-head id []));
-  drawn_all = λ i at. ⊎_elim (λ (j : In i t.ids). s.drawn_all i j) (λ (j : In i (id ∷ [])). ⊎_elim (λ (same : i ≡ id). subst (λ (n : ℕ). In n drawn) (sym same) known) (λ (z : In i []). absurd (In-nil i z)) (In-cons i id [] j)) (In-append_cases i t.ids (id ∷ []) at);
+  present = subst (λ (o : Option ℕ). In (unwrap_or o 0) (t.ids ++ id ∷ []))
+      (sym (last_is None t.ids id)) (In-append_right id t.ids (id ∷ []) (In-head id []));
+  drawn_all = λ i at. ⊎_elim (λ (j : In i t.ids). s.drawn_all i j)
+      (λ (j : In i (id ∷ [])). ⊎_elim (λ (same : i ≡ id). subst (λ (n : ℕ). In n drawn) (sym same)
+      known) (λ (z : In i []). absurd (In-nil i z)) (In-cons i id [] j))
+      (In-append_cases i t.ids (id ∷ []) at);
   opens = s.opens;
   queue = s.queue;
 }

@@ -1,7 +1,7 @@
 -- No item is told twice, and the memory that is used is that of the items that are not told.
-use Rattle.std.proofs.Common.{◌≡◌, ℕ, zero, suc, ◌+◌, ◌<◌, ◌≤◌, Bool, true, false, not, cond, List, [], ◌∷◌, ◌++◌, length, take, drop, map, refl, sym, ap, ◌∙◌, subst, arith}
-use Rattle.std.specs.Prelude.{flat_map, sum, if◌then◌else◌, ◌==◌, ◌&&◌, ◌||◌}
-use Rattle.std.specs.List.{AllByRecursion, IsDistinct, filter, range_with_len}
+use Rattle.std.proofs.Common.{◌≡◌, ℕ, zero, suc, ◌+◌, ◌<◌, ◌≤◌, Bool, true, false, not, cond, List, [], ◌∷◌, ◌++◌, length, take, drop, refl, sym, ap, ◌∙◌, subst, arith}
+use Rattle.std.specs.Prelude.{flat_map, if◌then◌else◌, ◌==◌, ◌&&◌, ◌||◌}
+use Rattle.std.specs.List.{AllByRecursion, IsDistinct, filter, range_with_len, sum_by}
 use Rattle.std.proofs.lemmas.Bool.{eqb-true, eq-eqb}
 use Rattle.std.proofs.lemmas.List.{take-append-drop}
 use Rattle.kp_accum.specs.declared.item.Item.{Item}
@@ -211,8 +211,8 @@ used_by_untold w a =
     let same : weigh (λ i. if not (is_among i (told_items w)) then charge_of i else 0) (flat_map untold w.core.partitions) ≡ weigh charge_of (flat_map untold w.core.partitions) =
     weigh_agrees f charge_of (flat_map untold w.core.partitions) (all_weaker (λ i. 1 ≤ weigh (count_of i) (flat_map untold w.core.partitions)) (λ i. (if not (is_among i (told_items w)) then charge_of i else 0) ≡ charge_of i) untold_is (flat_map untold w.core.partitions) (weighs_itself (flat_map untold w.core.partitions))) in
     let left : weigh (λ i. if not (is_among i (told_items w)) then charge_of i else 0) (items_taken w) ≡ weigh charge_of (filter (λ i. not (is_among i (told_items w))) (items_taken w)) = weigh_tested charge_of told (items_taken w) in
-    let before : sum (map charge_of (flat_map untold w.core.partitions)) ≡ weigh charge_of (flat_map untold w.core.partitions) = sum_is charge_of (flat_map untold w.core.partitions) in
-    let after : sum (map charge_of (filter (λ i. not (is_among i (told_items w))) (items_taken w))) ≡ weigh charge_of (filter (λ i. not (is_among i (told_items w))) (items_taken w)) = sum_is charge_of (filter told (items_taken w)) in
+    let before : sum_by charge_of (flat_map untold w.core.partitions) ≡ weigh charge_of (flat_map untold w.core.partitions) = sum_is charge_of (flat_map untold w.core.partitions) in
+    let after : sum_by charge_of (filter (λ i. not (is_among i (told_items w))) (items_taken w)) ≡ weigh charge_of (filter (λ i. not (is_among i (told_items w))) (items_taken w)) = sum_is charge_of (filter told (items_taken w)) in
     omega (arith, all, none, same, left, before, after)
   where
     untold_is : (i : Item) → 1 ≤ weigh (count_of i) (flat_map untold w.core.partitions) → (if not (is_among i (told_items w)) then charge_of i else 0) ≡ charge_of i

@@ -12,11 +12,11 @@ use Rattle.kp_world.proofs.Schedules.{told, feed}
 -- and acknowledged.
 pub a_lost_batch_holds_the_window :
     told (record default_config { batch_size = 0 }) 1 1 (
-        feed 97 ++ feed 98 ++ feed 99 ++ feed 100 ++ feed 101 ++ feed 102 ++ feed 103 ++ Send
-        ∷ Send ∷ Deliver 0 Judged ∷ Reply 0 ∷ Send ∷ Send ∷ Send ∷ Send ∷ Send ∷ Send
-        ∷ Deliver 1 Judged ∷ Deliver 2 Judged ∷ Deliver 3 Judged ∷ Deliver 4 Judged
-        ∷ Deliver 5 Judged ∷ Reply 2 ∷ Reply 3 ∷ Reply 4 ∷ Reply 5 ∷ Send ∷ Now 30000 ∷ Tick
-        ∷ Now 30100 ∷ Send ∷ Deliver 6 Judged ∷ Reply 6 ∷ Send ∷ [])
+    feed 97 ++ feed 98 ++ feed 99 ++ feed 100 ++ feed 101 ++ feed 102 ++ feed 103 ++ Send
+    ∷ Send ∷ Deliver 0 Judged ∷ Reply 0 ∷ Send ∷ Send ∷ Send ∷ Send ∷ Send ∷ Send
+    ∷ Deliver 1 Judged ∷ Deliver 2 Judged ∷ Deliver 3 Judged ∷ Deliver 4 Judged
+    ∷ Deliver 5 Judged ∷ Reply 2 ∷ Reply 3 ∷ Reply 4 ∷ Reply 5 ∷ Send ∷ Now 30000 ∷ Tick
+    ∷ Now 30100 ∷ Send ∷ Deliver 6 Judged ∷ Reply 6 ∷ Send ∷ [])
     ≡ codes "sent 0 0:0+1\nidle\nanswer 0 0:0@0\nreport 0 0 0 delivered 0\nsent 1 0:1+1\n"
     ++ codes "sent 2 0:2+1\nsent 3 0:3+1\nsent 4 0:4+1\nsent 5 0:5+1\nidle\nanswer 1 0:0@1\n"
     ++ codes "answer 2 0:0@2\nanswer 3 0:0@3\nanswer 4 0:0@4\nanswer 5 0:0@5\n"

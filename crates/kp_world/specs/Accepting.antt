@@ -1,9 +1,10 @@
 -- Accepting a record, and taking it: the oldest accepted item that was not taken is appended.
-use Rattle.std.specs.Prelude.{ℕ, ◌+◌, Bool, List, [], ◌∷◌, ◌++◌, length, filter, Option, Some, None, slice_set, slice_index, slice_index_or, nat_lt, ◌==◌, ◌||◌, if◌then◌else◌}
+use Rattle.std.specs.Prelude.{Result, Ok, Err, ℕ, ◌+◌, Bool, List, [], ◌∷◌, ◌++◌, length, filter, Option, Some, None, slice_set, slice_index, slice_index_or, nat_lt, ◌==◌, ◌||◌, if◌then◌else◌}
 use Rattle.kp_batch.specs.declared.record.Record.{Record}
+use Rattle.kp_accum.specs.declared.fault.AppendFault.{AppendFault}
 use Rattle.kp_accum.specs.declared.item.Item.{Item}
 use Rattle.kp_accum.specs.Queue.{charge_of}
-use Rattle.kp_core.specs.Appending.{TakenIn, BufferFull, Appended, appended}
+use Rattle.kp_core.specs.Appending.{appended}
 use Rattle.kp_core.specs.Records.{Core, Told}
 use Rattle.kp_world.specs.Line.{Closed, Large, Empty, Full}
 use Rattle.kp_world.specs.Noting.{noted, only_noted}
@@ -55,9 +56,9 @@ abbrev pub with_taken : ℕ → World → World
 with_taken s w = record w { taken = slice_set w.taken s (taken_by s w + 1) }
 
 -- An item that is refused for want of memory is still to be taken.
-abbrev pub taking_of : ℕ → Core → List Told → Appended → World → World
-taking_of s core told TakenIn w = noted core [] told (with_taken s w)
-taking_of s core told BufferFull w = noted core (Full s ∷ []) told w
+abbrev pub taking_of : ℕ → Core → List Told → Result (Unit {0}) AppendFault → World → World
+taking_of s core told (Ok done) w = noted core [] told (with_taken s w)
+taking_of s core told (Err refusal) w = noted core (Full s ∷ []) told w
 
 abbrev pub taking : ℕ → Option Item → World → World
 taking s None w = only_noted (Empty s ∷ []) w

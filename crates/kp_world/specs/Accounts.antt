@@ -1,6 +1,6 @@
 -- What became of the items that were accepted: handed over, told, or still waiting.
-use Rattle.std.specs.Prelude.{◌≡◌, ℕ, ◌<◌, Bool, true, false, List, [], ◌∷◌, map, filter, flat_map, sum, length, take, drop, not, ◌==◌, ◌&&◌, ◌||◌}
-use Rattle.std.specs.List.{AllByRecursion, IsDistinct, list_any, range_with_len}
+use Rattle.std.specs.Prelude.{◌≡◌, ℕ, ◌<◌, Bool, true, false, List, [], ◌∷◌, map, filter, flat_map, length, take, drop, not, ◌==◌, ◌&&◌, ◌||◌}
+use Rattle.std.specs.List.{AllByRecursion, IsDistinct, list_any, range_with_len, sum_by}
 use Rattle.kp_accum.specs.declared.item.Item.{Item}
 use Rattle.kp_accum.specs.Queue.{charge_of}
 use Rattle.kp_core.specs.declared.outcome.Outcome.{Outcome}
@@ -104,4 +104,4 @@ items_taken w =
 -- The memory that is used is what the items take that were taken and are not told.
 abbrev pub IsUsedByUntold : World → Type 0
 IsUsedByUntold w =
-    used w.core ≡ sum (map charge_of (filter (λ i. not (is_among i (told_items w))) (items_taken w)))
+    used w.core ≡ sum_by charge_of (filter (λ i. not (is_among i (told_items w))) (items_taken w))

@@ -64,7 +64,7 @@ sending w core _ = noted core (Idle ∷ []) [] w
 abbrev pub reply_line : ℕ → Result Replied CoreFault → List Line
 reply_line j (Ok r) = if r.known then [] else Stale j ∷ []
 reply_line j (Err fault.Ended) = Ended ∷ []
-reply_line j (Err fault) = []
+reply_line j (Err refusal) = []
 
 abbrev pub replying : ℕ → Option Reply → World → Option World
 replying j None w = None

@@ -1,5 +1,5 @@
 -- A packet at the broker: what any honest one may do with it.
-use Rattle.std.specs.Prelude.{◌≡◌, ◌⊎◌, ℕ, pos, negsuc, List, [], ◌∷◌, ◌++◌, slice_index_or, slice_set}
+use Rattle.std.specs.Prelude.{◌≡◌, ◌⊎◌, ℕ, pos, List, [], ◌∷◌, ◌++◌, slice_index_or, slice_set}
 use Rattle.std.specs.List.{AllByRecursion}
 use Rattle.kp_log.specs.BrokerStep.{BrokerStep}
 use Rattle.kp_log.specs.History.{History, empty_history}
@@ -40,20 +40,20 @@ PartsDeliver before (x ∷ xs) [] after = ⊥
 abbrev pub IsFresh : List ℕ → ℕ → Type 0
 IsFresh ids id = AllByRecursion (λ drawn. drawn ≡ id → ⊥) ids
 
--- No id was drawn and an error is answered, or a fresh one was drawn and it or an error is
--- answered.
 abbrev pub IsError : ReplyContent → Type 0
-IsError (Id code id) = (code ≡ pos 0 → ⊥) × (id ≡ negsuc 0)
+IsError (Id code id) = code ≡ pos 0 → ⊥
 IsError (Batches parts) = ⊥
 
 abbrev pub given : ℕ → ReplyContent
 given id = Id (pos 0) (pos id)
 
+-- No id was drawn and an error is answered, or a fresh one was drawn and it or an error is
+-- answered.
 abbrev pub IdDelivers : List ℕ → ReplyContent → List ℕ → Type 0
 IdDelivers before content after =
     (IsError content × (after ≡ before))
     ⊎ ((id : ℕ) × IsFresh before id × (after ≡ before ++ id ∷ [])
-        × (IsError content ⊎ (content ≡ given id)))
+    × (IsError content ⊎ (content ≡ given id)))
 
 -- ---- a packet
 

@@ -11,4 +11,3 @@ pub mod Replay
 pub mod Lines
 pub mod Text
 pub mod Accounts
-pub mod OutcomeRule

@@ -5,8 +5,7 @@ ghost use Rattle.kp_accum.specs.declared.config.Config.{Config};
 ghost use Rattle.kp_world.specs.declared.event.Event.{Event};
 ghost use Rattle.kp_world.specs.declared.event.Event.TheVariants as event;
 ghost use Rattle.kp_world.specs.Accounts.{AreAccountedFor, AreInOrder, ArePlaced, IsNeverSent, IsToldOnce, IsUsedByUntold};
-ghost use Rattle.kp_world.specs.OutcomeRule.{TellsByRule};
-ghost use Rattle.kp_world.specs.Run.{Steps, Run, IsReached};
+ghost use Rattle.kp_world.specs.Run.{Run, IsReached};
 ghost use Rattle.kp_world.specs.World.{World};
 
 /// Of each sender and partition the items that were handed over are, in order and once, those that were accepted and
@@ -52,9 +51,4 @@ pub fn each_item_is_told_once()
 pub fn memory_is_of_what_is_not_told()
     ensures { (c : Config) (partitions senders : ℕ) (es : List Event) (w : World)
         → IsReached c partitions senders es w → IsUsedByUntold w }
-{}
-
-/// Whatever an event tells, of any world, is a case of the rule of outcomes.
-pub fn each_outcome_is_by_the_rule()
-    ensures { (w : World) (e : Event) (v : World) → Steps w e v → TellsByRule w e v }
 {}

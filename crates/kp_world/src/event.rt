@@ -23,21 +23,33 @@ pub enum Event {
         value: Blob,
     },
     /// The oldest record that a sender had accepted and that was not taken is appended.
-    Take { sender: u64 },
+    Take {
+        sender: u64,
+    },
     /// The clock shows this moment; it may go back.
-    Now { moment: u64 },
+    Now {
+        moment: u64,
+    },
     /// The producer looks at the clock.
     Tick,
     /// The next request goes out, as a packet.
     Send,
     /// A packet comes to the broker, whose answer becomes a reply. The packet may come again.
-    Deliver { packet: u64, treatment: Treatment },
+    Deliver {
+        packet: u64,
+        treatment: Treatment,
+    },
     /// A reply comes to the producer, and may come again.
-    Reply { reply: u64 },
+    Reply {
+        reply: u64,
+    },
     /// The connection is gone.
     Drop,
     /// Another producer has so many records appended.
-    Other { partition: u64, count: u64 },
+    Other {
+        partition: u64,
+        count: u64,
+    },
     /// No record is accepted from now on, and what was accepted is to be sent.
     Close,
     /// The producer gives up what is left.

@@ -1,0 +1,529 @@
+-- Whatever is told of an item is a case of the outcome rule.
+use Rattle.std.proofs.Common.{◌≡◌, ℕ, suc, zero, ◌+◌, ◌<◌, Bool, true, false, not, cond, List, [], ◌∷◌, ◌++◌, length, get_or, map, ℤ, pos, Some, None, refl, sym, ap, ◌∙◌, subst, arith, Contains}
+use Rattle.std.specs.Prelude.{Option, if◌then◌else◌, ◌||◌, find, filter, flat_map, slice_get, ◌+ℤ◌}
+use Rattle.std.specs.List.{AllByRecursion, enumerate_from, list_any}
+use Rattle.std.specs.Ordering.{int_eq}
+use Rattle.std.proofs.lemmas.Bool.Decides.{Decides-int_eq}
+use Rattle.kp_accum.specs.declared.config.Config.{Config}
+use Rattle.kp_accum.specs.declared.item.Item.{Item}
+use Rattle.kp_accum.specs.Queue.{Pending}
+use Rattle.kp_accum.specs.Ready.{is_late}
+use Rattle.kp_frames.specs.declared.produce.PartitionProduceResponse.{PartitionProduceResponse}
+use Rattle.kp_frames.specs.declared.produce.ProduceResponse.{ProduceResponse}
+use Rattle.kp_frames.specs.declared.producer_id.InitProducerIdResponse.{InitProducerIdResponse}
+use Rattle.kp_frames.specs.declared.response.Response.{Response}
+use Rattle.kp_frames.specs.declared.response.ResponseBody.{ResponseBody}
+use Rattle.kp_frames.specs.declared.response.ResponseBody.TheVariants as body
+use Rattle.kp_frames.specs.declared.fault.FrameFault.TheVariants.{Mismatch}
+use Rattle.kp_core.specs.declared.outcome.Outcome.{Outcome}
+use Rattle.kp_core.specs.declared.outcome.Outcome.TheVariants.{Delivered, DeliveredNoOffset, Unknown, Rejected, Unsent}
+use Rattle.kp_core.specs.declared.outcome.Reason.{Reason}
+use Rattle.kp_core.specs.declared.outcome.Reason.TheVariants as reason
+use Rattle.kp_core.specs.declared.verdict.Verdict.{Verdict}
+use Rattle.kp_core.specs.declared.verdict.Verdict.TheVariants.{Stored, Duplicate, Retry, Reject}
+use Rattle.kp_core.specs.Answered.{verdict_of, without_attempt, settled, answered_if, answered}
+use Rattle.kp_core.specs.Appending.{Appends, turned_away, refused, queued, would_exhaust, appended}
+use Rattle.kp_core.specs.Attempts.{awaits, awaiting, dropped_batch, without_attempts, dropped}
+use Rattle.kp_core.specs.Awaited.{Awaited, Nothing, Batches, Id, id_awaited, or_id, awaited}
+use Rattle.kp_core.specs.Fence.{told_given_up, fenced, given_up, end_of, ended}
+use Rattle.kp_core.specs.Mismatch.{Answers, is_for, answers_for, answers_of, answer_batches, answers_id}
+use Rattle.kp_core.specs.Causes.{IsAtLateFront, IsOpenIn, IsQueuedIn, IsAnswered}
+use Rattle.kp_core.specs.OutcomeRule.{Call, Append, Tick, Reply, End, told_by, MayTell}
+use Rattle.kp_core.specs.Partitions.{partition_at, items_open, items_queued}
+use Rattle.kp_core.specs.Records.{Open, Partition, Request, IdRequest, Core, Told, Step}
+use Rattle.kp_core.specs.Replies.{Replies, first_answered, answering, batches_answered, batches_replied, id_answered, replied_to, replied, after_end, known, faulty}
+use Rattle.kp_core.specs.Telling.{told_all, told_at_each, told_at}
+use Rattle.kp_core.specs.Tick.{Ticks, is_open_late, late_front, expired_front, passed, has_timed_out, ticked_from, not_ticked, ticked}
+
+-- ---- lists
+
+contains_head : {A : Type 0} (x : A) (xs : List A) → Contains (x ∷ xs) x
+contains_head x xs = (0, omega arith, refl)
+
+contains_tail : {A : Type 0} (x y : A) (xs : List A) → Contains xs x → Contains (y ∷ xs) x
+contains_tail x y xs h = (suc h.0, omega (arith, h.1), h.2)
+
+all_append : {A : Type 0} (P : A → Type 0) (xs ys : List A) → AllByRecursion P xs
+    → AllByRecursion P ys → AllByRecursion P (xs ++ ys)
+all_append P [] ys h k = k
+all_append P (x ∷ xs) ys h k = (h.0, all_append P xs ys h.1 k)
+
+all_contained : {A : Type 0} (P : A → Type 0) (xs : List A) → ((x : A) → Contains xs x → P x) → AllByRecursion P xs
+all_contained P [] f = tt
+all_contained P (x ∷ xs) f =
+    (f x (contains_head x xs), all_contained P xs (λ y h. f y (contains_tail y x xs h)))
+
+all_flat_map : {A B : Type 0} (P : B → Type 0) (g : A → List B) (xs : List A)
+    → ((x : A) → Contains xs x → AllByRecursion P (g x)) → AllByRecursion P (flat_map g xs)
+all_flat_map P g [] f = tt
+all_flat_map P g (x ∷ xs) f = all_append P (g x) (flat_map g xs) (f x (contains_head x xs))
+    (all_flat_map P g xs (λ y h. f y (contains_tail y x xs h)))
+
+-- at the places of a list
+all_placed : {A : Type 0} (P : A → Type 0) (xs : List A)
+    → ((n : ℕ) (x : A) → slice_get xs n ≡ Some x → P x) → AllByRecursion P xs
+all_placed P [] f = tt
+all_placed P (x ∷ xs) f = (f 0 x refl, all_placed P xs (λ n y e. f (suc n) y e))
+
+all_enumerated : {A B : Type 0} (P : B → Type 0) (g : (ℕ × A) → B) (k : ℕ) (xs : List A)
+    → ((n : ℕ) (x : A) → slice_get xs n ≡ Some x → P (g (k + n, x)))
+    → AllByRecursion P (map g (enumerate_from k xs))
+all_enumerated P g k [] f = tt
+all_enumerated {A = A} P g k (x ∷ xs) f =
+    let here : k + 0 ≡ k = omega arith in
+    (subst (λ (m : ℕ). P (g (m, x))) here (f 0 x refl), all_enumerated P g (k + 1) xs later)
+  where
+    later : (n : ℕ) (y : A) → slice_get xs n ≡ Some y → P (g (k + 1 + n, y))
+    later n y e = let same : k + suc n ≡ k + 1 + n = omega arith
+        in subst (λ (m : ℕ). P (g (m, y))) same (f (suc n) y e)
+
+found : {A : Type 0} (test : A → Bool) (xs : List A) (x : A) → find test xs ≡ Some x → Contains xs x × (test x ≡ true)
+found test [] x e = absurd cc
+found {A = A} test (y ∷ ys) x e = at_test (test y) refl e (λ (e' : find test ys ≡ Some x). found test ys x e')
+  where
+    at_test : (b : Bool) → test y ≡ b → cond b (Some y) (find test ys) ≡ Some x
+        → (find test ys ≡ Some x → Contains ys x × (test x ≡ true)) → Contains (y ∷ ys) x
+        × (test x ≡ true)
+    at_test true is e' later = let same : y ≡ x = cc
+        in (
+          subst (λ (z : A). Contains (y ∷ ys) z) same (contains_head y ys),
+          subst
+              (λ (z : A). test z ≡ true) same is,
+        )
+    at_test false is e' later = let h = later e' in (contains_tail x y ys h.0, h.1)
+
+filtered : {A : Type 0} (test : A → Bool) (xs : List A) (x : A) → Contains (filter test xs) x → Contains xs x
+filtered test [] x h = absurd (omega (arith, h.1))
+filtered {A = A} test (y ∷ ys) x h = at_test (test y) h (λ (h' : Contains (filter test ys) x). filtered test ys x h')
+  where
+    at_place : (k : ℕ) → k < length (y ∷ filter test ys) → get_or (y ∷ filter test ys) k x ≡ x
+        → (Contains (filter test ys) x → Contains ys x) → Contains (y ∷ ys) x
+    at_place zero l e later = (0, omega arith, e)
+    at_place (suc k) l e later = contains_tail x y ys (later (k, omega arith, e))
+
+    at_test : (b : Bool) → Contains (cond b (y ∷ filter test ys) (filter test ys)) x
+        → (Contains (filter test ys) x → Contains ys x) → Contains (y ∷ ys) x
+    at_test true h' later = at_place h'.0 h'.1 h'.2 later
+    at_test false h' later = contains_tail x y ys (later h')
+
+first_filtered : {A : Type 0} (test : A → Bool) (xs : List A) (x : A) (rest : List A)
+    → filter test xs ≡ x ∷ rest → Contains xs x × (test x ≡ true)
+first_filtered test [] x rest e = absurd cc
+first_filtered {A = A} test (y ∷ ys) x rest e = at_test (test y) refl e
+    (λ (e' : filter test ys ≡ x ∷ rest). first_filtered test ys x rest e')
+  where
+    at_test : (b : Bool) → test y ≡ b → cond b (y ∷ filter test ys) (filter test ys) ≡ x ∷ rest
+        → (filter test ys ≡ x ∷ rest → Contains ys x × (test x ≡ true)) → Contains (y ∷ ys) x
+        × (test x ≡ true)
+    at_test true is e' later = let same : y ≡ x = cc
+        in (
+          subst (λ (z : A). Contains (y ∷ ys) z) same (contains_head y ys),
+          subst
+              (λ (z : A). test z ≡ true) same is,
+        )
+    at_test false is e' later = let h = later e' in (contains_tail x y ys h.0, h.1)
+
+-- ---- what is told of a partition
+
+all_told : (P : Told → Type 0) (outcome : Outcome) (items : List Item)
+    → AllByRecursion (λ (i : Item). P (record { item = i; outcome = outcome })) items
+    → AllByRecursion P (told_all outcome items)
+all_told P outcome [] h = tt
+all_told P outcome (i ∷ items) h = (h.0, all_told P outcome items h.1)
+
+open_items : (Q : Item → Type 0) (t : Partition) → ((i : Item) → IsOpenIn t i → Q i)
+    → AllByRecursion Q (items_open t.open_batches)
+open_items Q t f = all_flat_map Q (λ o. o.batch.items) t.open_batches
+    (λ o c. all_contained Q o.batch.items (λ i h. f i (record { batch = o; is_open = c; has = h })))
+
+queued_items : (Q : Item → Type 0) (t : Partition) → ((i : Item) → IsQueuedIn t i → Q i)
+    → AllByRecursion Q (items_queued t.queue)
+queued_items Q t f = all_flat_map Q (λ b. b.items) t.queue
+    (λ b c. all_contained Q b.items (λ i h. f i (record { batch = b; is_queued = c; has = h })))
+
+all_given_up : (P : Told → Type 0) (why : Reason) (t : Partition)
+    → ((i : Item) → IsOpenIn t i → P (record { item = i; outcome = Unknown }))
+    → ((i : Item) → IsQueuedIn t i → P (record { item = i; outcome = Unsent why }))
+    → AllByRecursion P (told_given_up why t)
+all_given_up P why t f g = all_append P (told_all Unknown (items_open t.open_batches))
+    (told_all (Unsent why) (items_queued t.queue))
+    (all_told P Unknown (items_open t.open_batches)
+    (open_items (λ (i : Item). P (record { item = i; outcome = Unknown })) t f))
+    (all_told P (Unsent why) (items_queued t.queue)
+    (queued_items (λ (i : Item). P (record { item = i; outcome = Unsent why })) t g))
+
+all_places : (P : Told → Type 0) (g : Partition → List Told) (ts : List Partition)
+    → ((p : ℕ) → AllByRecursion P (g (partition_at p ts))) → AllByRecursion P (flat_map g ts)
+all_places P g [] f = tt
+all_places P g (t ∷ ts) f =
+    all_append P (g t) (flat_map g ts) (f 0) (all_places P g ts (λ p. f (suc p)))
+
+-- ---- the end
+
+abbrev MayBeTold : Core → Call → Told → Type 0
+MayBeTold s call t = MayTell s call t.item t.outcome
+
+abbrev end_step : Core → Bool → Step (Unit {0})
+end_step s b = if b then record { after = s; told = []; answer = tt } else record
+    { after = end_of s; told = told_at_each given_up s; answer = tt }
+
+at_end : (s : Core) → AllByRecursion (MayBeTold s End) (ended s).told
+unfolding MayTell ended told_at_each given_up
+at_end s = at_test s.ended
+  where
+    at_test : (b : Bool) → AllByRecursion (MayBeTold s End) (end_step s b).told
+    at_test true = tt
+    at_test false = all_places (MayBeTold s End) (λ t. (given_up t).told) s.partitions
+        (λ p. all_given_up (MayBeTold s End) reason.Ended (partition_at p s.partitions)
+        (λ i h. (p, h)) (λ i h. (p, h)))
+
+-- ---- an append
+
+abbrev room_step : Item → Core → Bool → Appends
+room_step i s b = if b then refused s else queued i s
+
+abbrev fence_step : Item → Core → Bool → Appends
+fence_step i s b = if b then turned_away reason.Fenced i s else room_step i s (would_exhaust i s)
+
+abbrev append_step : Item → Core → Bool → Appends
+append_step i s b = if b then turned_away reason.Ended i s else fence_step i s
+    (partition_at i.partition s.partitions).fenced
+
+at_append : (i : Item) (s : Core) → AllByRecursion (MayBeTold s (Append i)) (appended i s).told
+unfolding MayTell appended
+at_append i s = at_end_of s.ended refl
+  where
+    at_room : (b : Bool) → AllByRecursion (MayBeTold s (Append i)) (room_step i s b).told
+    at_room true = tt
+    at_room false = tt
+
+    at_fence : s.ended ≡ false → (b : Bool) → (partition_at i.partition s.partitions).fenced ≡ b
+        → AllByRecursion (MayBeTold s (Append i)) (fence_step i s b).told
+    at_fence e true is = ((refl, e, is), tt)
+    at_fence e false is = at_room (would_exhaust i s)
+
+    at_end_of : (b : Bool) → s.ended ≡ b → AllByRecursion (MayBeTold s (Append i)) (append_step i s b).told
+    at_end_of true is = ((refl, is), tt)
+    at_end_of false is = at_fence is (partition_at i.partition s.partitions).fenced refl
+
+-- ---- a tick
+
+same_any : (c : Config) (now at : ℕ) (os : List Open)
+    → list_any (is_open_late c now) (map (dropped_batch at) os) ≡ list_any (is_open_late c now) os
+same_any c now at [] = refl
+same_any c now at (o ∷ os) = ap (λ (b : Bool). is_open_late c now o || b) (same_any c now at os)
+
+same_items : (at : ℕ) (os : List Open) → items_open (map (dropped_batch at) os) ≡ items_open os
+same_items at [] = refl
+same_items at (o ∷ os) = ap (λ (is : List Item). o.batch.items ++ is) (same_items at os)
+
+abbrev told_passed : Config → ℕ → Partition → Bool → List Told
+told_passed c now t b = if b then told_given_up reason.Fenced t else told_all
+    (Unsent reason.Expired) (items_queued (late_front c now t.queue))
+
+passed_tells : (c : Config) (now : ℕ) (t : Partition) → (passed c now t).told
+    ≡ told_passed c now t (list_any (is_open_late c now) t.open_batches)
+unfolding passed fenced
+passed_tells c now t = at_test (list_any (is_open_late c now) t.open_batches)
+  where
+    at_test : (b : Bool) → (if b then fenced t else expired_front c now t).told ≡ told_passed c now t b
+    at_test true = refl
+    at_test false = refl
+
+dropped_tells : (c : Config) (now at : ℕ) (t : Partition)
+    → (passed c now (without_attempts at t)).told ≡ (passed c now t).told
+dropped_tells c now at t =
+    passed_tells c now (without_attempts at t)
+    ∙ ap (told_passed c now (without_attempts at t)) (same_any c now at t.open_batches)
+    ∙ at_test (list_any (is_open_late c now) t.open_batches)
+    ∙ sym (passed_tells c now t)
+  where
+    at_test : (b : Bool) → told_passed c now (without_attempts at t) b ≡ told_passed c now t b
+    at_test true = ap (λ (is : List Item). told_all Unknown is
+        ++ told_all (Unsent reason.Fenced) (items_queued t.queue)) (same_items at t.open_batches)
+    at_test false = refl
+
+all_dropped_tell : (c : Config) (now at : ℕ) (ts : List Partition)
+    → flat_map (λ t. (passed c now t).told) (map (without_attempts at) ts)
+    ≡ flat_map (λ t. (passed c now t).told) ts
+all_dropped_tell c now at [] = refl
+all_dropped_tell c now at (t ∷ ts) =
+    ap (λ (xs : List Told). xs ++ flat_map (λ t. (passed c now t).told)
+    (map (without_attempts at) ts)) (dropped_tells c now at t)
+    ∙ ap (λ (xs : List Told). (passed c now t).told ++ xs) (all_dropped_tell c now at ts)
+
+late_contained : (c : Config) (now : ℕ) (q : List Pending) (b : Pending)
+    → Contains (late_front c now q) b → IsAtLateFront c now q b
+unfolding late_front
+late_contained c now [] b h = absurd (omega (arith, h.1))
+late_contained c now (x ∷ q) b h = at_test (is_late c now x) refl h
+    (λ (h' : Contains (late_front c now q) b). late_contained c now q b h')
+  where
+    at_place : is_late c now x ≡ true → (k : ℕ) → k < length (x ∷ late_front c now q)
+        → get_or (x ∷ late_front c now q) k b ≡ b
+        → (Contains (late_front c now q) b → IsAtLateFront c now q b) → IsAtLateFront c now (x ∷ q) b
+    at_place is zero l e later = record {
+      earlier = [];
+      later = q;
+      split = ap (λ (y : Pending). y ∷ q) e;
+      ahead = tt;
+      late = subst (λ (y : Pending). is_late c now y ≡ true) e is;
+    }
+    at_place is (suc k) l e later =
+        let r : IsAtLateFront c now q b = later (k, omega arith, e) in
+        record {
+          earlier = x ∷ r.earlier;
+          later = r.later;
+          split = ap (λ (ys : List Pending). x ∷ ys) r.split;
+          ahead = (is, r.ahead);
+          late = r.late;
+        }
+
+    at_test : (t : Bool) → is_late c now x ≡ t → Contains (if t then x ∷ late_front c now q else []) b
+        → (Contains (late_front c now q) b → IsAtLateFront c now q b) → IsAtLateFront c now (x ∷ q) b
+    at_test true is h' later = at_place is h'.0 h'.1 h'.2 later
+    at_test false is h' later = absurd (omega (arith, h'.1))
+
+passed_all : (s : Core) (now p : ℕ)
+    → AllByRecursion (MayBeTold s (Tick now))
+    (passed s.config now (partition_at p s.partitions)).told
+unfolding MayTell
+passed_all s now p = subst (AllByRecursion (MayBeTold s (Tick now)))
+    (sym (passed_tells s.config now (partition_at p s.partitions)))
+    (at_test (list_any (is_open_late s.config now) (partition_at p s.partitions).open_batches) refl)
+  where
+    at_test : (b : Bool) → list_any (is_open_late s.config now)
+        (partition_at p s.partitions).open_batches ≡ b
+        → AllByRecursion (MayBeTold s (Tick now))
+        (told_passed s.config now (partition_at p s.partitions) b)
+    at_test true is = all_given_up (MayBeTold s (Tick now)) reason.Fenced
+        (partition_at p s.partitions) (λ i h. (p, is, h)) (λ i h. (p, is, h))
+    at_test false is = all_told (MayBeTold s (Tick now)) (Unsent reason.Expired)
+        (items_queued (late_front s.config now (partition_at p s.partitions).queue))
+        (all_flat_map (λ (i : Item). MayBeTold s (Tick now)
+        (record { item = i; outcome = Unsent reason.Expired })) (λ b. b.items)
+        (late_front s.config now (partition_at p s.partitions).queue)
+        (λ b c. all_contained (λ (i : Item). MayBeTold s (Tick now)
+        (record { item = i; outcome = Unsent reason.Expired })) b.items
+        (λ i h. (
+          p,
+          record {
+            batch = b;
+            front = late_contained s.config now (partition_at p s.partitions).queue b c;
+            has = h;
+          },
+        ))))
+
+abbrev now_step : ℕ → Core → Bool → Ticks
+now_step now s b = if b then ticked_from now true (dropped now s) else ticked_from now false s
+
+abbrev tick_step : ℕ → Core → Bool → Ticks
+tick_step now s b = if b then not_ticked s else now_step now s (has_timed_out now s)
+
+at_tick : (now : ℕ) (s : Core) → AllByRecursion (MayBeTold s (Tick now)) (ticked now s).told
+unfolding ticked told_at_each dropped
+at_tick now s = at_end_of s.ended
+  where
+    all : AllByRecursion (MayBeTold s (Tick now)) (flat_map (λ t. (passed s.config now t).told) s.partitions)
+    all = all_places (MayBeTold s (Tick now)) (λ t. (passed s.config now t).told) s.partitions (passed_all s now)
+
+    at_time : (b : Bool) → AllByRecursion (MayBeTold s (Tick now)) (now_step now s b).told
+    at_time true = subst (AllByRecursion (MayBeTold s (Tick now)))
+        (sym (all_dropped_tell s.config now now s.partitions)) all
+    at_time false = all
+
+    at_end_of : (b : Bool) → AllByRecursion (MayBeTold s (Tick now)) (tick_step now s b).told
+    at_end_of true = tt
+    at_end_of false = at_time (has_timed_out now s)
+
+-- ---- a reply
+
+named : (k : ℤ) (s : Core) (r : Request) → awaited k s ≡ Batches r → pos r.correlation ≡ k
+unfolding awaited
+named k s r e = at_request (find (λ (q : Request). int_eq (pos q.correlation) k) s.requests) refl e
+  where
+    at_test : (q : IdRequest) (b : Bool) → (if b then Id q else Nothing) ≡ Batches r → pos r.correlation ≡ k
+    at_test q true e' = absurd cc
+    at_test q false e' = absurd cc
+
+    at_option : (o : Option IdRequest) → id_awaited k o ≡ Batches r → pos r.correlation ≡ k
+    at_option None e' = absurd cc
+    at_option (Some q) e' = at_test q (int_eq (pos q.correlation) k) e'
+
+    at_request : (o : Option Request)
+        → find (λ (q : Request). int_eq (pos q.correlation) k) s.requests ≡ o → or_id k s o
+        ≡ Batches r → pos r.correlation ≡ k
+    at_request (Some q) is e' =
+        let same : q ≡ r = cc in
+        let test : int_eq (pos q.correlation) k
+        ≡ true = (found (λ (q : Request). int_eq (pos q.correlation) k) s.requests q is).1 in
+        subst (λ (x : Request). pos x.correlation ≡ k) same ((Decides-int_eq (pos q.correlation) k).0 test)
+    at_request None is e' = at_option s.id_request e'
+
+open_without : (k : ℕ) (t : Partition) (i : Item) → IsOpenIn (without_attempt k t) i → IsOpenIn t i
+open_without k t i h = record {
+  batch = h.batch;
+  is_open = filtered (λ o. not (awaits k o))
+      t.open_batches h.batch h.is_open;
+  has = h.has;
+}
+
+at_settled : (now k p : ℕ) (s : Core) (response : Response) (o : Open)
+    (a : PartitionProduceResponse) → IsAnswered s response p o a
+    → (v : Verdict) → verdict_of a.error_code ≡ v
+    → AllByRecursion (MayBeTold s (Reply now response))
+    (settled now k (partition_at p s.partitions) o a v).told
+unfolding MayTell fenced
+at_settled now k p s response o a is Stored v = all_enumerated (MayBeTold s (Reply now response))
+    (λ x. record { item = x.1; outcome = Delivered (a.base_offset +ℤ pos x.0) }) 0 o.batch.items one
+  where
+    one : (n : ℕ) (i : Item) → slice_get o.batch.items n ≡ Some i
+        → MayBeTold s (Reply now response)
+        (record { item = i; outcome = Delivered (a.base_offset +ℤ pos (0 + n)) })
+    one n i e = let same : 0 + n ≡ n = omega arith
+        in (
+          record {
+            partition = p;
+            batch = o;
+            answer = a;
+            answered = is;
+            means = v;
+            place =
+                n;
+            item = e;
+          },
+          ap (λ (m : ℕ). a.base_offset +ℤ pos m) same,
+        )
+at_settled now k p s response o a is Duplicate v =
+    all_told (MayBeTold s (Reply now response)) DeliveredNoOffset o.batch.items
+    (all_placed (λ (i : Item). MayBeTold s (Reply now response)
+    (record { item = i; outcome = DeliveredNoOffset })) o.batch.items
+    (λ n i e. record { partition = p; batch = o; answer = a; answered = is; means = v; place = n; item = e }))
+at_settled now k p s response o a is Retry v = tt
+at_settled now k p s response o a is Reject v =
+    all_append (MayBeTold s (Reply now response)) (told_all (Rejected a.error_code) o.batch.items)
+    (told_given_up reason.Fenced (without_attempt k (partition_at p s.partitions)))
+    (all_told (MayBeTold s (Reply now response)) (Rejected a.error_code) o.batch.items
+    (all_placed (λ (i : Item). MayBeTold s (Reply now response)
+    (record { item = i; outcome = Rejected a.error_code })) o.batch.items
+    (λ n i e. (
+      record {
+        partition = p;
+        batch = o;
+        answer = a;
+        answered = is;
+        means = v;
+        place =
+            n;
+        item = e;
+      },
+      refl,
+    ))))
+    (all_given_up (MayBeTold s (Reply now response)) reason.Fenced (without_attempt k (partition_at p s.partitions))
+    (λ i h. (
+      p,
+      record { batch = o; answer = a; answered = is; means = v },
+      open_without k
+          (partition_at p s.partitions) i h,
+    ))
+    (λ i h. (
+      p,
+      record { batch = o; answer = a; answered = is; means = v },
+      record
+          { batch = h.batch; is_queued = h.is_queued; has = h.has },
+    )))
+
+at_answered : (now k p : ℕ) (s : Core) (response : Response) (a : PartitionProduceResponse)
+    → ((o : Open) → awaiting k (partition_at p s.partitions) ≡ Some o → IsAnswered s response p o a)
+    → AllByRecursion (MayBeTold s (Reply now response)) (answered now k (partition_at p s.partitions) a).told
+unfolding answered
+at_answered now k p s response a f = at_option (awaiting k (partition_at p s.partitions)) refl
+  where
+    at_option : (o : Option Open) → awaiting k (partition_at p s.partitions) ≡ o
+        → AllByRecursion (MayBeTold s (Reply now response))
+        (answered_if now k (partition_at p s.partitions) a o).told
+    at_option None is = tt
+    at_option (Some o) is = at_settled now k p s response o a (f o is) (verdict_of a.error_code) refl
+
+abbrev batches_step : ℕ → Request → Core → Answers → Bool → Replies
+batches_step now r s answers b = if b then batches_answered now r answers s else faulty Mismatch s
+
+at_batches : (now : ℕ) (s : Core) (response : Response) (r : Request) (produce : ProduceResponse)
+    → pos r.correlation ≡ response.correlation → response.body ≡ body.Produce produce
+    → (o : Option Answers) → answers_of s.names.topic produce.topics ≡ o
+    → AllByRecursion (MayBeTold s (Reply now response)) (batches_replied now r s o).told
+unfolding told_at
+at_batches now s response r produce name is None e = tt
+at_batches now s response r produce name is (Some answers) e =
+    at_test (answer_batches r.correlation r.partitions s.partitions answers)
+  where
+    at_answers : (p : ℕ) (xs : Answers) → answers_for p answers ≡ xs
+        → AllByRecursion (MayBeTold s (Reply now response))
+        (first_answered now r.correlation (partition_at p s.partitions) xs).told
+    at_answers p [] e' = tt
+    at_answers p (a ∷ rest) e' = at_answered now r.correlation p s response a told
+      where
+        told : (o : Open) → awaiting r.correlation (partition_at p s.partitions) ≡ Some o
+            → IsAnswered s response p o a
+        told o h =
+            let here = found (awaits r.correlation) (partition_at p s.partitions).open_batches o h in
+            let first = first_filtered (is_for p) answers a rest e' in
+            record {
+              is_open = here.0;
+              correlation = r.correlation;
+              named = name;
+              in_flight = here.1;
+              produce = produce;
+              body_is = is;
+              answers = answers;
+              topic = e;
+              has = first.0;
+              partition = (Decides-int_eq a.partition (pos p)).0 first.1;
+            }
+
+    at_test : (b : Bool) → AllByRecursion (MayBeTold s (Reply now response)) (batches_step now r s answers b).told
+    at_test true = all_flat_map (MayBeTold s (Reply now response))
+        (λ p. (answering now r.correlation answers p (partition_at p s.partitions)).told)
+        r.partitions (λ p c. at_answers p (answers_for p answers) refl)
+    at_test false = tt
+
+abbrev id_step : ℕ → IdRequest → InitProducerIdResponse → Core → Bool → Replies
+id_step now q x s b = if b then known (id_answered now q x s) [] else faulty Mismatch s
+
+abbrev reply_step : ℕ → Response → Core → Bool → Replies
+reply_step now response s b =
+    if b then after_end s else replied_to now s (awaited response.correlation s) response.body
+
+at_reply : (now : ℕ) (response : Response) (s : Core)
+    → AllByRecursion (MayBeTold s (Reply now response)) (replied now response s).told
+unfolding replied
+at_reply now response s = at_end_of s.ended
+  where
+    at_id : (q : IdRequest) (x : InitProducerIdResponse) (b : Bool)
+        → AllByRecursion (MayBeTold s (Reply now response)) (id_step now q x s b).told
+    at_id q x true = tt
+    at_id q x false = tt
+
+    at_body : (who : Awaited) → awaited response.correlation s ≡ who → (content : ResponseBody)
+        → response.body ≡ content → AllByRecursion (MayBeTold s (Reply now response))
+        (replied_to now s who content).told
+    at_body Nothing is content e = tt
+    at_body (Batches r) is (body.Produce x) e = at_batches now s response r x
+        (named response.correlation s r is) e (answers_of s.names.topic x.topics) refl
+    at_body (Batches r) is (body.Metadata x) e = tt
+    at_body (Batches r) is (body.InitProducerId x) e = tt
+    at_body (Id q) is (body.Produce x) e = tt
+    at_body (Id q) is (body.Metadata x) e = tt
+    at_body (Id q) is (body.InitProducerId x) e = at_id q x (answers_id x)
+
+    at_end_of : (b : Bool) → AllByRecursion (MayBeTold s (Reply now response)) (reply_step now response s b).told
+    at_end_of true = tt
+    at_end_of false = at_body (awaited response.correlation s) refl response.body refl
+
+-- ---- any call
+
+pub each_outcome : (s : Core) (call : Call) → AllByRecursion (λ t. MayTell s call t.item t.outcome) (told_by s call)
+each_outcome s (Append i) = at_append i s
+each_outcome s (Tick now) = at_tick now s
+each_outcome s (Reply now response) = at_reply now response s
+each_outcome s End = at_end s
