@@ -6,12 +6,12 @@ use Rattle.kp_log.specs.History.{empty_history}
 use Rattle.kp_core.specs.Records.{Batch}
 use Rattle.kp_world.specs.declared.event.Event.{Event}
 use Rattle.kp_world.specs.Accepting.{accepted_by, for_partition}
-use Rattle.kp_world.specs.Accounts.{AreAccountedFor, ArePlaced, IsNeverSent, IsToldOnce, IsUsedByUntold}
+use Rattle.kp_world.specs.Accounts.{AreAccountedFor, AreInOrder, ArePlaced, IsNeverSent, IsToldOnce, IsUsedByUntold}
 use Rattle.kp_world.specs.Run.{IsReached}
 use Rattle.kp_world.specs.World.{World, opening}
 use Rattle.kp_world.proofs.AccountLemmas.{IsAccounted}
 use Rattle.kp_world.proofs.AccountRunLemmas.{accounts_run, accounts_opening}
-use Rattle.kp_world.proofs.AccountedLemmas.{accounted_for, handed_is_sent, numbers_are}
+use Rattle.kp_world.proofs.AccountedLemmas.{accounted_for, in_order, handed_is_sent, numbers_are}
 use Rattle.kp_world.proofs.ToldLemmas.{told_once, used_by_untold}
 use Rattle.kp_world.proofs.GateLemmas.{follows_run}
 
@@ -48,3 +48,6 @@ once c partitions senders es w r = told_once w (reached c partitions senders es 
 
 pub memory : (c : Config) (partitions senders : ℕ) (es : List Event) (w : World) → IsReached c partitions senders es w → IsUsedByUntold w
 memory c partitions senders es w r = used_by_untold w (reached c partitions senders es w r)
+
+pub ordered : (c : Config) (partitions senders : ℕ) (es : List Event) (w : World) (s p : ℕ) → IsReached c partitions senders es w → p < partitions → AreInOrder s p w
+ordered c partitions senders es w s p r l = in_order s p w (reached c partitions senders es w r) (within c partitions senders es w p r l)

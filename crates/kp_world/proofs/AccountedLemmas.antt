@@ -9,10 +9,10 @@ use Rattle.kp_accum.specs.declared.item.Item.{Item}
 use Rattle.kp_core.specs.Partitions.{partition_at, items_open, items_queued, untold}
 use Rattle.kp_core.specs.Records.{Partition}
 use Rattle.kp_world.specs.Accepting.{accepted_by, for_partition, taken_by}
-use Rattle.kp_world.specs.Accounts.{is_same, is_among, of_sender, items_handed, told_unsent, not_taken, queued_at, has_left, AreAccountedFor}
+use Rattle.kp_world.specs.Accounts.{is_same, is_among, of_sender, items_handed, told_unsent, not_taken, queued_at, has_left, AreAccountedFor, AreRising, AreInOrder}
 use Rattle.kp_world.specs.World.{World}
 use Rattle.kp_world.proofs.AccountLemmas.{taken_for, IsAccounted, partition-append}
-use Rattle.kp_world.proofs.FateLemmas.{all_front, all_back, all_weaker, all_filter, filter_agrees, filter_all, filter_none, filter_twice, has_number, is_out, AreNumbered, below_is_out, in_itself, fates_handed, fates_apart}
+use Rattle.kp_world.proofs.FateLemmas.{all_front, all_back, all_weaker, all_filter, filter_agrees, filter_all, filter_none, filter_twice, has_number, is_out, AreNumbered, below_is_out, in_itself, fates_rise, fates_handed, Rising, fates_apart}
 
 -- ---- of one sender and partition
 
@@ -202,3 +202,25 @@ handed_is_sent p w a l = by_sender (λ s i. is_among i (told_unsent w) ≡ false
             → AllByRecursion (λ i. is_among i (told_unsent w) ≡ false) items
         zip s [] apart of = tt
         zip s (i ∷ items) apart of = (among_of s p i of.0 (told_unsent w) ∙ apart.0, zip s items apart.1 of.1)
+
+-- ---- in order, and once
+
+rising_front : (xs ys : List Item) → Rising (xs ++ ys) → Rising xs
+rising_front [] ys h = tt
+rising_front (x ∷ xs) ys h = (all_front (λ (i : Item). x.number < i.number) xs ys h.0, rising_front xs ys h.1)
+
+numbers_above : (n : ℕ) (items : List Item) → AllByRecursion (λ (i : Item). n < i.number) items → AllByRecursion (λ (m : ℕ). n < m) (map (λ (i : Item). i.number) items)
+numbers_above n [] h = tt
+numbers_above n (i ∷ items) h = (h.0, numbers_above n items h.1)
+
+numbers_rise : (items : List Item) → Rising items → AreRising (map (λ (i : Item). i.number) items)
+numbers_rise [] h = tt
+numbers_rise (i ∷ items) h = (numbers_above i.number items h.0, numbers_rise items h.1)
+
+pub in_order : (s p : ℕ) (w : World) → IsAccounted w → p < length w.core.partitions → AreInOrder s p w
+in_order s p w a l =
+    let t = taken_for s p w.accepted w.taken in
+    let q = of_sender s (queued_at p w) in
+    let h = of_sender s (items_handed p w) in
+    let u = of_sender s (for_partition p (told_unsent w)) in
+    numbers_rise h (rising_front h q (fates_rise t q h u (a.fates s p l)))

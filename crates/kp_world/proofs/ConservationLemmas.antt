@@ -35,7 +35,7 @@ use Rattle.kp_world.proofs.WeightLemmas.{weigh, weigh-append, weigh_filter, weig
 abbrev pub items_told : List Told → List Item
 items_told told = map (λ t. t.item) told
 
-abbrev told_as : Outcome → Item → Told
+abbrev pub told_as : Outcome → Item → Told
 told_as outcome i = record { item = i; outcome = outcome }
 
 pub told_all_items : (outcome : Outcome) (items : List Item) → items_told (told_all outcome items) ≡ items
@@ -80,11 +80,11 @@ attempts_of k o = if awaits k o then 1 else 0
 abbrev pub attempt_count : ℕ → List Open → ℕ
 attempt_count k os = weigh (attempts_of k) os
 
-open_map : (f : Open → Open) → ((o : Open) → (f o).batch ≡ o.batch) → (os : List Open) → items_open (map f os) ≡ items_open os
+pub open_map : (f : Open → Open) → ((o : Open) → (f o).batch ≡ o.batch) → (os : List Open) → items_open (map f os) ≡ items_open os
 open_map f same [] = refl
 open_map f same (o ∷ os) = ap (λ (b : Batch). b.items ++ items_open (map f os)) (same o) ∙ ap (λ r. o.batch.items ++ r) (open_map f same os)
 
-all_open_filter : (P : Item → Type 0) (test : Open → Bool) (os : List Open) → AllByRecursion P (items_open os) → AllByRecursion P (items_open (filter test os))
+pub all_open_filter : (P : Item → Type 0) (test : Open → Bool) (os : List Open) → AllByRecursion P (items_open os) → AllByRecursion P (items_open (filter test os))
 all_open_filter P test [] h = tt
 all_open_filter P test (o ∷ os) h = at_test (test o) (all_open_filter P test os (all_back P o.batch.items (items_open os) h))
   where

@@ -3,10 +3,10 @@ use Rattle.std.proofs.Common.{◌≡◌, ℕ, Bool, true, false, List, [], ◌�
 use Rattle.std.specs.Prelude.{Option, Result, Ok, Err, if◌then◌else◌, slice_get, ◌&&◌}
 use Rattle.std.proofs.lemmas.List.{length-set}
 use Rattle.kp_log.specs.History.{History, with_others}
-use Rattle.kp_accum.specs.declared.fault.AppendFault.{AppendFault}
 use Rattle.kp_accum.specs.declared.item.Item.{Item}
 use Rattle.kp_core.specs.declared.fault.CoreFault.{CoreFault}
 use Rattle.kp_core.specs.declared.fault.CoreFault.TheVariants as fault
+use Rattle.kp_accum.specs.declared.fault.AppendFault.{AppendFault}
 use Rattle.kp_core.specs.Appending.{appended}
 use Rattle.kp_core.specs.Flush.{flushed}
 use Rattle.kp_core.specs.Next.{Sending, Demand, Produce, InitProducerId}
@@ -68,7 +68,7 @@ follows_taking s None w = record { count = refl; logs = refl; shut = λ h. h; ac
 follows_taking s (Some i) w = at_answer (appended i w.core).answer
   where
     at_answer : (x : Result (Unit {0}) AppendFault) → Follows w (taking_of s (appended i w.core).after (appended i w.core).told x w)
-    at_answer (Ok y) = record { count = refl; logs = refl; shut = λ h. h; accepted = λ h. refl }
+    at_answer (Ok done) = record { count = refl; logs = refl; shut = λ h. h; accepted = λ h. refl }
     at_answer (Err refusal) = record { count = refl; logs = refl; shut = λ h. h; accepted = λ h. refl }
 
 follows_sending : (w : World) (core : Core) (answer : Result (Option Outgoing) CoreFault) → Follows w (sending w core answer)

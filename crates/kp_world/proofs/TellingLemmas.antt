@@ -214,11 +214,11 @@ core_closed s = at_end s.ended
     at_end true = core_nothing s
     at_end false = record { count = refl; each = λ p h. part_same (partition_at p s.partitions); requests = λ P h. h; correlation = refl; there = tt }
 
-all_flat_places : (P : Told → Type 0) (f : Partition → List Told) (ts : List Partition) (d : Partition) → ((q : ℕ) → q < length ts → AllByRecursion P (f (get_or ts q d))) → AllByRecursion P (flat_map f ts)
+pub all_flat_places : (P : Told → Type 0) (f : Partition → List Told) (ts : List Partition) (d : Partition) → ((q : ℕ) → q < length ts → AllByRecursion P (f (get_or ts q d))) → AllByRecursion P (flat_map f ts)
 all_flat_places P f [] d h = tt
 all_flat_places P f (t ∷ ts) d h = all_both P (f t) (flat_map f ts) (h 0 (omega arith)) (all_flat_places P f ts d (λ q l. h (suc q) (omega (arith, l))))
 
-all_flat : (P : Told → Type 0) (g : ℕ → List Told) → ((q : ℕ) → AllByRecursion P (g q)) → (ps : List ℕ) → AllByRecursion P (flat_map g ps)
+pub all_flat : (P : Told → Type 0) (g : ℕ → List Told) → ((q : ℕ) → AllByRecursion P (g q)) → (ps : List ℕ) → AllByRecursion P (flat_map g ps)
 all_flat P g h [] = tt
 all_flat P g h (q ∷ ps) = all_both P (g q) (flat_map g ps) (h q) (all_flat P g h ps)
 

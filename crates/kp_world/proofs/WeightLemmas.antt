@@ -1,9 +1,8 @@
 -- Lists weighed: the sum of what each element weighs.
 use Rattle.std.proofs.Common.{◌≡◌, ℕ, zero, suc, ◌+◌, ◌<◌, ◌≤◌, Bool, true, false, cond, List, [], ◌∷◌, ◌++◌, map, refl, sym, subst, arith}
-use Rattle.std.specs.Prelude.{flat_map, sum_by, ◌==◌}
-use Rattle.std.specs.List.{AllByRecursion, filter, range_with_len}
+use Rattle.std.specs.Prelude.{flat_map, ◌==◌}
+use Rattle.std.specs.List.{AllByRecursion, filter, fold, range_with_len, sum_by}
 use Rattle.std.proofs.lemmas.Bool.{eqb-true, eq-eqb}
-use Rattle.std.proofs.lemmas.List.Sums.{sum_by-cons}
 
 abbrev pub weigh : {A : Type 0} → (A → ℕ) → List A → ℕ
 weigh f [] = 0
@@ -29,10 +28,17 @@ pub weigh_agrees : {A : Type 0} (f g : A → ℕ) (xs : List A) → AllByRecursi
 weigh_agrees f g [] h = refl
 weigh_agrees f g (x ∷ xs) h = let rest : weigh f xs ≡ weigh g xs = weigh_agrees f g xs h.1 in let here : f x ≡ g x = h.0 in omega (arith, rest, here)
 
+folded : {A : Type 0} (f : A → ℕ) (n : ℕ) (xs : List A) → fold (λ (a : ℕ) x. a + f x) n xs ≡ n + weigh f xs
+folded f n [] = omega arith
+folded f n (x ∷ xs) =
+    let rest : fold (λ (a : ℕ) y. a + f y) (n + f x) xs ≡ n + f x + weigh f xs = folded f (n + f x) xs in
+    omega (arith, rest)
+
 -- the sum of what is weighed
 pub sum_is : {A : Type 0} (f : A → ℕ) (xs : List A) → sum_by f xs ≡ weigh f xs
-sum_is f [] = refl
-sum_is f (x ∷ xs) = omega (arith, sum_by-cons f x xs, sum_is f xs)
+sum_is f xs =
+    let all : fold (λ (a : ℕ) y. a + f y) 0 xs ≡ 0 + weigh f xs = folded f 0 xs in
+    omega (arith, all)
 
 -- ---- places of which one grows
 

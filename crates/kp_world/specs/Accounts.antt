@@ -1,6 +1,6 @@
 -- What became of the items that were accepted: handed over, told, or still waiting.
-use Rattle.std.specs.Prelude.{◌≡◌, ℕ, Bool, true, false, List, map, filter, flat_map, sum_by, length, take, drop, not, ◌==◌, ◌&&◌, ◌||◌}
-use Rattle.std.specs.List.{AllByRecursion, IsDistinct, list_any, range_with_len}
+use Rattle.std.specs.Prelude.{◌≡◌, ℕ, ◌<◌, Bool, true, false, List, [], ◌∷◌, map, filter, flat_map, length, take, drop, not, ◌==◌, ◌&&◌, ◌||◌}
+use Rattle.std.specs.List.{AllByRecursion, IsDistinct, list_any, range_with_len, sum_by}
 use Rattle.kp_accum.specs.declared.item.Item.{Item}
 use Rattle.kp_accum.specs.Queue.{charge_of}
 use Rattle.kp_core.specs.declared.outcome.Outcome.{Outcome}
@@ -77,6 +77,14 @@ pub record ArePlaced (s p : ℕ) (w : World) : Type 0 where
   pub senders : AllByRecursion (λ i. i.sender ≡ s) (accepted_by s w)
   pub numbers : map (λ i. i.number) (for_partition p (accepted_by s w))
       ≡ range_with_len 0 (length (for_partition p (accepted_by s w)))
+
+-- Of each sender the items were handed over in the order of their numbers, and each once.
+abbrev pub AreRising : List ℕ → Type 0
+AreRising [] = Unit {0}
+AreRising (n ∷ ns) = AllByRecursion (λ m. n < m) ns × AreRising ns
+
+abbrev pub AreInOrder : ℕ → ℕ → World → Type 0
+AreInOrder s p w = AreRising (map (λ i. i.number) (of_sender s (items_handed p w)))
 
 -- No item that was told Unsent was handed over.
 abbrev pub IsNeverSent : ℕ → World → Type 0

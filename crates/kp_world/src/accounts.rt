@@ -4,7 +4,7 @@ ghost use Rattle.std.specs.Prelude.{◌≡◌, ◌<◌, ◌∷◌, ℕ, List};
 ghost use Rattle.kp_accum.specs.declared.config.Config.{Config};
 ghost use Rattle.kp_world.specs.declared.event.Event.{Event};
 ghost use Rattle.kp_world.specs.declared.event.Event.TheVariants as event;
-ghost use Rattle.kp_world.specs.Accounts.{AreAccountedFor, ArePlaced, IsNeverSent, IsToldOnce, IsUsedByUntold};
+ghost use Rattle.kp_world.specs.Accounts.{AreAccountedFor, AreInOrder, ArePlaced, IsNeverSent, IsToldOnce, IsUsedByUntold};
 ghost use Rattle.kp_world.specs.Run.{Run, IsReached};
 ghost use Rattle.kp_world.specs.World.{World};
 
@@ -13,6 +13,12 @@ ghost use Rattle.kp_world.specs.World.{World};
 pub fn what_was_accepted_is_accounted_for()
     ensures { (c : Config) (partitions senders : ℕ) (es : List Event) (w : World) (s p : ℕ)
         → IsReached c partitions senders es w → p < partitions → AreAccountedFor s p w }
+{}
+
+/// They are handed over in the order of their numbers, each once.
+pub fn items_are_handed_over_in_order_and_once()
+    ensures { (c : Config) (partitions senders : ℕ) (es : List Event) (w : World) (s p : ℕ)
+        → IsReached c partitions senders es w → p < partitions → AreInOrder s p w }
 {}
 
 /// An item's number is its place among those that its sender had accepted for its partition; so numbers tell them
