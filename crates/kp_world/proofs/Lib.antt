@@ -21,3 +21,4 @@ pub mod GoodLemmas
 pub mod RequestLemmas
 pub mod DeliveryLemmas
 pub mod ReplayLemmas
+pub mod LeavingLemmas
