@@ -22,3 +22,4 @@ pub mod RequestLemmas
 pub mod DeliveryLemmas
 pub mod ReplayLemmas
 pub mod LeavingLemmas
+pub mod PrefixLemmas
