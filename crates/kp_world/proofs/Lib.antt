@@ -23,3 +23,4 @@ pub mod DeliveryLemmas
 pub mod ReplayLemmas
 pub mod LeavingLemmas
 pub mod PrefixLemmas
+pub mod FlightLemmas

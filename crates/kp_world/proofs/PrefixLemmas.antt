@@ -232,22 +232,21 @@ cut_kept ids t t' handed h e s cut l = record {
 
 -- ---- the log grows
 
--- the same of a log that has grown
-pub record Grown (t : Partition) (handed : List Batch) (h h' : History) (cut : Cut t handed h) : Type 0 where
-  pub cut' : Cut t handed h'
-  pub rest : (b : Batch) → In b cut'.rest → In b cut.rest
+-- a log with some records more
+pub record Grown (t : Partition) (handed : List Batch) (h h' : History) : Type 0 where
+  pub cut : Cut t handed h'
   pub more : List Stored
   pub records : h'.records ≡ h.records ++ more
 
 more_counted : (id : ℕ) (xs ys : List Stored) → 0 < count_of (pos id) xs → 0 < count_of (pos id) (xs ++ ys)
 more_counted id xs ys n = omega (arith, count_of-append (pos id) xs ys)
 
-pub grown_same : (t : Partition) (handed : List Batch) (h : History) (cut : Cut t handed h) → Grown t handed h h cut
-grown_same t handed h cut = record { cut' = cut; rest = λ b i. i; more = []; records = sym (append-nil h.records) }
+pub grown_same : (t : Partition) (handed : List Batch) (h : History) → Cut t handed h → Grown t handed h h
+grown_same t handed h cut = record { cut = cut; more = []; records = sym (append-nil h.records) }
 
-pub grown_others : (t : Partition) (handed : List Batch) (h : History) (cut : Cut t handed h) (n : ℕ) (body : Record) → Grown t handed h (with_others n body h) cut
-grown_others t handed h cut n body = record {
-  cut' = record {
+pub grown_others : (t : Partition) (handed : List Batch) (h : History) (n : ℕ) (body : Record) → Cut t handed h → Grown t handed h (with_others n body h)
+grown_others t handed h n body cut = record {
+  cut = record {
     landed = cut.landed;
     rest = cut.rest;
     split = cut.split;
@@ -258,15 +257,14 @@ grown_others t handed h cut n body = record {
     first = λ l. more_counted (present_id t) h.records (stored_as NO_ID (replicate n body)) (cut.first l);
     heard = λ a. more_counted (present_id t) h.records (stored_as NO_ID (replicate n body)) (cut.heard a);
   };
-  rest = λ b i. i;
   more = stored_as NO_ID (replicate n body);
   records = refl;
 }
 
 pub grown_appended : (ids : List ℕ) (t : Partition) (handed : List Batch) (h : History) → Sound ids t handed h → (cut : Cut t handed h) (b : Batch) (later : List Batch) → cut.rest ≡ b ∷ later → In b handed
-    → Grown t handed h (with_batch (sent_of b) h) cut
+    → Grown t handed h (with_batch (sent_of b) h)
 grown_appended ids t handed h s cut b later e i = record {
-  cut' = record {
+  cut = record {
     landed = cut.landed ++ b ∷ [];
     rest = later;
     split = cut.split ∙ ap (λ z. cut.landed ++ z) e ∙ sym (append_assoc cut.landed (b ∷ []) later);
@@ -278,7 +276,6 @@ grown_appended ids t handed h s cut b later e i = record {
     first = λ l. more_counted (present_id t) h.records (stored_of (sent_of b)) (cut.first (longer l));
     heard = λ a. more_counted (present_id t) h.records (stored_of (sent_of b)) (cut.heard a);
   };
-  rest = λ c j. behind c j;
   more = stored_of (sent_of b);
   records = refl;
 }
@@ -302,27 +299,19 @@ confirmed n false e = at_test (n == 0) refl e
     at_test true is e' = inl (eqb-true n 0 is)
     at_test false is e' = absurd cc
 
--- the same once this batch was handed over
-pub record CutHanded (t t' : Partition) (handed : List Batch) (b : Batch) (h : History) (cut : Cut t handed h) : Type 0 where
-  pub cut' : Cut t' (handed ++ b ∷ []) h
-  pub rest : (c : Batch) → In c cut'.rest → In c cut.rest ⊎ (c ≡ b)
-
-pub cut_handed : (ids : List ℕ) (t : Partition) (handed : List Batch) (h : History) (k : ℕ) (front : Pending) (queue : List Pending) → Sound ids t handed h → (cut : Cut t handed h) → is_confirmed t ≡ true
-    → CutHanded t (handed_over_in k t (front ∷ queue)) handed (new_batch t front) h cut
+pub cut_handed : (ids : List ℕ) (t : Partition) (handed : List Batch) (h : History) (k : ℕ) (front : Pending) (queue : List Pending) → Sound ids t handed h → Cut t handed h → is_confirmed t ≡ true
+    → Cut (handed_over_in k t (front ∷ queue)) (handed ++ new_batch t front ∷ []) h
 unfolding handed_over_in is_confirmed
 cut_handed ids t handed h k front queue s cut may = record {
-  cut' = record {
-    landed = cut.landed;
-    rest = cut.rest ++ new_batch t front ∷ [];
-    split = ap (λ z. z ++ new_batch t front ∷ []) cut.split ∙ append_assoc cut.landed cut.rest (new_batch t front ∷ []);
-    appended = cut.appended;
-    owned = cut.owned;
-    places = λ earlier later b e. place earlier later b (cut_cases earlier b later handed (new_batch t front ∷ []) (sym e));
-    current = λ b i. ⊎_elim (λ (j : In b cut.rest). cut.current b j) (λ (same : b ≡ new_batch t front). ap (λ (c : Batch). c.id) same) (one_left cut.rest (new_batch t front) b i);
-    first = first cut.rest refl;
-    heard = cut.heard;
-  };
-  rest = λ c i. one_left cut.rest (new_batch t front) c i;
+  landed = cut.landed;
+  rest = cut.rest ++ new_batch t front ∷ [];
+  split = ap (λ z. z ++ new_batch t front ∷ []) cut.split ∙ append_assoc cut.landed cut.rest (new_batch t front ∷ []);
+  appended = cut.appended;
+  owned = cut.owned;
+  places = λ earlier later b e. place earlier later b (cut_cases earlier b later handed (new_batch t front ∷ []) (sym e));
+  current = λ b i. ⊎_elim (λ (j : In b cut.rest). cut.current b j) (λ (same : b ≡ new_batch t front). ap (λ (c : Batch). c.id) same) (one_left cut.rest (new_batch t front) b i);
+  first = first cut.rest refl;
+  heard = cut.heard;
 }
   where
     at_end : (earlier more later : List Batch) (b : Batch) → new_batch t front ∷ [] ≡ more ++ b ∷ later → earlier ≡ handed ++ more → b.number ≡ length earlier
