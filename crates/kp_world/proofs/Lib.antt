@@ -24,3 +24,4 @@ pub mod ReplayLemmas
 pub mod LeavingLemmas
 pub mod PrefixLemmas
 pub mod FlightLemmas
+pub mod BrokerLemmas
