@@ -172,13 +172,13 @@ steady_passed_by p next e t handed h packets replies o k named = record {
 -- ---- an open batch goes out again
 
 -- what is open then: the batch that goes out, and the others as they were
-record SentAgain (k : ℕ) (os : List Open) (lowest x : Open) : Type 0 where
+pub record SentAgain (k : ℕ) (os : List Open) (lowest x : Open) : Type 0 where
   pub it : Open
   pub there : In it os
   pub batch : x.batch ≡ it.batch
   pub attempt : (x.attempt ≡ it.attempt) ⊎ ((x.batch ≡ lowest.batch) × (x.attempt ≡ InFlight k))
 
-again_from : (k : ℕ) (os : List Open) (lowest : Open) → find is_waiting os ≡ Some lowest → (x : Open) → In x (sent_again_in k os) → SentAgain k os lowest x
+pub again_from : (k : ℕ) (os : List Open) (lowest : Open) → find is_waiting os ≡ Some lowest → (x : Open) → In x (sent_again_in k os) → SentAgain k os lowest x
 unfolding sent_again_in
 again_from k [] lowest e x i = absurd cc
 again_from k (y ∷ os) lowest e x i = at_test (is_waiting y) e i (λ (e' : find is_waiting os ≡ Some lowest) (j : In x (sent_again_in k os)). again_from k os lowest e' x j)

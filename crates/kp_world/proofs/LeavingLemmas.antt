@@ -169,13 +169,13 @@ awaits_is k o e = at_attempt o.attempt e
     at_attempt (InFlight c) e' = ap InFlight (eqb-true c k e')
     at_attempt (Waiting since) e' = absurd cc
 
-pub found_in : (k : ℕ) (os : List Open) (o : Open) → find (awaits k) os ≡ Some o → In o os × (o.attempt ≡ InFlight k)
-found_in k [] o e = absurd cc
-found_in k (x ∷ os) o e = at_test (awaits k x) refl e (found_in k os o)
+pub found : {A : Type 0} (p : A → Bool) (xs : List A) (x : A) → find p xs ≡ Some x → In x xs × (p x ≡ true)
+found p [] x e = absurd cc
+found {A = A} p (y ∷ xs) x e = at_test (p y) refl e (found p xs x)
   where
-    at_test : (b : Bool) → awaits k x ≡ b → cond b (Some x) (find (awaits k) os) ≡ Some o → (find (awaits k) os ≡ Some o → In o os × (o.attempt ≡ InFlight k)) → In o (x ∷ os) × (o.attempt ≡ InFlight k)
-    at_test true is e' later = let same : x ≡ o = cc in (subst (λ (y : Open). In y (x ∷ os)) same (In-head x os), subst (λ (y : Open). y.attempt ≡ InFlight k) same (awaits_is k x is))
-    at_test false is e' later = let l = later e' in (In-tail o x os l.0, l.1)
+    at_test : (b : Bool) → p y ≡ b → cond b (Some y) (find p xs) ≡ Some x → (find p xs ≡ Some x → In x xs × (p x ≡ true)) → In x (y ∷ xs) × (p x ≡ true)
+    at_test true is e' later = let same : y ≡ x = cc in (subst (λ (z : A). In z (y ∷ xs)) same (In-head y xs), ap p (sym same) ∙ is)
+    at_test false is e' later = let l = later e' in (In-tail x y xs l.0, l.1)
 
 -- ---- the rules for a partition
 
@@ -319,7 +319,7 @@ leaves_answered P e now k t a only never = at_option (awaiting k t) refl
 
     at_option : (o : Option Open) → awaiting k t ≡ o → Leaves P e t (answered_if now k t a o).after
     at_option None is = leaves_same P e t
-    at_option (Some o) is = let found = found_in k t.open_batches o is in at_verdict o found.0 found.1 (verdict_of a.error_code) refl
+    at_option (Some o) is = let f = found (awaits k) t.open_batches o is in at_verdict o f.0 (awaits_is k o f.1) (verdict_of a.error_code) refl
 
 -- ---- the core
 

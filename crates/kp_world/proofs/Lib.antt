@@ -25,3 +25,4 @@ pub mod LeavingLemmas
 pub mod PrefixLemmas
 pub mod FlightLemmas
 pub mod BrokerLemmas
+pub mod LawfulLemmas
