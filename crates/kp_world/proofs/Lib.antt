@@ -26,3 +26,4 @@ pub mod PrefixLemmas
 pub mod FlightLemmas
 pub mod BrokerLemmas
 pub mod LawfulLemmas
+pub mod HearingLemmas
