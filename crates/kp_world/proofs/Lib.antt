@@ -27,3 +27,4 @@ pub mod FlightLemmas
 pub mod BrokerLemmas
 pub mod LawfulLemmas
 pub mod HearingLemmas
+pub mod RunLemmas
