@@ -28,3 +28,4 @@ pub mod BrokerLemmas
 pub mod LawfulLemmas
 pub mod HearingLemmas
 pub mod RunLemmas
+pub mod LogLawLemmas

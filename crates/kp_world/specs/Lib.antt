@@ -10,3 +10,4 @@ pub mod Run
 pub mod Replay
 pub mod Lines
 pub mod Text
+pub mod LogLaws

@@ -1,6 +1,7 @@
 //! Worlds: a producer, its network and a broker, and all that a schedule of events can bring about.
 #![tactic(auto)]
 
+pub mod broker_laws;
 mod event;
 pub mod laws;
 
