@@ -81,14 +81,14 @@ lawful_core n s s' logs handed packets replies ids g k l = record {
 -- ---- what goes out of a partition
 
 -- its lowest batch that waits
-record GoesAgain (k : ℕ) (t : Partition) (b : Batch) : Type 0 where
+pub record GoesAgain (k : ℕ) (t : Partition) (b : Batch) : Type 0 where
   pub lowest : Open
   pub waits : lowest_waiting t ≡ Some lowest
   pub batch : lowest.batch ≡ b
   pub after_is : sent_in k t ≡ record t { open_batches = sent_again_in k t.open_batches }
 
 -- or the front of its queue, which may be handed over
-record GoesFirst (k : ℕ) (c : Config) (t : Partition) (b : Batch) : Type 0 where
+pub record GoesFirst (k : ℕ) (c : Config) (t : Partition) (b : Batch) : Type 0 where
   pub front : Pending
   pub queue : List Pending
   pub queue_is : t.queue ≡ front ∷ queue
@@ -97,7 +97,7 @@ record GoesFirst (k : ℕ) (c : Config) (t : Partition) (b : Batch) : Type 0 whe
   pub in_span : is_in_span c t.next_number t.open_batches ≡ true
   pub after_is : sent_in k t ≡ handed_over_in k t (front ∷ queue)
 
-sends_cases : (c : Config) (f : Flags) (now k : ℕ) (t : Partition) (b : Batch) → sends c f now t ≡ Some b → GoesAgain k t b ⊎ GoesFirst k c t b
+pub sends_cases : (c : Config) (f : Flags) (now k : ℕ) (t : Partition) (b : Batch) → sends c f now t ≡ Some b → GoesAgain k t b ⊎ GoesFirst k c t b
 unfolding sends sent_in
 sends_cases c f now k t b e = at_fence t.fenced e
   where

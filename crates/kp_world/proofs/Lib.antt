@@ -29,3 +29,4 @@ pub mod LawfulLemmas
 pub mod HearingLemmas
 pub mod RunLemmas
 pub mod LogLawLemmas
+pub mod ItemLemmas
