@@ -34,3 +34,12 @@ pub mod AccountedLemmas
 pub mod GateLemmas
 pub mod ToldLemmas
 pub mod AccountLaws
+pub mod LeavingLemmas
+pub mod PrefixLemmas
+pub mod FlightLemmas
+pub mod BrokerLemmas
+pub mod LawfulLemmas
+pub mod HearingLemmas
+pub mod RunLemmas
+pub mod LogLawLemmas
+pub mod ItemLemmas

@@ -11,3 +11,4 @@ pub mod Replay
 pub mod Lines
 pub mod Text
 pub mod Accounts
+pub mod LogLaws

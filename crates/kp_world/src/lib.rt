@@ -2,6 +2,7 @@
 #![tactic(auto)]
 
 pub mod accounts;
+pub mod broker_laws;
 mod event;
 pub mod laws;
 

@@ -1,0 +1,362 @@
+-- What holds of every world of a run, for any honest broker; and that it holds still when the core was
+-- called, and when a request has gone out.
+use Rattle.std.proofs.Common.{◌≡◌, ◌⊎◌, ℕ, suc, ◌+◌, ◌<◌, ◌≤◌, Bool, true, false, cond, List, [], ◌∷◌, ◌++◌, length, map, Some, None, refl, sym, ap, ◌∙◌, subst, inl, inr, ⊎_elim, arith, length-append}
+use Rattle.std.specs.Prelude.{Option, Err, if◌then◌else◌, ◌==◌, ◌||◌, ◌&&◌}
+use Rattle.std.specs.List.{AllByRecursion}
+use Rattle.std.proofs.lemmas.Bool.{eqb-true, eq-eqb, and_parts}
+use Rattle.kp_accum.specs.declared.config.Config.{Config}
+use Rattle.kp_accum.specs.declared.flags.Flags.{Flags}
+use Rattle.kp_accum.specs.Queue.{Pending}
+use Rattle.kp_accum.specs.Ready.{is_ready}
+use Rattle.kp_log.specs.HandedOver.{IsStored}
+use Rattle.kp_log.specs.History.{History}
+use Rattle.kp_log.proofs.PlaceLemmas.{In, In-nil, In-cons, In-head, In-tail, In-append_left, In-append_right}
+use Rattle.kp_core.specs.Attempts.{is_waiting, lowest_waiting}
+use Rattle.kp_core.specs.HandingOver.{handed_over_in, sent_again_in, sent_first_in, sent_in}
+use Rattle.kp_core.specs.MaySend.{is_rested, is_confirmed, is_in_span, is_within_limit, may_hand_over, new_batch, sends_new, sends_first, sends}
+use Rattle.kp_core.specs.Next.{Sending, Demand, Produce, InitProducerId, flags_of, next_demand}
+use Rattle.kp_core.specs.Partitions.{partition_at, is_in}
+use Rattle.kp_core.specs.Records.{Batch, Open, Partition, IdRequest, Core}
+use Rattle.kp_core.specs.Requesting.{Outgoing, Requested, nothing_out, goes_out, requested_for, requested, partitions_in, sent_out, is_spent}
+use Rattle.kp_core.specs.declared.fault.CoreFault.TheVariants as fault
+use Rattle.kp_world.specs.Client.{grown_by, handed_at, with_sendings, sending}
+use Rattle.kp_world.specs.Delivering.{log_at}
+use Rattle.kp_world.specs.Message.{sent_of}
+use Rattle.kp_world.specs.Noting.{noted}
+use Rattle.kp_world.specs.World.{Reply, World}
+use Rattle.kp_world.proofs.BrokerLemmas.{Agrees, AllAgree}
+use Rattle.kp_world.proofs.DeliveryLemmas.{all_in}
+use Rattle.kp_world.proofs.FlightLemmas.{Says, Steady, SentAgain, again_from, all_at, one_more, steady_kept, steady_passed_by, steady_again, steady_handed}
+use Rattle.kp_world.proofs.GoodLemmas.{PartsIn, Went, Given, length-with_sendings, at-with_sendings}
+use Rattle.kp_world.proofs.KeepingLemmas.{Keeps, CoreKeeps, OpenIn, length-changed_at, at-changed_at}
+use Rattle.kp_world.proofs.LeavingLemmas.{Leaves, CoreLeaves, found}
+use Rattle.kp_world.proofs.SendingLemmas.{HandsOver, IsSent, all_weaker, demand_is_sent}
+use Rattle.kp_world.proofs.SoundLemmas.{Sound, sound_kept, sound_handed}
+
+-- ---- what holds
+
+pub record Lawful (n : ℕ) (core : Core) (logs : List History) (handed : List (List Batch)) (packets : List Outgoing) (replies : List Reply) (ids : List ℕ) : Type 0 where
+  pub count : length core.partitions ≡ n
+  pub handed_count : length handed ≡ n
+  pub logs_count : length logs ≡ n
+  pub window : core.config.max_in_flight_requests_per_connection ≤ 5
+  pub agree : AllAgree n ids core handed logs packets replies
+  pub went : (o : Outgoing) → In o packets → Went n handed core o
+  pub gave : (r : Reply) → In r replies → Given n ids core r
+  pub asked : (q : IdRequest) → core.id_request ≡ Some q → q.correlation < core.correlation
+
+abbrev pub IsLawful : ℕ → World → Type 0
+IsLawful n w = Lawful n w.core w.logs w.handed w.packets w.replies w.ids
+
+-- the batch is stored in its partition's log
+abbrev pub StoredAt : List History → ℕ → Batch → Type 0
+StoredAt logs p b = IsStored (log_at p logs).records (sent_of b)
+
+-- ---- a call of the core
+
+pub lawful_core : (n : ℕ) (s s' : Core) (logs : List History) (handed : List (List Batch)) (packets : List Outgoing) (replies : List Reply) (ids : List ℕ)
+    → Lawful n s logs handed packets replies ids → CoreKeeps s s' → CoreLeaves (StoredAt logs) s s' → Lawful n s' logs handed packets replies ids
+lawful_core n s s' logs handed packets replies ids g k l = record {
+  count = k.count ∙ g.count;
+  handed_count = g.handed_count;
+  logs_count = g.logs_count;
+  window = subst (λ (c : Config). c.max_in_flight_requests_per_connection ≤ 5) (sym l.config) g.window;
+  agree = λ p h. record {
+    sound = sound_kept ids (partition_at p s.partitions) (partition_at p s'.partitions) (handed_at p handed) (log_at p logs) (g.agree p h).sound (k.each p (within p h));
+    steady = subst (λ (next : ℕ). Steady p s'.ended next (partition_at p s'.partitions) (handed_at p handed) (log_at p logs) packets replies) (sym k.correlation)
+        (steady_kept p s.correlation ids s.ended s'.ended (partition_at p s.partitions) (partition_at p s'.partitions) (handed_at p handed) (log_at p logs) packets replies (g.agree p h).sound (g.agree p h).steady l.ended (l.each p (within p h)));
+  };
+  went = λ o i. let w = g.went o i in record { before = subst (λ (m : ℕ). o.correlation < m) (sym k.correlation) w.before; parts = w.parts };
+  gave = λ r i. let w = g.gave r i in record {
+    before = subst (λ (m : ℕ). r.correlation < m) (sym k.correlation) w.before;
+    drawn = w.drawn;
+    spare = λ id q e a c p h at. w.spare id q e (k.asked q a) c p h (subst (λ (is : List ℕ). In id is) (k.each p (within p h)).ids at);
+  };
+  asked = λ q e. subst (λ (m : ℕ). q.correlation < m) (sym k.correlation) (g.asked q (k.asked q e));
+}
+  where
+    within : (p : ℕ) → p < n → p < length s.partitions
+    within p h = subst (λ (m : ℕ). p < m) (sym g.count) h
+
+-- ---- what goes out of a partition
+
+-- its lowest batch that waits
+pub record GoesAgain (k : ℕ) (t : Partition) (b : Batch) : Type 0 where
+  pub lowest : Open
+  pub waits : lowest_waiting t ≡ Some lowest
+  pub batch : lowest.batch ≡ b
+  pub after_is : sent_in k t ≡ record t { open_batches = sent_again_in k t.open_batches }
+
+-- or the front of its queue, which may be handed over
+pub record GoesFirst (k : ℕ) (c : Config) (t : Partition) (b : Batch) : Type 0 where
+  pub front : Pending
+  pub queue : List Pending
+  pub queue_is : t.queue ≡ front ∷ queue
+  pub batch : b ≡ new_batch t front
+  pub confirmed : is_confirmed t ≡ true
+  pub in_span : is_in_span c t.next_number t.open_batches ≡ true
+  pub after_is : sent_in k t ≡ handed_over_in k t (front ∷ queue)
+
+pub sends_cases : (c : Config) (f : Flags) (now k : ℕ) (t : Partition) (b : Batch) → sends c f now t ≡ Some b → GoesAgain k t b ⊎ GoesFirst k c t b
+unfolding sends sent_in
+sends_cases c f now k t b e = at_fence t.fenced e
+  where
+    at_front : lowest_waiting t ≡ None → (q : List Pending) → t.queue ≡ q → sends_new c f now t q ≡ Some b → GoesFirst k c t b
+    at_front none [] is e' = absurd cc
+    at_front none (front ∷ queue) is e' = at_may (may_hand_over c f now t front) refl e'
+      where
+        at_may : (may : Bool) → may_hand_over c f now t front ≡ may → (if may then Some (new_batch t front) else None) ≡ Some b → GoesFirst k c t b
+        at_may false m same = absurd cc
+        at_may true m same =
+            let three = and_parts (is_ready c f now t.queue && is_confirmed t && is_in_span c t.next_number t.open_batches) (is_within_limit c t front) m in
+            let two = and_parts (is_ready c f now t.queue && is_confirmed t) (is_in_span c t.next_number t.open_batches) three.0 in
+            let one = and_parts (is_ready c f now t.queue) (is_confirmed t) two.0 in
+            record { front = front; queue = queue; queue_is = is; batch = cc; confirmed = one.1; in_span = two.1; after_is = ap (sent_first_in k t) none ∙ ap (handed_over_in k t) is }
+
+    at_lowest : (o : Option Open) → lowest_waiting t ≡ o → sends_first c f now t o ≡ Some b → GoesAgain k t b ⊎ GoesFirst k c t b
+    at_lowest None is e' = inr (at_front is t.queue refl e')
+    at_lowest (Some lowest) is e' = inl (at_test (is_rested c now lowest.attempt) e')
+      where
+        at_test : (rested : Bool) → (if rested then Some lowest.batch else None) ≡ Some b → GoesAgain k t b
+        at_test true same = let known : lowest.batch ≡ b = cc in record { lowest = lowest; waits = is; batch = known; after_is = ap (sent_first_in k t) is }
+        at_test false same = absurd cc
+
+    at_fence : (fence : Bool) → (if fence then None else sends_first c f now t (lowest_waiting t)) ≡ Some b → GoesAgain k t b ⊎ GoesFirst k c t b
+    at_fence true e' = absurd cc
+    at_fence false e' = at_lowest (lowest_waiting t) refl e'
+
+-- ---- a partition once a request has gone out
+
+record Agreed (p : ℕ) (ids : List ℕ) (e : Bool) (next : ℕ) (t t' : Partition) (handed handed' : List Batch) (h : History) (packets : List Outgoing) (replies : List Reply) (o : Outgoing) : Type 0 where
+  pub sound : Sound ids t' handed' h
+  pub steady : Steady p e (next + 1) t' handed' h (packets ++ o ∷ []) replies
+  pub more : (c : Batch) → In c handed → In c handed'
+  pub same_ids : t'.ids ≡ t.ids
+
+-- with the batch that has gone out
+record AgreedWith (p : ℕ) (ids : List ℕ) (e : Bool) (next : ℕ) (t t' : Partition) (handed handed' : List Batch) (h : History) (packets : List Outgoing) (replies : List Reply) (o : Outgoing) (b : Batch) : Type 0 where
+  pub all : Agreed p ids e next t t' handed handed' h packets replies o
+  pub known : In b handed'
+
+grown_old : (b : Batch) (handed : List Batch) → b.number < length handed → grown_by b handed ≡ handed
+grown_old b handed below = at_test (b.number == length handed) refl
+  where
+    at_test : (t : Bool) → (b.number == length handed) ≡ t → (if t then handed ++ b ∷ [] else handed) ≡ handed
+    at_test true is = let same : b.number ≡ length handed = eqb-true b.number (length handed) is in absurd (omega arith)
+    at_test false is = refl
+
+agreed_again : (p : ℕ) (ids : List ℕ) (e : Bool) (next : ℕ) (t : Partition) (handed : List Batch) (h : History) (packets : List Outgoing) (replies : List Reply) (o : Outgoing) (b : Batch)
+    → Sound ids t handed h → Steady p e next t handed h packets replies → ((x : Outgoing) → In x packets → x.correlation < next) → o.correlation ≡ next → Says p b o.demand → GoesAgain next t b
+    → AgreedWith p ids e next t (sent_in next t) handed (grown_by b handed) h packets replies o b
+agreed_again p ids e next t handed h packets replies o b s k below named says a =
+    subst (λ (bs : List Batch). AgreedWith p ids e next t (sent_in next t) handed bs h packets replies o b) (sym (grown_old b handed (s.numbers b known)))
+    (subst (λ (u : Partition). AgreedWith p ids e next t u handed handed h packets replies o b) (sym a.after_is) (record {
+      all = record {
+        sound = sound_kept ids t (record t { open_batches = sent_again_in next t.open_batches }) handed h s (record { number = refl; sequence = refl; ids = refl; opens = λ bs all. opens bs all; queue = λ q. q });
+        steady = steady_again p next e t handed h packets replies o a.lowest k below named a.waits (subst (λ (c : Batch). Says p c o.demand) (sym a.batch) says);
+        more = λ c i. i;
+        same_ids = refl;
+      };
+      known = known;
+    }))
+  where
+    known : In b handed
+    known = subst (λ (c : Batch). In c handed) a.batch (all_at (λ (x : Open). In x.batch handed) t.open_batches a.lowest s.opens (found is_waiting t.open_batches a.lowest a.waits).0)
+
+    opens : (bs : List Batch) → OpenIn bs t.open_batches → OpenIn bs (sent_again_in next t.open_batches)
+    opens bs all = all_in (λ (x : Open). In x.batch bs) (sent_again_in next t.open_batches) (λ x i. let f = again_from next t.open_batches a.lowest a.waits x i in subst (λ (c : Batch). In c bs) (sym f.batch) (all_at (λ (y : Open). In y.batch bs) t.open_batches f.it all f.there))
+
+agreed_first : (p : ℕ) (ids : List ℕ) (c : Config) (e : Bool) (next : ℕ) (t : Partition) (handed : List Batch) (h : History) (packets : List Outgoing) (replies : List Reply) (o : Outgoing) (b : Batch)
+    → c.max_in_flight_requests_per_connection ≤ 5 → Sound ids t handed h → Steady p e next t handed h packets replies → ((x : Outgoing) → In x packets → x.correlation < next) → o.correlation ≡ next → Says p b o.demand → GoesFirst next c t b
+    → AgreedWith p ids e next t (sent_in next t) handed (grown_by b handed) h packets replies o b
+unfolding handed_over_in
+agreed_first p ids c e next t handed h packets replies o b five s k below named says a =
+    subst (λ (bs : List Batch). AgreedWith p ids e next t (sent_in next t) handed bs h packets replies o b) (sym grown)
+    (subst (λ (u : Partition). AgreedWith p ids e next t u handed (handed ++ b ∷ []) h packets replies o b) (sym a.after_is) (record {
+      all = record {
+        sound = sound_handed ids t (handed_over_in next t (a.front ∷ a.queue)) b handed h s (record { front = a.front; rest = a.queue; request = next; queue = a.queue_is; batch = a.batch; after_is = refl });
+        steady = subst (λ (x : Batch). Steady p e (next + 1) (handed_over_in next t (a.front ∷ a.queue)) (handed ++ x ∷ []) h (packets ++ o ∷ []) replies) (sym a.batch)
+            (steady_handed p next ids c e t handed h packets replies o a.front a.queue five s k below named a.confirmed a.in_span (subst (λ (x : Batch). Says p x o.demand) a.batch says));
+        more = λ x i. In-append_left x handed (b ∷ []) i;
+        same_ids = refl;
+      };
+      known = In-append_right b handed (b ∷ []) (In-head b []);
+    }))
+  where
+    grown : grown_by b handed ≡ handed ++ b ∷ []
+    grown = ap (λ (x : Bool). if x then handed ++ b ∷ [] else handed) (eq-eqb b.number (length handed) (ap (λ (x : Batch). x.number) a.batch ∙ s.number))
+
+-- ---- all partitions
+
+part_in : (xs : List Sending) (x : Sending) → In x xs → is_in x.partition (partitions_in xs) ≡ true
+part_in [] x i = absurd (In-nil x i)
+part_in (y ∷ xs) x i =
+    ⊎_elim
+    (λ (same : x ≡ y). ap (λ (b : Bool). b || is_in x.partition (partitions_in xs)) (eq-eqb y.partition x.partition (ap (λ (z : Sending). z.partition) (sym same))))
+    (λ (j : In x xs). at_test (y.partition == x.partition) (part_in xs x j))
+    (In-cons x y xs i)
+  where
+    at_test : (b : Bool) → is_in x.partition (partitions_in xs) ≡ true → b || is_in x.partition (partitions_in xs) ≡ true
+    at_test true e = refl
+    at_test false e = e
+
+in_part : (xs : List Sending) (p : ℕ) → is_in p (partitions_in xs) ≡ true → (x : Sending) × In x xs × (x.partition ≡ p)
+in_part [] p e = absurd cc
+in_part (y ∷ xs) p e = at_test (y.partition == p) refl e (in_part xs p)
+  where
+    at_test : (b : Bool) → (y.partition == p) ≡ b → b || is_in p (partitions_in xs) ≡ true → (is_in p (partitions_in xs) ≡ true → (x : Sending) × In x xs × (x.partition ≡ p)) → (x : Sending) × In x (y ∷ xs) × (x.partition ≡ p)
+    at_test true is e' later = (y, In-head y xs, eqb-true y.partition p is)
+    at_test false is e' later = let l = later e' in (l.0, In-tail l.0 y xs l.1, l.2)
+
+abbrev packet : Core → Demand → Outgoing
+packet s d = record { correlation = s.correlation; demand = d }
+
+lawful_batches : (n now : ℕ) (s : Core) (logs : List History) (handed : List (List Batch)) (packets : List Outgoing) (replies : List Reply) (ids : List ℕ) (xs : List Sending)
+    → Lawful n s logs handed packets replies ids → AllByRecursion (IsSent now s) xs
+    → Lawful n (sent_out now s (Produce xs)) logs (with_sendings xs handed) (packets ++ packet s (Produce xs) ∷ []) replies ids
+lawful_batches n now s logs handed packets replies ids xs g all = record {
+  count = length-changed_at (partitions_in xs) (λ p t. sent_in s.correlation t) s.partitions ∙ g.count;
+  handed_count = length-with_sendings xs handed ∙ g.handed_count;
+  logs_count = g.logs_count;
+  window = g.window;
+  agree = λ p h. record { sound = (at p h).sound; steady = (at p h).steady };
+  went = λ o i. ⊎_elim (λ (j : In o packets). earlier o (g.went o j)) (λ (same : o ≡ packet s (Produce xs)). subst (Went n (with_sendings xs handed) (sent_out now s (Produce xs))) (sym same) newest) (one_more packets (packet s (Produce xs)) o i);
+  gave = λ r i. let w = g.gave r i in record {
+    before = let b : r.correlation < s.correlation = w.before in omega arith;
+    drawn = w.drawn;
+    spare = λ id q e a c p h j. w.spare id q e a c p h (subst (λ (is : List ℕ). In id is) (at p h).same_ids j);
+  };
+  asked = λ q e. let b : q.correlation < s.correlation = g.asked q e in omega arith;
+}
+  where
+    below : (x : Outgoing) → In x packets → x.correlation < s.correlation
+    below x i = (g.went x i).before
+
+    within : (p : ℕ) → p < n → p < length s.partitions
+    within p h = subst (λ (m : ℕ). p < m) (sym g.count) h
+
+    inside : AllByRecursion (λ (x : Sending). x.partition < length handed) xs
+    inside = all_weaker (IsSent now s) (λ (x : Sending). x.partition < length handed) (λ x k. subst (λ (m : ℕ). x.partition < m) (g.count ∙ sym g.handed_count) k.there) xs all
+
+    sent_is : (x : Sending) → In x xs → IsSent now s x
+    sent_is x i = all_at (IsSent now s) xs x all i
+
+    same_batch : (x y : Sending) → In x xs → In y xs → y.partition ≡ x.partition → y.batch ≡ x.batch
+    same_batch x y i j e =
+        let mine : sends s.config (flags_of s) now (partition_at x.partition s.partitions) ≡ Some y.batch = subst (λ (m : ℕ). sends s.config (flags_of s) now (partition_at m s.partitions) ≡ Some y.batch) e (sent_is y j).sends in
+        let both : Some y.batch ≡ Some x.batch = sym mine ∙ (sent_is x i).sends in
+        cc
+
+    changed : (p : ℕ) → p < n → partition_at p (sent_out now s (Produce xs)).partitions ≡ (if is_in p (partitions_in xs) then sent_in s.correlation (partition_at p s.partitions) else partition_at p s.partitions)
+    changed p h = at-changed_at (partitions_in xs) (λ q u. sent_in s.correlation u) s.partitions p (within p h)
+
+    with_it : (x : Sending) → In x xs → (h : x.partition < n)
+        → AgreedWith x.partition ids s.ended s.correlation (partition_at x.partition s.partitions) (partition_at x.partition (sent_out now s (Produce xs)).partitions) (handed_at x.partition handed) (handed_at x.partition (with_sendings xs handed)) (log_at x.partition logs) packets replies (packet s (Produce xs)) x.batch
+    with_it x i h =
+        let is : is_in x.partition (partitions_in xs) ≡ true = part_in xs x i in
+        let only : AllByRecursion (λ (y : Sending). y.partition ≡ x.partition → y.batch ≡ x.batch) xs = all_in (λ (y : Sending). y.partition ≡ x.partition → y.batch ≡ x.batch) xs (λ y j e. same_batch x y i j e) in
+        let grown : handed_at x.partition (with_sendings xs handed) ≡ grown_by x.batch (handed_at x.partition handed) = at-with_sendings xs handed x.partition x.batch only inside ∙ ap (λ (b : Bool). if b then grown_by x.batch (handed_at x.partition handed) else handed_at x.partition handed) is in
+        let after : partition_at x.partition (sent_out now s (Produce xs)).partitions ≡ sent_in s.correlation (partition_at x.partition s.partitions) = changed x.partition h ∙ ap (λ (b : Bool). if b then sent_in s.correlation (partition_at x.partition s.partitions) else partition_at x.partition s.partitions) is in
+        let says : Says x.partition x.batch (Produce xs) = λ y j e. same_batch x y i j e in
+        let both = g.agree x.partition h in
+        let it : AgreedWith x.partition ids s.ended s.correlation (partition_at x.partition s.partitions) (sent_in s.correlation (partition_at x.partition s.partitions)) (handed_at x.partition handed) (grown_by x.batch (handed_at x.partition handed)) (log_at x.partition logs) packets replies (packet s (Produce xs)) x.batch =
+        ⊎_elim
+        (λ (a : GoesAgain s.correlation (partition_at x.partition s.partitions) x.batch). agreed_again x.partition ids s.ended s.correlation (partition_at x.partition s.partitions) (handed_at x.partition handed) (log_at x.partition logs) packets replies (packet s (Produce xs)) x.batch both.sound both.steady below refl says a)
+        (λ (a : GoesFirst s.correlation s.config (partition_at x.partition s.partitions) x.batch). agreed_first x.partition ids s.config s.ended s.correlation (partition_at x.partition s.partitions) (handed_at x.partition handed) (log_at x.partition logs) packets replies (packet s (Produce xs)) x.batch g.window both.sound both.steady below refl says a)
+        (sends_cases s.config (flags_of s) now s.correlation (partition_at x.partition s.partitions) x.batch (sent_is x i).sends) in
+        subst (λ (hs : List Batch). AgreedWith x.partition ids s.ended s.correlation (partition_at x.partition s.partitions) (partition_at x.partition (sent_out now s (Produce xs)).partitions) (handed_at x.partition handed) hs (log_at x.partition logs) packets replies (packet s (Produce xs)) x.batch) (sym grown)
+        (subst (λ (u : Partition). AgreedWith x.partition ids s.ended s.correlation (partition_at x.partition s.partitions) u (handed_at x.partition handed) (grown_by x.batch (handed_at x.partition handed)) (log_at x.partition logs) packets replies (packet s (Produce xs)) x.batch) (sym after) it)
+
+    without : (p : ℕ) → p < n → is_in p (partitions_in xs) ≡ false
+        → Agreed p ids s.ended s.correlation (partition_at p s.partitions) (partition_at p (sent_out now s (Produce xs)).partitions) (handed_at p handed) (handed_at p (with_sendings xs handed)) (log_at p logs) packets replies (packet s (Produce xs))
+    without p h is =
+        let b : Batch = record { number = 0; id = 0; sequence = 0; items = [] } in
+        let only : AllByRecursion (λ (y : Sending). y.partition ≡ p → y.batch ≡ b) xs = all_in (λ (y : Sending). y.partition ≡ p → y.batch ≡ b) xs (λ y j e. absurd (nothing y j e)) in
+        let grown : handed_at p (with_sendings xs handed) ≡ handed_at p handed = at-with_sendings xs handed p b only inside ∙ ap (λ (c : Bool). if c then grown_by b (handed_at p handed) else handed_at p handed) is in
+        let after : partition_at p (sent_out now s (Produce xs)).partitions ≡ partition_at p s.partitions = changed p h ∙ ap (λ (c : Bool). if c then sent_in s.correlation (partition_at p s.partitions) else partition_at p s.partitions) is in
+        subst (λ (hs : List Batch). Agreed p ids s.ended s.correlation (partition_at p s.partitions) (partition_at p (sent_out now s (Produce xs)).partitions) (handed_at p handed) hs (log_at p logs) packets replies (packet s (Produce xs))) (sym grown)
+        (subst (λ (u : Partition). Agreed p ids s.ended s.correlation (partition_at p s.partitions) u (handed_at p handed) (handed_at p handed) (log_at p logs) packets replies (packet s (Produce xs))) (sym after)
+        (record {
+          sound = (g.agree p h).sound;
+          steady = steady_passed_by p s.correlation s.ended (partition_at p s.partitions) (handed_at p handed) (log_at p logs) packets replies (packet s (Produce xs)) (g.agree p h).steady refl;
+          more = λ c i. i;
+          same_ids = refl;
+        }))
+      where
+        nothing : (y : Sending) → In y xs → y.partition ≡ p → ⊥
+        nothing y j e = let there : is_in p (partitions_in xs) ≡ true = subst (λ (m : ℕ). is_in m (partitions_in xs) ≡ true) e (part_in xs y j) in let both : false ≡ true = sym is ∙ there in cc
+
+    at : (p : ℕ) → p < n
+        → Agreed p ids s.ended s.correlation (partition_at p s.partitions) (partition_at p (sent_out now s (Produce xs)).partitions) (handed_at p handed) (handed_at p (with_sendings xs handed)) (log_at p logs) packets replies (packet s (Produce xs))
+    at p h = at_test (is_in p (partitions_in xs)) refl
+      where
+        at_test : (b : Bool) → is_in p (partitions_in xs) ≡ b
+            → Agreed p ids s.ended s.correlation (partition_at p s.partitions) (partition_at p (sent_out now s (Produce xs)).partitions) (handed_at p handed) (handed_at p (with_sendings xs handed)) (log_at p logs) packets replies (packet s (Produce xs))
+        at_test true is =
+            let x = in_part xs p is in
+            subst (λ (q : ℕ). Agreed q ids s.ended s.correlation (partition_at q s.partitions) (partition_at q (sent_out now s (Produce xs)).partitions) (handed_at q handed) (handed_at q (with_sendings xs handed)) (log_at q logs) packets replies (packet s (Produce xs))) x.2
+            (with_it x.0 x.1 (subst (λ (q : ℕ). q < n) (sym x.2) h)).all
+        at_test false is = without p h is
+
+    more_parts : (d : Demand) → PartsIn n handed d → PartsIn n (with_sendings xs handed) d
+    more_parts (Produce ys) h = all_weaker (λ (x : Sending). (x.partition < n) × In x.batch (handed_at x.partition handed)) (λ (x : Sending). (x.partition < n) × In x.batch (handed_at x.partition (with_sendings xs handed))) (λ x k. (k.0, (at x.partition k.0).more x.batch k.1)) ys h
+    more_parts (InitProducerId p) h = tt
+
+    earlier : (o : Outgoing) → Went n handed s o → Went n (with_sendings xs handed) (sent_out now s (Produce xs)) o
+    earlier o w = record { before = let b : o.correlation < s.correlation = w.before in omega arith; parts = more_parts o.demand w.parts }
+
+    newest : Went n (with_sendings xs handed) (sent_out now s (Produce xs)) (packet s (Produce xs))
+    newest = record {
+      before = omega arith;
+      parts = all_in (λ (x : Sending). (x.partition < n) × In x.batch (handed_at x.partition (with_sendings xs handed))) xs (λ x i. let h : x.partition < n = subst (λ (m : ℕ). x.partition < m) g.count (sent_is x i).there in (h, (with_it x i h).known));
+    }
+
+lawful_id : (n now : ℕ) (s : Core) (logs : List History) (handed : List (List Batch)) (packets : List Outgoing) (replies : List Reply) (ids : List ℕ) (p : ℕ)
+    → Lawful n s logs handed packets replies ids
+    → Lawful n (sent_out now s (InitProducerId p)) logs handed (packets ++ packet s (InitProducerId p) ∷ []) replies ids
+lawful_id n now s logs handed packets replies ids p g = record {
+  count = g.count;
+  handed_count = g.handed_count;
+  logs_count = g.logs_count;
+  window = g.window;
+  agree = λ q h. record {
+    sound = (g.agree q h).sound;
+    steady = steady_passed_by q s.correlation s.ended (partition_at q s.partitions) (handed_at q handed) (log_at q logs) packets replies (packet s (InitProducerId p)) (g.agree q h).steady refl;
+  };
+  went = λ o i. ⊎_elim (λ (j : In o packets). let w = g.went o j in record { before = let b : o.correlation < s.correlation = w.before in omega arith; parts = w.parts }) (λ (same : o ≡ packet s (InitProducerId p)). subst (Went n handed (sent_out now s (InitProducerId p))) (sym same) (record { before = omega arith; parts = tt })) (one_more packets (packet s (InitProducerId p)) o i);
+  gave = λ r i. let w = g.gave r i in record {
+    before = let b : r.correlation < s.correlation = w.before in omega arith;
+    drawn = w.drawn;
+    spare = λ id q e a c p' h at.
+        let b : r.correlation < s.correlation = w.before in
+        let asked : (record { correlation = s.correlation; sent = now; partition = p }) ≡ q = cc in
+        let same : s.correlation ≡ q.correlation = ap (λ (x : IdRequest). x.correlation) asked in
+        absurd (omega arith);
+  };
+  asked = λ q e. let asked : (record { correlation = s.correlation; sent = now; partition = p }) ≡ q = cc in let same : s.correlation ≡ q.correlation = ap (λ (x : IdRequest). x.correlation) asked in omega arith;
+}
+
+abbrev spent_step : World → Demand → Bool → Requested
+spent_step w d b =
+    if b then nothing_out w.core (Err fault.CorrelationSpent) else goes_out w.moment w.core d
+
+abbrev end_step : World → Bool → Requested
+end_step w b = if b then nothing_out w.core (Err fault.Ended) else requested_for w.moment w.core (next_demand w.moment w.core)
+
+pub lawful_sending : (n : ℕ) (w : World) → IsLawful n w → IsLawful n (sending w (requested w.moment w.core).after (requested w.moment w.core).answer)
+unfolding requested noted
+lawful_sending n w g = at_end w.core.ended
+  where
+    at_spent : (d : Demand) → next_demand w.moment w.core ≡ Some d → (b : Bool)
+        → IsLawful n (sending w (spent_step w d b).after (spent_step w d b).answer)
+    at_spent d e true = g
+    at_spent (Produce xs) e false = lawful_batches n w.moment w.core w.logs w.handed w.packets w.replies w.ids xs g (demand_is_sent w.moment w.core xs e)
+    at_spent (InitProducerId p) e false = lawful_id n w.moment w.core w.logs w.handed w.packets w.replies w.ids p g
+
+    at_demand : (o : Option Demand) → next_demand w.moment w.core ≡ o → IsLawful n (sending w (requested_for w.moment w.core o).after (requested_for w.moment w.core o).answer)
+    at_demand None e = g
+    at_demand (Some d) e = at_spent d e (is_spent w.core)
+
+    at_end : (b : Bool) → IsLawful n (sending w (end_step w b).after (end_step w b).answer)
+    at_end true = g
+    at_end false = at_demand (next_demand w.moment w.core) refl

@@ -1,0 +1,432 @@
+-- What a call on the core leaves of each partition's open batches, where it acknowledges only batches
+-- that are stored: the others stay open unless the partition is fenced, in their order, and none is in
+-- flight that was not.
+use Rattle.std.proofs.Common.{◌≡◌, ◌⊎◌, ℕ, ◌<◌, Bool, true, false, not, cond, List, [], ◌∷◌, ◌++◌, length, map, Some, None, refl, sym, ap, ◌∙◌, subst, inl, inr, ⊎_elim}
+use Rattle.std.specs.Prelude.{Option, find, if◌then◌else◌, ◌==◌, ◌&&◌, ◌||◌}
+use Rattle.std.specs.List.{AllByRecursion, filter, list_any}
+use Rattle.std.proofs.lemmas.Bool.{eqb-true, and_parts}
+use Rattle.std.proofs.lemmas.List.{get_or-map, length-map}
+use Rattle.kp_accum.specs.declared.config.Config.{Config}
+use Rattle.kp_accum.specs.declared.item.Item.{Item}
+use Rattle.kp_frames.specs.declared.produce.PartitionProduceResponse.{PartitionProduceResponse}
+use Rattle.kp_log.proofs.PlaceLemmas.{In, In-nil, In-cons, In-head, In-tail, In-filter}
+use Rattle.kp_core.specs.declared.attempt.Attempt.{Attempt}
+use Rattle.kp_core.specs.declared.attempt.Attempt.TheVariants.{InFlight, Waiting}
+use Rattle.kp_core.specs.declared.outcome.Reason.{Reason}
+use Rattle.kp_core.specs.declared.outcome.Reason.TheVariants.{Fenced, Ended}
+use Rattle.kp_core.specs.declared.verdict.Verdict.{Verdict}
+use Rattle.kp_core.specs.declared.verdict.Verdict.TheVariants.{Stored, Duplicate, Retry, Reject}
+use Rattle.kp_core.specs.Answered.{without_attempt, waiting_since, is_acknowledged_by, is_first_under_id, settled, answered_if, answered, verdict_of}
+use Rattle.kp_core.specs.Appending.{turned_away, refused, queued, with_queued, would_exhaust, appended}
+use Rattle.kp_core.specs.Attempts.{is_attempt_in, awaits, awaiting, dropped_attempt, dropped_batch, without_attempts, dropped}
+use Rattle.kp_core.specs.Fence.{fenced, given_up, end_of, ended}
+use Rattle.kp_core.specs.Flush.{marked_open, with_marks, flushed}
+use Rattle.kp_core.specs.Partitions.{partition_at, changed_at, new_partition, is_in, present_id}
+use Rattle.kp_core.specs.Records.{Batch, Open, Partition, Core, Effect, Step}
+use Rattle.kp_core.specs.Telling.{with_partitions, at_each, told_at_each, at_these}
+use Rattle.kp_core.specs.Tick.{expired_front, is_open_late, passed, has_timed_out, ticked_now, ticked_from, not_ticked, ticked, disconnected, closed}
+use Rattle.kp_world.proofs.KeepingLemmas.{at-changed_at}
+use Rattle.kp_world.proofs.SendingLemmas.{all_weaker}
+
+-- ---- open batches
+
+-- their numbers rise
+abbrev pub Rising : List Open → Type 0
+Rising [] = Unit {0}
+Rising (o ∷ os) = AllByRecursion (λ (x : Open). o.batch.number < x.batch.number) os × Rising os
+
+-- an open batch that was one of these, and is in flight only where it was
+pub record CameFrom (os : List Open) (o' : Open) : Type 0 where
+  pub it : Open
+  pub there : In it os
+  pub batch : o'.batch ≡ it.batch
+  pub flight : (k : ℕ) → o'.attempt ≡ InFlight k → it.attempt ≡ InFlight k
+
+-- the batch is open
+pub record IsOpen (os : List Open) (b : Batch) : Type 0 where
+  pub it : Open
+  pub there : In it os
+  pub batch : it.batch ≡ b
+
+-- ---- one partition
+
+-- Only batches of P were acknowledged. Where it is fenced, or all was given up, nothing need be open.
+pub record Leaves (P : Batch → Type 0) (gave_up : Bool) (t t' : Partition) : Type 0 where
+  pub opens : (o : Open) → In o t'.open_batches → CameFrom t.open_batches o
+  pub rises : Rising t.open_batches → Rising t'.open_batches
+  pub stays : gave_up ≡ false → t'.fenced ≡ false → (o : Open) → In o t.open_batches → P o.batch ⊎ IsOpen t'.open_batches o.batch
+  pub fence : t'.fenced ≡ false → t.fenced ≡ false
+  pub acknowledged : t'.acknowledged ≡ true → (t.acknowledged ≡ true) ⊎ ((o : Open) × In o t.open_batches × P o.batch × (o.batch.id ≡ present_id t))
+  pub ids : t'.ids ≡ t.ids
+
+came_same : (os : List Open) (o : Open) → In o os → CameFrom os o
+came_same os o i = record { it = o; there = i; batch = refl; flight = λ k e. e }
+
+is_open : (os : List Open) (o : Open) → In o os → IsOpen os o.batch
+is_open os o i = record { it = o; there = i; batch = refl }
+
+pub leaves_same : (P : Batch → Type 0) (e : Bool) (t : Partition) → Leaves P e t t
+leaves_same P e t = record {
+  opens = λ o i. came_same t.open_batches o i;
+  rises = λ r. r;
+  stays = λ g f o i. inr (is_open t.open_batches o i);
+  fence = λ f. f;
+  acknowledged = λ a. inl a;
+  ids = refl;
+}
+
+pub leaves_more : (P : Batch → Type 0) (e : Bool) (t u v : Partition) → Leaves P e t u → Leaves P e u v → Leaves P e t v
+leaves_more P e t u v k l = record {
+  opens = λ o i. let m = l.opens o i in let n = k.opens m.it m.there in
+      record { it = n.it; there = n.there; batch = m.batch ∙ n.batch; flight = λ q a. n.flight q (m.flight q a) };
+  rises = λ r. l.rises (k.rises r);
+  stays = λ g f o i. ⊎_elim (λ (p : P o.batch). inl p) (λ (x : IsOpen u.open_batches o.batch). still g f o x) (k.stays g (l.fence f) o i);
+  fence = λ f. k.fence (l.fence f);
+  acknowledged = λ a. ⊎_elim (λ (b : u.acknowledged ≡ true). k.acknowledged b) (λ (x : (o : Open) × In o u.open_batches × P o.batch × (o.batch.id ≡ present_id u)). inr (before x.0 x.1 x.2 x.3)) (l.acknowledged a);
+  ids = l.ids ∙ k.ids;
+}
+  where
+    still : e ≡ false → v.fenced ≡ false → (o : Open) → IsOpen u.open_batches o.batch → P o.batch ⊎ IsOpen v.open_batches o.batch
+    still g f o x = subst (λ (b : Batch). P b ⊎ IsOpen v.open_batches b) x.batch (l.stays g f x.it x.there)
+
+    before : (o : Open) → In o u.open_batches → P o.batch → o.batch.id ≡ present_id u → (x : Open) × In x t.open_batches × P x.batch × (x.batch.id ≡ present_id t)
+    before o i p s =
+        let m = k.opens o i in
+        (m.it, m.there, subst P m.batch p, sym (ap (λ (b : Batch). b.id) m.batch) ∙ s ∙ same_present k.ids)
+      where
+        same_present : u.ids ≡ t.ids → present_id u ≡ present_id t
+        same_present q = rw q refl
+
+-- ---- each open batch changed alike, or some left out
+
+record Alike (f : Open → Open) : Type 0 where
+  pub batch : (o : Open) → (f o).batch ≡ o.batch
+  pub flight : (o : Open) (k : ℕ) → (f o).attempt ≡ InFlight k → o.attempt ≡ InFlight k
+
+mapped_from : (f : Open → Open) → Alike f → (os : List Open) (o : Open) → In o (map f os) → CameFrom os o
+mapped_from f a [] o i = absurd (In-nil o i)
+mapped_from f a (x ∷ os) o i = ⊎_elim (λ (same : o ≡ f x). subst (CameFrom (x ∷ os)) (sym same) (record { it = x; there = In-head x os; batch = a.batch x; flight = a.flight x })) (λ (j : In o (map f os)). further (mapped_from f a os o j)) (In-cons o (f x) (map f os) i)
+  where
+    further : CameFrom os o → CameFrom (x ∷ os) o
+    further c = record { it = c.it; there = In-tail c.it x os c.there; batch = c.batch; flight = c.flight }
+
+mapped_open : (f : Open → Open) → Alike f → (os : List Open) (o : Open) → In o os → IsOpen (map f os) o.batch
+mapped_open f a [] o i = absurd (In-nil o i)
+mapped_open f a (x ∷ os) o i = ⊎_elim (λ (same : o ≡ x). subst (λ (y : Open). IsOpen (f x ∷ map f os) y.batch) (sym same) (record { it = f x; there = In-head (f x) (map f os); batch = a.batch x })) (λ (j : In o os). further (mapped_open f a os o j)) (In-cons o x os i)
+  where
+    further : IsOpen (map f os) o.batch → IsOpen (f x ∷ map f os) o.batch
+    further c = record { it = c.it; there = In-tail c.it (f x) (map f os) c.there; batch = c.batch }
+
+above_mapped : (f : Open → Open) → Alike f → (n : ℕ) (os : List Open) → AllByRecursion (λ (x : Open). n < x.batch.number) os → AllByRecursion (λ (x : Open). n < x.batch.number) (map f os)
+above_mapped f a n [] h = tt
+above_mapped f a n (x ∷ os) h = (subst (λ (b : Batch). n < b.number) (sym (a.batch x)) h.0, above_mapped f a n os h.1)
+
+rising_mapped : (f : Open → Open) → Alike f → (os : List Open) → Rising os → Rising (map f os)
+rising_mapped f a [] h = tt
+rising_mapped f a (x ∷ os) h = (subst (λ (b : Batch). AllByRecursion (λ (y : Open). b.number < y.batch.number) (map f os)) (sym (a.batch x)) (above_mapped f a x.batch.number os h.0), rising_mapped f a os h.1)
+
+leaves_mapped : (P : Batch → Type 0) (e : Bool) (f : Open → Open) → Alike f → (t t' : Partition) → t'.open_batches ≡ map f t.open_batches → t'.fenced ≡ t.fenced → t'.acknowledged ≡ t.acknowledged → t'.ids ≡ t.ids → Leaves P e t t'
+leaves_mapped P e f a t t' opens fence acked ids = record {
+  opens = λ o i. mapped_from f a t.open_batches o (subst (λ (os : List Open). In o os) opens i);
+  rises = λ r. subst Rising (sym opens) (rising_mapped f a t.open_batches r);
+  stays = λ g h o i. inr (subst (λ (os : List Open). IsOpen os o.batch) (sym opens) (mapped_open f a t.open_batches o i));
+  fence = λ h. sym fence ∙ h;
+  acknowledged = λ h. inl (sym acked ∙ h);
+  ids = ids;
+}
+
+-- what a filter leaves
+pub left_in : {A : Type 0} (p : A → Bool) (xs : List A) (x : A) → In x (filter p xs) → In x xs × (p x ≡ true)
+left_in p [] x i = absurd (In-nil x i)
+left_in {A = A} p (y ∷ xs) x i = at_test (p y) refl i (left_in p xs x)
+  where
+    at_test : (b : Bool) → p y ≡ b → In x (cond b (y ∷ filter p xs) (filter p xs)) → (In x (filter p xs) → In x xs × (p x ≡ true)) → In x (y ∷ xs) × (p x ≡ true)
+    at_test true is j later = ⊎_elim (λ (same : x ≡ y). (subst (λ (z : A). In z (y ∷ xs)) (sym same) (In-head y xs), ap p same ∙ is)) (λ (k : In x (filter p xs)). let l = later k in (In-tail x y xs l.0, l.1)) (In-cons x y (filter p xs) j)
+    at_test false is j later = let l = later j in (In-tail x y xs l.0, l.1)
+
+above_left : (p : Open → Bool) (n : ℕ) (os : List Open) → AllByRecursion (λ (x : Open). n < x.batch.number) os → AllByRecursion (λ (x : Open). n < x.batch.number) (filter p os)
+above_left p n [] h = tt
+above_left p n (x ∷ os) h = at_test (p x) (above_left p n os h.1)
+  where
+    at_test : (b : Bool) → AllByRecursion (λ (y : Open). n < y.batch.number) (filter p os) → AllByRecursion (λ (y : Open). n < y.batch.number) (cond b (x ∷ filter p os) (filter p os))
+    at_test true rest = (h.0, rest)
+    at_test false rest = rest
+
+rising_left : (p : Open → Bool) (os : List Open) → Rising os → Rising (filter p os)
+rising_left p [] h = tt
+rising_left p (x ∷ os) h = at_test (p x) (rising_left p os h.1)
+  where
+    at_test : (b : Bool) → Rising (filter p os) → Rising (cond b (x ∷ filter p os) (filter p os))
+    at_test true rest = (above_left p x.batch.number os h.0, rest)
+    at_test false rest = rest
+
+-- ---- the attempt that a reply names
+
+pub awaits_is : (k : ℕ) (o : Open) → awaits k o ≡ true → o.attempt ≡ InFlight k
+awaits_is k o e = at_attempt o.attempt e
+  where
+    at_attempt : (a : Attempt) → is_attempt_in k a ≡ true → a ≡ InFlight k
+    at_attempt (InFlight c) e' = ap InFlight (eqb-true c k e')
+    at_attempt (Waiting since) e' = absurd cc
+
+pub found : {A : Type 0} (p : A → Bool) (xs : List A) (x : A) → find p xs ≡ Some x → In x xs × (p x ≡ true)
+found p [] x e = absurd cc
+found {A = A} p (y ∷ xs) x e = at_test (p y) refl e (found p xs x)
+  where
+    at_test : (b : Bool) → p y ≡ b → cond b (Some y) (find p xs) ≡ Some x → (find p xs ≡ Some x → In x xs × (p x ≡ true)) → In x (y ∷ xs) × (p x ≡ true)
+    at_test true is e' later = let same : y ≡ x = cc in (subst (λ (z : A). In z (y ∷ xs)) same (In-head y xs), ap p (sym same) ∙ is)
+    at_test false is e' later = let l = later e' in (In-tail x y xs l.0, l.1)
+
+-- ---- the rules for a partition
+
+alike_dropped : (now : ℕ) → Alike (dropped_batch now)
+alike_dropped now = record { batch = λ o. refl; flight = λ o k e. at_attempt o.attempt k e }
+  where
+    at_attempt : (a : Attempt) (k : ℕ) → dropped_attempt now a ≡ InFlight k → a ≡ InFlight k
+    at_attempt (InFlight c) k e = absurd cc
+    at_attempt (Waiting since) k e = absurd cc
+
+pub leaves_dropped : (P : Batch → Type 0) (e : Bool) (now : ℕ) (t : Partition) → Leaves P e t (without_attempts now t)
+leaves_dropped P e now t = leaves_mapped P e (dropped_batch now) (alike_dropped now) t (without_attempts now t) refl refl refl refl
+
+pub leaves_marked : (P : Batch → Type 0) (e : Bool) (t : Partition) → Leaves P e t (with_marks t)
+leaves_marked P e t = leaves_mapped P e marked_open (record { batch = λ o. refl; flight = λ o k a. a }) t (with_marks t) refl refl refl refl
+
+pub leaves_queued : (P : Batch → Type 0) (e : Bool) (c : Config) (i : Item) (t : Partition) → Leaves P e t (with_queued c i t)
+leaves_queued P e c i t = record {
+  opens = (leaves_same P e t).opens;
+  rises = λ r. r;
+  stays = (leaves_same P e t).stays;
+  fence = λ f. f;
+  acknowledged = λ a. inl a;
+  ids = refl;
+}
+
+pub leaves_fenced : (P : Batch → Type 0) (e : Bool) (t : Partition) → Leaves P e t (fenced t).after
+unfolding fenced
+leaves_fenced P e t = record {
+  opens = λ o i. absurd (In-nil o i);
+  rises = λ r. tt;
+  stays = λ g f o i. absurd cc;
+  fence = λ f. absurd cc;
+  acknowledged = λ a. inl a;
+  ids = refl;
+}
+
+pub leaves_given_up : (P : Batch → Type 0) (t : Partition) → Leaves P true t (given_up t).after
+unfolding given_up
+leaves_given_up P t = record {
+  opens = λ o i. absurd (In-nil o i);
+  rises = λ r. tt;
+  stays = λ g f o i. absurd cc;
+  fence = λ f. f;
+  acknowledged = λ a. inl a;
+  ids = refl;
+}
+
+pub leaves_passed : (P : Batch → Type 0) (e : Bool) (c : Config) (now : ℕ) (t : Partition) → Leaves P e t (passed c now t).after
+unfolding passed
+leaves_passed P e c now t = at_test (list_any (is_open_late c now) t.open_batches)
+  where
+    expired : Leaves P e t (expired_front c now t).after
+    expired = record {
+      opens = (leaves_same P e t).opens;
+      rises = λ r. r;
+      stays = (leaves_same P e t).stays;
+      fence = λ f. f;
+      acknowledged = λ a. inl a;
+      ids = refl;
+    }
+
+    at_test : (late : Bool) → Leaves P e t (if late then fenced t else expired_front c now t).after
+    at_test true = leaves_fenced P e t
+    at_test false = expired
+
+-- ---- an answer
+
+-- what is settled as stored in request k is of P
+abbrev pub SettlesOnly : (Batch → Type 0) → ℕ → Partition → Type 0
+SettlesOnly P k t = (o : Open) → In o t.open_batches → o.attempt ≡ InFlight k → P o.batch
+
+without_left : (k : ℕ) (t : Partition) (o : Open) → In o t.open_batches → In o (without_attempt k t).open_batches ⊎ (o.attempt ≡ InFlight k)
+without_left k t o i = at_test (awaits k o) refl
+  where
+    at_test : (b : Bool) → awaits k o ≡ b → In o (without_attempt k t).open_batches ⊎ (o.attempt ≡ InFlight k)
+    at_test true is = inr (awaits_is k o is)
+    at_test false is = inl (In-filter (λ (x : Open). not (awaits k x)) o t.open_batches (ap not is) i)
+
+leaves_acknowledged : (P : Batch → Type 0) (e : Bool) (k : ℕ) (t t' : Partition) (o : Open) → SettlesOnly P k t → In o t.open_batches → o.attempt ≡ InFlight k
+    → t'.open_batches ≡ (without_attempt k t).open_batches → t'.fenced ≡ t.fenced → t'.acknowledged ≡ is_acknowledged_by o.batch t → t'.ids ≡ t.ids → Leaves P e t t'
+leaves_acknowledged P e k t t' o only i flies opens fence acked ids = record {
+  opens = λ x j. came_same t.open_batches x (left_in (λ (y : Open). not (awaits k y)) t.open_batches x (subst (λ (os : List Open). In x os) opens j)).0;
+  rises = λ r. subst Rising (sym opens) (rising_left (λ (y : Open). not (awaits k y)) t.open_batches r);
+  stays = λ g f x j. ⊎_elim (λ (h : In x (without_attempt k t).open_batches). inr (is_open t'.open_batches x (subst (λ (os : List Open). In x os) (sym opens) h))) (λ (h : x.attempt ≡ InFlight k). inl (only x j h)) (without_left k t x j);
+  fence = λ f. sym fence ∙ f;
+  acknowledged = λ a. by_first t.acknowledged refl (sym acked ∙ a);
+  ids = ids;
+}
+  where
+    by_first : (b : Bool) → t.acknowledged ≡ b → b || is_first_under_id t o.batch ≡ true → (t.acknowledged ≡ true) ⊎ ((x : Open) × In x t.open_batches × P x.batch × (x.batch.id ≡ present_id t))
+    by_first true is h = inl is
+    by_first false is h =
+        let parts = and_parts (o.batch.sequence == 0) (o.batch.id == present_id t) h in
+        inr (o, i, only o i flies, eqb-true o.batch.id (present_id t) parts.1)
+
+alike_waiting : (now k : ℕ) → Alike (waiting_since now k)
+alike_waiting now k = record { batch = λ o. same o (awaits k o); flight = λ o q e. flies o (awaits k o) q e }
+  where
+    same : (o : Open) (b : Bool) → (if b then (record o { attempt = Waiting now }) else o).batch ≡ o.batch
+    same o true = refl
+    same o false = refl
+
+    flies : (o : Open) (b : Bool) (q : ℕ) → (if b then (record o { attempt = Waiting now }) else o).attempt ≡ InFlight q → o.attempt ≡ InFlight q
+    flies o true q e = absurd cc
+    flies o false q e = e
+
+leaves_without : (P : Batch → Type 0) (k : ℕ) (t : Partition) → Leaves P true t (without_attempt k t)
+leaves_without P k t = record {
+  opens = λ x j. came_same t.open_batches x (left_in (λ (y : Open). not (awaits k y)) t.open_batches x j).0;
+  rises = λ r. rising_left (λ (y : Open). not (awaits k y)) t.open_batches r;
+  stays = λ g f o i. absurd cc;
+  fence = λ f. f;
+  acknowledged = λ a. inl a;
+  ids = refl;
+}
+
+leaves_rejected : (P : Batch → Type 0) (e : Bool) (k : ℕ) (t : Partition) → Leaves P e t (fenced (without_attempt k t)).after
+unfolding fenced
+leaves_rejected P e k t = record {
+  opens = λ o i. absurd (In-nil o i);
+  rises = λ r. tt;
+  stays = λ g f o i. absurd cc;
+  fence = λ f. absurd cc;
+  acknowledged = λ a. inl a;
+  ids = refl;
+}
+
+-- An answer to request k. Where it says that a batch is stored, that is of P; that a batch is older than those that the
+-- broker knows is not answered to a request in flight.
+pub leaves_answered : (P : Batch → Type 0) (e : Bool) (now k : ℕ) (t : Partition) (a : PartitionProduceResponse) → (verdict_of a.error_code ≡ Stored → SettlesOnly P k t)
+    → (verdict_of a.error_code ≡ Duplicate → (o : Open) → In o t.open_batches → o.attempt ≡ InFlight k → ⊥) → Leaves P e t (answered now k t a).after
+unfolding answered
+leaves_answered P e now k t a only never = at_option (awaiting k t) refl
+  where
+    at_verdict : (o : Open) → In o t.open_batches → o.attempt ≡ InFlight k → (v : Verdict) → verdict_of a.error_code ≡ v → Leaves P e t (settled now k t o a v).after
+    at_verdict o i f Stored is = leaves_acknowledged P e k t (settled now k t o a Stored).after o (only is) i f refl refl refl refl
+    at_verdict o i f Duplicate is = absurd (never is o i f)
+    at_verdict o i f Retry is = leaves_mapped P e (waiting_since now k) (alike_waiting now k) t (settled now k t o a Retry).after refl refl refl refl
+    at_verdict o i f Reject is = leaves_rejected P e k t
+
+    at_option : (o : Option Open) → awaiting k t ≡ o → Leaves P e t (answered_if now k t a o).after
+    at_option None is = leaves_same P e t
+    at_option (Some o) is = let f = found (awaits k) t.open_batches o is in at_verdict o f.0 (awaits_is k o f.1) (verdict_of a.error_code) refl
+
+-- ---- the core
+
+-- The same of each partition's, by its place.
+pub record CoreLeaves (P : ℕ → Batch → Type 0) (s s' : Core) : Type 0 where
+  pub config : s'.config ≡ s.config
+  pub ended : s'.ended ≡ false → s.ended ≡ false
+  pub each : (p : ℕ) → p < length s.partitions → Leaves (P p) s'.ended (partition_at p s.partitions) (partition_at p s'.partitions)
+
+pub left_same : (P : ℕ → Batch → Type 0) (s : Core) → CoreLeaves P s s
+left_same P s = record { config = refl; ended = λ e. e; each = λ p h. leaves_same (P p) s.ended (partition_at p s.partitions) }
+
+-- a rule at each partition
+pub at_all : (P : ℕ → Batch → Type 0) (e : Bool) (f : Partition → Partition) → ((Q : Batch → Type 0) (t : Partition) → Leaves Q e t (f t)) → (ts : List Partition) (p : ℕ) → p < length ts
+    → Leaves (P p) e (partition_at p ts) (partition_at p (map f ts))
+at_all P e f k ts p h = subst (Leaves (P p) e (partition_at p ts)) (sym (get_or-map f ts p (new_partition 0) (new_partition 0) h)) (k (P p) (partition_at p ts))
+
+-- a rule at some
+pub at_some : (P : ℕ → Batch → Type 0) (e : Bool) (ps : List ℕ) (f : ℕ → Partition → Partition) (ts : List Partition) (p : ℕ) → p < length ts → Leaves (P p) e (partition_at p ts) (f p (partition_at p ts))
+    → Leaves (P p) e (partition_at p ts) (partition_at p (changed_at ps f ts))
+at_some P e ps f ts p h k = subst (Leaves (P p) e (partition_at p ts)) (sym (at-changed_at ps f ts p h)) (at_test (is_in p ps))
+  where
+    at_test : (b : Bool) → Leaves (P p) e (partition_at p ts) (if b then f p (partition_at p ts) else partition_at p ts)
+    at_test true = k
+    at_test false = leaves_same (P p) e (partition_at p ts)
+
+left_at_each : (P : ℕ → Batch → Type 0) (rule : Partition → Effect) → (s : Core) → ((Q : Batch → Type 0) (t : Partition) → Leaves Q s.ended t (rule t).after) → CoreLeaves P s (at_each rule s)
+unfolding at_each with_partitions
+left_at_each P rule s k = record { config = refl; ended = λ e. e; each = λ p h. at_all P s.ended (λ t. (rule t).after) k s.partitions p h }
+
+left_dropped : (P : ℕ → Batch → Type 0) (now : ℕ) (s : Core) → CoreLeaves P s (dropped now s)
+unfolding dropped
+left_dropped P now s = record { config = refl; ended = λ e. e; each = λ p h. at_all P s.ended (without_attempts now) (λ Q t. leaves_dropped Q s.ended now t) s.partitions p h }
+
+pub left_ticked : (P : ℕ → Batch → Type 0) (now : ℕ) (s : Core) → CoreLeaves P s (ticked now s).after
+unfolding ticked dropped at_each with_partitions
+left_ticked P now s = at_end s.ended
+  where
+    each : (c : Config) (ts : List Partition) (p : ℕ) → p < length ts → Leaves (P p) s.ended (partition_at p ts) (partition_at p (map (λ t. (passed c now t).after) ts))
+    each c ts p h = at_all P s.ended (λ t. (passed c now t).after) (λ Q t. leaves_passed Q s.ended c now t) ts p h
+
+    long : (p : ℕ) → p < length s.partitions → p < length (map (without_attempts now) s.partitions)
+    long p h = subst (λ (n : ℕ). p < n) (sym (length-map s.partitions (without_attempts now))) h
+
+    at_test : (b : Bool) → CoreLeaves P s (if b then ticked_from now true (dropped now s) else ticked_from now false s).after
+    at_test true = record {
+      config = refl;
+      ended = λ e. e;
+      each = λ p h. leaves_more (P p) s.ended (partition_at p s.partitions) (partition_at p (map (without_attempts now) s.partitions)) (partition_at p (map (λ t. (passed s.config now t).after) (map (without_attempts now) s.partitions)))
+          ((left_dropped P now s).each p h) (each s.config (map (without_attempts now) s.partitions) p (long p h));
+    }
+    at_test false = record { config = refl; ended = λ e. e; each = λ p h. each s.config s.partitions p h }
+
+    at_end : (b : Bool) → CoreLeaves P s (if b then not_ticked s else ticked_now now s).after
+    at_end true = left_same P s
+    at_end false = at_test (has_timed_out now s)
+
+abbrev end_step : Core → Bool → Step (Unit {0})
+end_step s b = if b then record { after = s; told = []; answer = tt } else record { after = end_of s; told = told_at_each given_up s; answer = tt }
+
+pub left_ended : (P : ℕ → Batch → Type 0) (s : Core) → CoreLeaves P s (ended s).after
+unfolding ended at_each with_partitions
+left_ended P s = at_end s.ended
+  where
+    at_end : (b : Bool) → CoreLeaves P s (end_step s b).after
+    at_end true = left_same P s
+    at_end false = record { config = refl; ended = λ e. absurd cc; each = λ p h. at_all P true (λ t. (given_up t).after) leaves_given_up s.partitions p h }
+
+pub left_flushed : (P : ℕ → Batch → Type 0) (s : Core) → CoreLeaves P s (flushed s)
+unfolding flushed
+left_flushed P s = record { config = refl; ended = λ e. e; each = λ p h. at_all P s.ended with_marks (λ Q t. leaves_marked Q s.ended t) s.partitions p h }
+
+pub left_disconnected : (P : ℕ → Batch → Type 0) (now : ℕ) (s : Core) → CoreLeaves P s (disconnected now s)
+unfolding disconnected
+left_disconnected P now s = at_end s.ended
+  where
+    at_end : (b : Bool) → CoreLeaves P s (if b then s else dropped now s)
+    at_end true = left_same P s
+    at_end false = left_dropped P now s
+
+pub left_closed : (P : ℕ → Batch → Type 0) (s : Core) → CoreLeaves P s (closed s)
+unfolding closed
+left_closed P s = at_end s.ended
+  where
+    at_end : (b : Bool) → CoreLeaves P s (if b then s else record s { closing = true })
+    at_end true = left_same P s
+    at_end false = record { config = refl; ended = λ e. e; each = λ p h. leaves_same (P p) s.ended (partition_at p s.partitions) }
+
+pub left_appended : (P : ℕ → Batch → Type 0) (i : Item) (s : Core) → CoreLeaves P s (appended i s).after
+unfolding appended
+left_appended P i s = at_end s.ended
+  where
+    as_is : (why : Reason) → CoreLeaves P s (turned_away why i s).after
+    as_is why = record { config = refl; ended = λ e. e; each = λ p h. leaves_same (P p) s.ended (partition_at p s.partitions) }
+
+    at_room : (b : Bool) → CoreLeaves P s (if b then refused s else queued i s).after
+    at_room true = record { config = refl; ended = λ e. e; each = λ p h. leaves_same (P p) s.ended (partition_at p s.partitions) }
+    at_room false = record {
+      config = refl;
+      ended = λ e. e;
+      each = λ p h. at_some P s.ended (i.partition ∷ []) (λ q t. with_queued s.config i t) s.partitions p h (leaves_queued (P p) s.ended s.config i (partition_at p s.partitions));
+    }
+
+    at_fence : (b : Bool) → CoreLeaves P s (if b then turned_away Fenced i s else if would_exhaust i s then refused s else queued i s).after
+    at_fence true = as_is Fenced
+    at_fence false = at_room (would_exhaust i s)
+
+    at_end : (b : Bool) → CoreLeaves P s (if b then turned_away Ended i s else if (partition_at i.partition s.partitions).fenced then turned_away Fenced i s else if would_exhaust i s then refused s else queued i s).after
+    at_end true = as_is Ended
+    at_end false = at_fence (partition_at i.partition s.partitions).fenced

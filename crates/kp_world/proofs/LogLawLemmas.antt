@@ -1,0 +1,88 @@
+-- The laws on logs, from what holds of every world of a run.
+use Rattle.std.proofs.Common.{◌≡◌, ◌⊎◌, ℕ, ◌+◌, ◌<◌, ◌≤◌, Bool, true, false, List, [], ◌∷◌, ◌++◌, length, map, Some, None, refl, sym, ap, ◌∙◌, subst, ⊎_elim, arith}
+use Rattle.std.specs.Prelude.{Option, nat_lt}
+use Rattle.std.proofs.lemmas.Bool.{ltb-true, ltb-false}
+use Rattle.std.proofs.lemmas.List.{get_or_past}
+use Rattle.kp_accum.specs.declared.config.Config.{Config}
+use Rattle.kp_log.specs.BrokerStep.{Answered, MayAppend, BrokerStep, DUPLICATE_SEQUENCE_NUMBER}
+use Rattle.kp_log.specs.History.{History, with_batch, records_of}
+use Rattle.kp_log.proofs.PlaceLemmas.{In, In-from_contains}
+use Rattle.kp_core.specs.Attempts.{awaits, awaiting}
+use Rattle.kp_core.specs.Next.{Sending, Produce}
+use Rattle.kp_core.specs.Partitions.{partition_at, new_partition, present_id}
+use Rattle.kp_core.specs.Records.{Batch, Open, Partition}
+use Rattle.kp_world.specs.declared.event.Event.{Event}
+use Rattle.kp_world.specs.Client.{handed_at}
+use Rattle.kp_world.specs.Delivering.{log_at}
+use Rattle.kp_world.specs.LogLaws.{partition_of, IsPrefix, WasAnswered, NoDuplicateIsAwaited, WentOut, EarlierIdsAreSilent}
+use Rattle.kp_world.specs.Message.{sent_of}
+use Rattle.kp_world.specs.Run.{IsReached}
+use Rattle.kp_world.specs.World.{PartAnswer, World}
+use Rattle.kp_world.proofs.BrokerLemmas.{Agrees}
+use Rattle.kp_world.proofs.FlightLemmas.{all_at}
+use Rattle.kp_world.proofs.GoodLemmas.{PartsIn}
+use Rattle.kp_world.proofs.HearingLemmas.{old_not_in_flight}
+use Rattle.kp_world.proofs.LawfulLemmas.{Lawful, IsLawful}
+use Rattle.kp_world.proofs.LeavingLemmas.{awaits_is, found}
+use Rattle.kp_world.proofs.PrefixLemmas.{lands}
+use Rattle.kp_world.proofs.RunLemmas.{lawful_reached}
+
+-- ---- the log is a prefix
+
+pub log_is_prefix : (c : Config) (partitions senders : ℕ) (es : List Event) (w : World) → IsReached c partitions senders es w → (p : ℕ) → p < partitions → IsPrefix p w
+log_is_prefix c partitions senders es w r p h =
+    let cut = ((lawful_reached c partitions senders es w r).agree p h).steady.cut in
+    record { stored = cut.landed; rest = cut.rest; handed = cut.split; records = cut.owned ∙ ap records_of cut.appended }
+
+-- ---- no duplicate in flight
+
+none_awaited : (n : ℕ) (w : World) → IsLawful n w → NoDuplicateIsAwaited w
+none_awaited n w g k a x code = at_place (nat_lt a.partition n) refl
+  where
+    reply_in : In x.reply w.replies
+    reply_in = In-from_contains w.replies x.reply x.given
+
+    part_in : In a x.parts
+    part_in = In-from_contains x.parts a x.part
+
+    at_option : a.partition < n → (o : Option Open) → awaiting k (partition_of a.partition w) ≡ o → o ≡ None
+    at_option h None is = refl
+    at_option h (Some o) is =
+        let f = found (awaits k) (partition_of a.partition w).open_batches o is in
+        absurd (old_not_in_flight a.partition w.core.correlation k w.core.ended (partition_of a.partition w) (handed_at a.partition w.handed) (log_at a.partition w.logs) w.packets w.replies x.reply x.parts a (g.agree a.partition h).steady reply_in x.content (sym x.correlation) part_in refl code o f.0 (awaits_is k o f.1))
+
+    at_place : (b : Bool) → nat_lt a.partition n ≡ b → awaiting k (partition_of a.partition w) ≡ None
+    at_place true is = at_option (ltb-true a.partition n is) (awaiting k (partition_of a.partition w)) refl
+    at_place false is =
+        let beyond : n ≤ a.partition = ltb-false a.partition n is in
+        let size : length w.core.partitions ≡ n = g.count in
+        let none : partition_of a.partition w ≡ new_partition 0 = get_or_past w.core.partitions a.partition (new_partition 0) (omega (arith, beyond, size)) in
+        ap (awaiting k) none
+
+pub no_duplicate_is_awaited : (c : Config) (partitions senders : ℕ) (es : List Event) (w : World) → IsReached c partitions senders es w → NoDuplicateIsAwaited w
+no_duplicate_is_awaited c partitions senders es w r =
+    none_awaited partitions w (lawful_reached c partitions senders es w r)
+
+-- ---- earlier ids are silent
+
+silent : (n : ℕ) (w : World) → IsLawful n w → EarlierIdsAreSilent w
+silent n w g p b x other answer after step =
+    ⊎_elim
+    (λ (same : after ≡ log_at p w.logs). same)
+    (λ (may : MayAppend (log_at p w.logs) (sent_of b) × (after ≡ with_batch (sent_of b) (log_at p w.logs))). absurd (other (current may.0)))
+    step.change
+  where
+    known : (p < n) × In b (handed_at p w.handed)
+    known =
+        let parts : PartsIn n w.handed (Produce x.parts) = subst (PartsIn n w.handed) x.demand (g.went x.packet (In-from_contains w.packets x.packet x.sent)).parts in
+        all_at (λ (y : Sending). (y.partition < n) × In y.batch (handed_at y.partition w.handed)) x.parts (record { partition = p; batch = b }) parts (In-from_contains x.parts (record { partition = p; batch = b }) x.part)
+
+    current : MayAppend (log_at p w.logs) (sent_of b) → b.id ≡ present_id (partition_of p w)
+    current may =
+        let both : Agrees n w.ids w.core w.handed w.logs w.packets w.replies p = g.agree p known.0 in
+        let head = lands w.ids (partition_of p w) (handed_at p w.handed) (log_at p w.logs) both.sound both.steady.cut b known.1 may in
+        both.steady.cut.current b (record { earlier = []; later = head.0; split = head.1 })
+
+pub earlier_ids_are_silent : (c : Config) (partitions senders : ℕ) (es : List Event) (w : World) → IsReached c partitions senders es w → EarlierIdsAreSilent w
+earlier_ids_are_silent c partitions senders es w r =
+    silent partitions w (lawful_reached c partitions senders es w r)

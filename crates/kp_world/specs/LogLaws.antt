@@ -1,0 +1,75 @@
+-- What holds of the partitions' logs in every world that a schedule leads to, for any honest broker.
+use Rattle.std.specs.Prelude.{◌≡◌, ℕ, List, ◌++◌, map, None, Contains}
+use Rattle.kp_log.specs.declared.stored.Stored.{Stored}
+use Rattle.kp_log.specs.BrokerStep.{Answered, BrokerStep, DUPLICATE_SEQUENCE_NUMBER}
+use Rattle.kp_log.specs.History.{History, records_of, own}
+use Rattle.kp_core.specs.Attempts.{awaiting}
+use Rattle.kp_core.specs.Next.{Sending, Produce}
+use Rattle.kp_core.specs.Partitions.{partition_at, present_id}
+use Rattle.kp_core.specs.Records.{Batch as HandedBatch, Partition}
+use Rattle.kp_core.specs.Requesting.{Outgoing}
+use Rattle.kp_world.specs.Client.{handed_at}
+use Rattle.kp_world.specs.Delivering.{log_at}
+use Rattle.kp_world.specs.Message.{sent_of}
+use Rattle.kp_world.specs.World.{PartAnswer, Batches, Reply, World}
+
+abbrev pub partition_of : ℕ → World → Partition
+partition_of p w = partition_at p w.core.partitions
+
+-- ---- the log
+
+-- the records of a partition's log that are this producer's, in order
+abbrev pub own_records : ℕ → World → List Stored
+own_records p w = own (partition_of p w).ids (log_at p w.logs).records
+
+-- the records of these batches, as a log has them
+abbrev pub as_stored : List HandedBatch → List Stored
+as_stored batches = records_of (map sent_of batches)
+
+-- Of the batches that were handed over for the partition the first so many are stored, whole and in
+-- their order, and the log has nothing else of this producer.
+pub record IsPrefix (p : ℕ) (w : World) : Type 0 where
+  pub stored : List HandedBatch
+  pub rest : List HandedBatch
+  pub handed : handed_at p w.handed ≡ stored ++ rest
+  pub records : own_records p w ≡ as_stored stored
+
+-- ---- answers
+
+-- A reply was given to the packet with this correlation id, and this is a part of it.
+pub record WasAnswered (w : World) (k : ℕ) (a : PartAnswer) : Type 0 where
+  pub reply : Reply
+  pub given : Contains w.replies reply
+  pub correlation : reply.correlation ≡ k
+  pub parts : List PartAnswer
+  pub content : reply.content ≡ Batches parts
+  pub part : Contains parts a
+
+-- Where a batch was called a duplicate of one that the broker no longer knows, the attempt that was
+-- answered is not in flight.
+abbrev pub NoDuplicateIsAwaited : World → Type 0
+NoDuplicateIsAwaited w =
+    (k : ℕ) (a : PartAnswer)
+    → WasAnswered w k a
+    → a.answer.code ≡ DUPLICATE_SEQUENCE_NUMBER
+    → awaiting k (partition_of a.partition w) ≡ None
+
+-- ---- packets
+
+-- A packet went out with this batch of the partition.
+pub record WentOut (w : World) (p : ℕ) (b : HandedBatch) : Type 0 where
+  pub packet : Outgoing
+  pub sent : Contains w.packets packet
+  pub parts : List Sending
+  pub demand : packet.demand ≡ Produce parts
+  pub part : Contains parts (record { partition = p; batch = b })
+
+-- Whenever a batch under an earlier producer id comes again, the log stays as it is.
+abbrev pub EarlierIdsAreSilent : World → Type 0
+EarlierIdsAreSilent w =
+    (p : ℕ) (b : HandedBatch)
+    → WentOut w p b
+    → (b.id ≡ present_id (partition_of p w) → ⊥)
+    → (answer : Answered) (after : History)
+    → BrokerStep (log_at p w.logs) (sent_of b) answer after
+    → after ≡ log_at p w.logs

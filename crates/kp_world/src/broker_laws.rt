@@ -1,0 +1,29 @@
+//! Laws of every run, whatever the network does and for any honest broker.
+
+ghost use Rattle.std.specs.Prelude.{ℕ, ◌<◌, List};
+ghost use Rattle.kp_accum.specs.declared.config.Config.{Config};
+ghost use Rattle.kp_world.specs.LogLaws.{IsPrefix, NoDuplicateIsAwaited, EarlierIdsAreSilent};
+ghost use Rattle.kp_world.specs.Run.{IsReached};
+ghost use Rattle.kp_world.specs.World.{World};
+ghost use Rattle.kp_world.specs.declared.event.Event.{Event};
+
+/// A partition's log, read for this producer alone, is a prefix of what was handed over for the partition: nothing
+/// is stored twice, out of order or with a gap.
+pub fn the_log_is_a_prefix()
+    ensures { (c : Config) (partitions senders : ℕ) (es : List Event) (w : World)
+        → IsReached c partitions senders es w
+        → (p : ℕ) → p < partitions → IsPrefix p w }
+{}
+
+/// At most five batches of a partition are on their way, and a broker knows a producer's last five: so no batch in
+/// flight is ever called a duplicate.
+pub fn no_duplicate_is_awaited()
+    ensures { (c : Config) (partitions senders : ℕ) (es : List Event) (w : World)
+        → IsReached c partitions senders es w → NoDuplicateIsAwaited w }
+{}
+
+/// Once a partition goes on under a fresh producer id, no packet with an earlier one changes its log any more.
+pub fn earlier_ids_are_silent()
+    ensures { (c : Config) (partitions senders : ℕ) (es : List Event) (w : World)
+        → IsReached c partitions senders es w → EarlierIdsAreSilent w }
+{}
