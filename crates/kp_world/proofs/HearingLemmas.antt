@@ -42,12 +42,12 @@ use Rattle.kp_world.proofs.SoundLemmas.{Sound, sents, sound_fresh}
 
 -- ---- which request a reply names
 
-abbrev Names : ℤ → Core → Awaited → Type 0
+abbrev pub Names : ℤ → Core → Awaited → Type 0
 Names k s Nothing = Unit {0}
 Names k s (Batches r) = pos r.correlation ≡ k
 Names k s (Id q) = (s.id_request ≡ Some q) × (pos q.correlation ≡ k)
 
-names_its : (k : ℤ) (s : Core) → Names k s (awaited k s)
+pub names_its : (k : ℤ) (s : Core) → Names k s (awaited k s)
 unfolding awaited
 names_its k s = at_request (find (λ (r : Request). int_eq (pos r.correlation) k) s.requests) refl
   where
@@ -65,7 +65,7 @@ names_its k s = at_request (find (λ (r : Request). int_eq (pos r.correlation) k
 
 -- ---- what a code means
 
-stored_code : (code : ℤ) → verdict_of code ≡ Stored → code ≡ NO_ERROR
+pub stored_code : (code : ℤ) → verdict_of code ≡ Stored → code ≡ NO_ERROR
 unfolding verdict_of
 stored_code code e = at_none (int_eq code (pos 0)) refl e
   where
@@ -78,7 +78,7 @@ stored_code code e = at_none (int_eq code (pos 0)) refl e
     at_none true is e' = (Decides-int_eq code (pos 0)).0 is
     at_none false is e' = absurd (later (int_eq code (pos 46)) (list_any (int_eq code) retried_codes) e')
 
-duplicate_code : (code : ℤ) → verdict_of code ≡ Duplicate → code ≡ DUPLICATE_SEQUENCE_NUMBER
+pub duplicate_code : (code : ℤ) → verdict_of code ≡ Duplicate → code ≡ DUPLICATE_SEQUENCE_NUMBER
 unfolding verdict_of
 duplicate_code code e = at_none (int_eq code (pos 0)) e
   where
@@ -249,7 +249,7 @@ lawful_given n id s logs handed packets replies ids q r g going i is asked named
         at_test true = fresh p h
         at_test false = ((g.agree p h).sound, (g.agree p h).steady)
 
-abbrev answer_of : ℤ → ℤ → InitProducerIdResponse
+abbrev pub answer_of : ℤ → ℤ → InitProducerIdResponse
 answer_of code id = record { throttle_time_ms = pos 0; error_code = code; producer_id = id; producer_epoch = epoch_for code }
 
 abbrev id_step : ℕ → IdRequest → InitProducerIdResponse → Core → Bool → Replies
@@ -282,7 +282,7 @@ lawful_id_reply n now s logs handed packets replies ids q r code id g going i is
 
 -- ---- any reply
 
-same_correlation : (a b : ℕ) → pos a ≡ pos b → a ≡ b
+pub same_correlation : (a b : ℕ) → pos a ≡ pos b → a ≡ b
 same_correlation a b e = cc
 
 lawful_body : (n now : ℕ) (s : Core) (logs : List History) (handed : List (List Batch)) (packets : List Outgoing) (replies : List Reply) (ids : List ℕ) (r : Reply)

@@ -30,3 +30,4 @@ pub mod HearingLemmas
 pub mod RunLemmas
 pub mod LogLawLemmas
 pub mod ItemLemmas
+pub mod ToldLemmas

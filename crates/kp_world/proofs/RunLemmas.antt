@@ -79,6 +79,17 @@ reply o content = record { correlation = o.correlation; content = content }
 
 -- ---- batches
 
+pub parts_came : (n : ℕ) (w : World) (o : Outgoing) (xs : List Sending) (logs : List History) (answers : List PartAnswer) → IsLawful n w → In o w.packets → o.demand ≡ Produce xs → PartsDeliver w.logs xs answers logs
+    → PartsDelivered n o.correlation w.ids w.core w.handed w.logs logs w.packets w.replies answers
+parts_came n w o xs logs answers g i is deliver =
+    parts_delivered n o.correlation w.ids w.core w.handed w.logs logs w.packets w.replies xs answers g.logs_count g.agree known deliver
+  where
+    known : Known n o.correlation w.handed w.packets xs
+    known x j =
+        let parts : PartsIn n w.handed (Produce xs) = subst (PartsIn n w.handed) is (g.went o i).parts in
+        let one = all_at (λ (y : Sending). (y.partition < n) × In y.batch (handed_at y.partition w.handed)) xs x parts j in
+        (one.0, one.1, record { packet = o; sent = i; named = refl; carries = subst (λ (e : Demand). Carries x.partition x.batch e) (sym is) (x, j, refl, refl) })
+
 came_parts : (n : ℕ) (w : World) (o : Outgoing) (xs : List Sending) (d : Delivery) → IsLawful n w → In o w.packets → o.demand ≡ Produce xs → Delivers w (Produce xs) d
     → Lawful n w.core d.logs w.handed w.packets (w.replies ++ reply o d.content ∷ []) d.ids
 unfolding Delivers
@@ -88,14 +99,8 @@ came_parts n w o xs d g i is honest =
     (lawful_answered n w.core w.logs d.logs w.handed w.packets w.replies w.ids w.ids (reply o (Batches honest.0)) g (all.count ∙ g.logs_count) all.agree (λ id j. j)
     (gives_none n w.ids w.core (reply o (Batches honest.0)) (g.went o i).before (λ id e. absurd cc)) content))
   where
-    known : Known n o.correlation w.handed w.packets xs
-    known x j =
-        let parts : PartsIn n w.handed (Produce xs) = subst (PartsIn n w.handed) is (g.went o i).parts in
-        let one = all_at (λ (y : Sending). (y.partition < n) × In y.batch (handed_at y.partition w.handed)) xs x parts j in
-        (one.0, one.1, record { packet = o; sent = i; named = refl; carries = subst (λ (e : Demand). Carries x.partition x.batch e) (sym is) (x, j, refl, refl) })
-
     all : PartsDelivered n o.correlation w.ids w.core w.handed w.logs d.logs w.packets w.replies honest.0
-    all = parts_delivered n o.correlation w.ids w.core w.handed w.logs d.logs w.packets w.replies xs honest.0 g.logs_count g.agree known honest.1
+    all = parts_came n w o xs d.logs honest.0 g i is honest.1
 
     content : (p : ℕ) → p < n → (a : PartAnswer) → In a honest.0 → a.partition ≡ p → PartHolds p (length (handed_at p w.handed)) o.correlation w.packets (log_at p d.logs).records a.answer
     content p h a j at = subst (λ (q : ℕ). PartHolds q (length (handed_at q w.handed)) o.correlation w.packets (log_at q d.logs).records a.answer) at (all.parts a j).1
@@ -329,7 +334,7 @@ within_five c e =
     at_least true b is e' = absurd cc
     at_least false b is e' = at_most b is e'
 
-lawful_opening : (c : Config) (partitions senders : ℕ) → c.max_in_flight_requests_per_connection ≤ 5 → IsLawful partitions (opening c partitions senders)
+pub lawful_opening : (c : Config) (partitions senders : ℕ) → c.max_in_flight_requests_per_connection ≤ 5 → IsLawful partitions (opening c partitions senders)
 unfolding opening new_core
 lawful_opening c partitions senders five = record {
   count = length-replicate partitions (new_partition FIRST_ID);
