@@ -31,3 +31,4 @@ pub mod RunLemmas
 pub mod LogLawLemmas
 pub mod ItemLemmas
 pub mod ToldLemmas
+pub mod TruthLemmas
