@@ -32,3 +32,4 @@ pub mod LogLawLemmas
 pub mod ItemLemmas
 pub mod ToldLemmas
 pub mod TruthLemmas
+pub mod StandingLemmas
