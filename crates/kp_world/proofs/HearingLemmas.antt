@@ -1,23 +1,19 @@
 -- What holds of every world of a run holds still when a reply came that was ever given.
-use Rattle.std.proofs.Common.{◌≡◌, ◌⊎◌, ℕ, ◌+◌, ◌<◌, ◌≤◌, Bool, true, false, not, cond, List, [], ◌∷◌, length, map, ℤ, pos, negsuc, Some, None, refl, sym, ap, ◌∙◌, subst, inl, inr, ⊎_elim, arith}
-use Rattle.std.specs.Prelude.{Option, if◌then◌else◌, ◌&&◌, ◌||◌, int_le, find, nat_abs}
+use Rattle.std.proofs.Common.{◌≡◌, ℕ, ◌+◌, ◌<◌, ◌≤◌, Bool, true, false, not, List, [], ◌∷◌, length, map, ℤ, pos, negsuc, Some, None, refl, sym, ap, ◌∙◌, subst, ⊎_elim, arith}
+use Rattle.std.specs.Prelude.{Option, if◌then◌else◌, ◌&&◌, find, nat_abs}
 use Rattle.std.specs.List.{list_any}
 use Rattle.std.specs.Ordering.{int_eq}
 use Rattle.std.specs.Str.{bytes_eq}
 use Rattle.std.proofs.lemmas.Bool.{and_parts}
 use Rattle.std.proofs.lemmas.Bool.Decides.{Decides-int_eq}
-use Rattle.kp_accum.specs.declared.config.Config.{Config}
 use Rattle.kp_frames.specs.declared.fault.FrameFault.TheVariants.{Mismatch}
 use Rattle.kp_frames.specs.declared.produce.PartitionProduceResponse.{PartitionProduceResponse}
 use Rattle.kp_frames.specs.declared.producer_id.InitProducerIdResponse.{InitProducerIdResponse}
-use Rattle.kp_frames.specs.declared.response.ResponseBody.{ResponseBody}
-use Rattle.kp_frames.specs.declared.response.ResponseBody.TheVariants as body
 use Rattle.kp_log.specs.BrokerStep.{Stands, NO_ERROR, DUPLICATE_SEQUENCE_NUMBER}
 use Rattle.kp_log.specs.HandedOver.{IsStored}
 use Rattle.kp_log.specs.History.{History}
 use Rattle.kp_log.proofs.PlaceLemmas.{In, In-nil, In-cons, In-head, In-tail}
 use Rattle.kp_core.specs.declared.attempt.Attempt.TheVariants.{InFlight}
-use Rattle.kp_core.specs.declared.verdict.Verdict.{Verdict}
 use Rattle.kp_core.specs.declared.verdict.Verdict.TheVariants.{Stored, Duplicate, Retry, Reject}
 use Rattle.kp_core.specs.Answered.{verdict_of, retried_codes}
 use Rattle.kp_core.specs.Awaited.{Awaited, Nothing, Batches, Id, id_awaited, or_id, awaited}
@@ -31,14 +27,14 @@ use Rattle.kp_core.specs.Telling.{at_these, with_partitions}
 use Rattle.kp_world.specs.Client.{handed_at}
 use Rattle.kp_world.specs.Delivering.{log_at, given}
 use Rattle.kp_world.specs.Message.{sent_of, part_response, epoch_for, body_of_reply, response_of}
-use Rattle.kp_world.specs.World.{PartAnswer, ReplyContent, Batches as Parts, Id as GivenId, Reply, World, names}
-use Rattle.kp_world.proofs.FlightLemmas.{PartHolds, ContentHolds, Aloft, Steady, all_at, flies_same, steady_fresh}
-use Rattle.kp_world.proofs.KeepingLemmas.{Keeps, keeps_same, keeps_answered, CoreKeeps, core_same, core_at_these, length-changed_at, at-changed_at}
-use Rattle.kp_world.proofs.LawfulLemmas.{Lawful, IsLawful, StoredAt, lawful_core}
-use Rattle.kp_world.proofs.LeavingLemmas.{Leaves, leaves_same, leaves_answered, SettlesOnly, CoreLeaves, left_same, at_some, left_in, found}
+use Rattle.kp_world.specs.World.{PartAnswer, ReplyContent, Batches as Parts, Id as GivenId, Reply, names}
+use Rattle.kp_world.proofs.FlightLemmas.{PartHolds, ContentHolds, Steady, all_at, flies_same, steady_fresh}
+use Rattle.kp_world.proofs.KeepingLemmas.{Keeps, keeps_same, keeps_answered, core_at_these, length-changed_at, at-changed_at}
+use Rattle.kp_world.proofs.LawfulLemmas.{Lawful, StoredAt, lawful_core}
+use Rattle.kp_world.proofs.LeavingLemmas.{Leaves, leaves_same, leaves_answered, SettlesOnly, at_some, left_in, found}
 use Rattle.kp_world.proofs.BrokerLemmas.{Agrees}
 use Rattle.kp_world.proofs.PrefixLemmas.{follows}
-use Rattle.kp_world.proofs.SoundLemmas.{Sound, sents, sound_fresh}
+use Rattle.kp_world.proofs.SoundLemmas.{Sound, sound_fresh}
 
 -- ---- which request a reply names
 
@@ -123,9 +119,6 @@ leaves_part : (p now next k : ℕ) (ids : List ℕ) (e : Bool) (t : Partition) (
     → Leaves (λ b. IsStored h.records (sent_of b)) e t (answering now k (map part_response parts) p t).after
 leaves_part p now next k ids e t handed h packets replies r parts sound s i is named = at_first (answers_for p (map part_response parts)) refl
   where
-    P : Batch → Type 0
-    P = λ b. IsStored h.records (sent_of b)
-
     one : (a : PartAnswer) → In a parts → a.partition ≡ p → Leaves (λ b. IsStored h.records (sent_of b)) e t (first_answered now k t (part_response a ∷ [])).after
     one a j at = leaves_answered (λ b. IsStored h.records (sent_of b)) e now k t (part_response a) only (λ v o there flies. old_not_in_flight p next k e t handed h packets replies r parts a s i is named j at (duplicate_code a.answer.code v) o there flies)
       where
@@ -204,19 +197,18 @@ agrees_fresh : (n p id : ℕ) (s : Core) (logs : List History) (handed : List (L
 unfolding wants_id
 agrees_fresh n p id s logs handed packets replies ids a going drawn spare = at_test (wants_id s.config (partition_at p s.partitions)) refl
   where
-    t : Partition
-    t = partition_at p s.partitions
-
     at_test : (b : Bool) → wants_id s.config (partition_at p s.partitions) ≡ b → (Sound ids (if b then under id (partition_at p s.partitions) else partition_at p s.partitions) (handed_at p handed) (log_at p logs))
         × Steady p s.ended s.correlation (if b then under id (partition_at p s.partitions) else partition_at p s.partitions) (handed_at p handed) (log_at p logs) packets replies
     at_test false w = (a.sound, a.steady)
     at_test true w =
         let two = and_parts (not (partition_at p s.partitions).fenced && is_empty (partition_at p s.partitions).open_batches) (front_is_past_limit s.config (partition_at p s.partitions) (partition_at p s.partitions).queue) w in
         let one = and_parts (not (partition_at p s.partitions).fenced) (is_empty (partition_at p s.partitions).open_batches) two.0 in
-        let sound : Sound ids (under id (partition_at p s.partitions)) (handed_at p handed) (log_at p logs) = sound_fresh ids id (partition_at p s.partitions) (handed_at p handed) (log_at p logs) a.sound drawn spare in
-        (sound, subst (λ (e : Bool). Steady p e s.correlation (under id (partition_at p s.partitions)) (handed_at p handed) (log_at p logs) packets replies) (sym going)
-        (steady_fresh ids (partition_at p s.partitions) (handed_at p handed) (log_at p logs) p s.correlation id packets replies a.sound sound
-        (subst (λ (e : Bool). Steady p e s.correlation (partition_at p s.partitions) (handed_at p handed) (log_at p logs) packets replies) going a.steady) (is_none (partition_at p s.partitions).open_batches one.1) (is_no (partition_at p s.partitions).fenced one.0)))
+        let sound : Sound ids (under id (partition_at p s.partitions)) (handed_at p handed) (log_at p logs) = sound_fresh ids id (partition_at p s.partitions) (handed_at p handed) (log_at p logs) a.sound drawn spare in (
+          sound,
+          subst (λ (e : Bool). Steady p e s.correlation (under id (partition_at p s.partitions)) (handed_at p handed) (log_at p logs) packets replies) (sym going)
+              (steady_fresh ids (partition_at p s.partitions) (handed_at p handed) (log_at p logs) p s.correlation id packets replies a.sound sound
+              (subst (λ (e : Bool). Steady p e s.correlation (partition_at p s.partitions) (handed_at p handed) (log_at p logs) packets replies) going a.steady) (is_none (partition_at p s.partitions).open_batches one.1) (is_no (partition_at p s.partitions).fenced one.0)),
+        )
 
 lawful_given : (n id : ℕ) (s : Core) (logs : List History) (handed : List (List Batch)) (packets : List Outgoing) (replies : List Reply) (ids : List ℕ) (q : IdRequest) (r : Reply)
     → Lawful n s logs handed packets replies ids → s.ended ≡ false → In r replies → r.content ≡ given id → s.id_request ≡ Some q → q.correlation ≡ r.correlation → Lawful n (id_given id q s) logs handed packets replies ids

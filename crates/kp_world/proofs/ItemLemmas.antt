@@ -1,7 +1,7 @@
 -- The items in a partition's queue, and those that were handed over for it, are the partition's own,
 -- whatever happens.
-use Rattle.std.proofs.Common.{◌≡◌, ◌⊎◌, ℕ, ◌<◌, Bool, true, false, List, [], ◌∷◌, ◌++◌, length, map, Some, None, refl, sym, ap, ◌∙◌, subst, inl, inr, ⊎_elim}
-use Rattle.std.specs.Prelude.{Option, if◌then◌else◌, ◌==◌, ◌||◌, slice_set}
+use Rattle.std.proofs.Common.{◌≡◌, ◌⊎◌, ℕ, ◌<◌, Bool, true, false, List, [], ◌∷◌, ◌++◌, length, map, Some, None, refl, sym, subst, inl, inr, ⊎_elim}
+use Rattle.std.specs.Prelude.{Option, if◌then◌else◌, ◌==◌, ◌||◌}
 use Rattle.std.specs.List.{AllByRecursion, list_any}
 use Rattle.std.proofs.lemmas.Bool.{eqb-true, eq-eqb}
 use Rattle.std.proofs.lemmas.List.{get_or-map, length-map, length-set, get_or-set_same, get_or-set_other}
@@ -23,8 +23,8 @@ use Rattle.kp_core.specs.Flush.{with_marks, flushed}
 use Rattle.kp_core.specs.HandingOver.{handed_over_in, sent_first_in, sent_in}
 use Rattle.kp_core.specs.Next.{Sending}
 use Rattle.kp_core.specs.Partitions.{partition_at, changed_at, new_partition, is_in}
-use Rattle.kp_core.specs.Records.{Batch, Open, Partition, Core, Effect, Step}
-use Rattle.kp_core.specs.Telling.{with_partitions, at_each, told_at_each, at_these}
+use Rattle.kp_core.specs.Records.{Batch, Open, Partition, Core, Step}
+use Rattle.kp_core.specs.Telling.{with_partitions, at_each, told_at_each}
 use Rattle.kp_core.specs.Tick.{behind_late, expired_front, is_open_late, passed, has_timed_out, ticked_now, ticked_from, not_ticked, ticked, disconnected, closed}
 use Rattle.kp_world.specs.Client.{grown_by, handed_at, with_sending, with_sendings}
 use Rattle.kp_world.proofs.KeepingLemmas.{at-changed_at}
@@ -234,8 +234,11 @@ sending_at x handed p h = at_test (p == x.partition) refl
     at_test : (b : Bool) → (p == x.partition) ≡ b → ((x.partition ≡ p) × (handed_at p (with_sending x handed) ≡ grown_by x.batch (handed_at p handed))) ⊎ (handed_at p (with_sending x handed) ≡ handed_at p handed)
     at_test true is =
         let same : p ≡ x.partition = eqb-true p x.partition is in
-        inl (sym same, subst (λ (q : ℕ). handed_at q (with_sending x handed) ≡ grown_by x.batch (handed_at q handed)) (sym same)
-        (get_or-set_same handed x.partition (grown_by x.batch (handed_at x.partition handed)) [] (subst (λ (q : ℕ). q < length handed) same h)))
+        inl (
+          sym same,
+          subst (λ (q : ℕ). handed_at q (with_sending x handed) ≡ grown_by x.batch (handed_at q handed)) (sym same)
+              (get_or-set_same handed x.partition (grown_by x.batch (handed_at x.partition handed)) [] (subst (λ (q : ℕ). q < length handed) same h)),
+        )
     at_test false is = inr (get_or-set_other handed x.partition p (grown_by x.batch (handed_at x.partition handed)) [] (λ (e : p ≡ x.partition). let yes : (p == x.partition) ≡ true = eq-eqb p x.partition e in absurd cc))
 
 pub sendings_of : (xs : List Sending) (handed : List (List Batch)) (p : ℕ) → p < length handed → AllByRecursion (λ (x : Sending). AreOf x.partition x.batch.items) xs → HandedOf p (handed_at p handed) → HandedOf p (handed_at p (with_sendings xs handed))

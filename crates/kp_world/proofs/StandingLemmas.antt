@@ -1,5 +1,5 @@
 -- A record whose offset was told stands there, at its place among the own records.
-use Rattle.std.proofs.Common.{◌≡◌, ◌⊎◌, ℕ, suc, ◌+◌, ◌<◌, Bool, true, false, cond, List, [], ◌∷◌, ◌++◌, length, map, ℤ, pos, ◌+ℤ◌, refl, sym, ap, ◌∙◌, subst, ⊎_elim, arith, length-append, append_assoc}
+use Rattle.std.proofs.Common.{◌≡◌, ℕ, suc, ◌+◌, ◌<◌, Bool, true, false, cond, List, [], ◌∷◌, ◌++◌, length, map, ℤ, pos, ◌+ℤ◌, refl, sym, ap, ◌∙◌, ⊎_elim, arith, length-append, append_assoc}
 use Rattle.std.specs.List.{flat_map, filter}
 use Rattle.std.specs.Ordering.{int_eq}
 use Rattle.std.proofs.lemmas.Bool.Decides.{Decides-int_eq}
@@ -11,17 +11,16 @@ use Rattle.kp_accum.specs.declared.item.Item.{Item}
 use Rattle.kp_accum.specs.Queue.{body_of}
 use Rattle.kp_log.specs.declared.stored.Stored.{Stored}
 use Rattle.kp_log.specs.BrokerStep.{Stands}
-use Rattle.kp_log.specs.HandedOver.{Follows, IsStored}
+use Rattle.kp_log.specs.HandedOver.{Follows}
 use Rattle.kp_log.specs.History.{History, stored_of, records_of, own, is_under}
 use Rattle.kp_log.specs.Log.{count_of, stored_as}
 use Rattle.kp_log.proofs.LogLemmas.{length-stored_as, int_eq_same}
 use Rattle.kp_log.proofs.PlaceLemmas.{In, In-from_contains, contains_from_In, cut_cases}
-use Rattle.kp_core.specs.declared.outcome.Outcome.TheVariants.{Delivered, DeliveredNoOffset}
 use Rattle.kp_core.specs.Records.{Batch, Partition, Told}
 use Rattle.kp_world.specs.declared.event.Event.{Event}
 use Rattle.kp_world.specs.Client.{handed_at}
 use Rattle.kp_world.specs.Delivering.{log_at}
-use Rattle.kp_world.specs.LogLaws.{partition_of, items_handed, WasTold, StandsAt, ToldOffsetsStand, EachDeliveryHasItsOffset}
+use Rattle.kp_world.specs.LogLaws.{partition_of, WasTold, StandsAt, ToldOffsetsStand, EachDeliveryHasItsOffset}
 use Rattle.kp_world.specs.Message.{sent_of}
 use Rattle.kp_world.specs.Run.{IsReached}
 use Rattle.kp_world.specs.World.{World}

@@ -1,16 +1,14 @@
 -- What is told of items: that one was delivered at an offset is told only where it stands there, and
 -- none is told delivered without an offset.
-use Rattle.std.proofs.Common.{◌≡◌, ◌⊎◌, ℕ, suc, ◌+◌, ◌<◌, ◌≤◌, Bool, true, false, List, [], ◌∷◌, ◌++◌, length, map, ℤ, pos, ◌+ℤ◌, Some, None, refl, sym, ap, ◌∙◌, subst, inl, inr, ⊎_elim, arith, length-append, append_assoc}
-use Rattle.std.specs.Prelude.{Option, if◌then◌else◌, nat_lt, find}
-use Rattle.std.specs.List.{AllByRecursion, flat_map, enumerate_from, list_any}
-use Rattle.std.specs.Ordering.{int_eq}
+use Rattle.std.proofs.Common.{◌≡◌, ℕ, ◌+◌, ◌<◌, ◌≤◌, Bool, true, false, List, [], ◌∷◌, ◌++◌, length, map, ℤ, pos, ◌+ℤ◌, Some, None, refl, sym, ap, ◌∙◌, subst, ⊎_elim, arith}
+use Rattle.std.specs.Prelude.{Option, if◌then◌else◌, nat_lt}
+use Rattle.std.specs.List.{flat_map, enumerate_from, list_any}
 use Rattle.std.specs.Str.{bytes_eq}
 use Rattle.std.proofs.lemmas.Bool.{ltb-true, ltb-false}
 use Rattle.std.proofs.lemmas.Bool.Decides.{Decides-int_eq}
 use Rattle.std.proofs.lemmas.List.{get_or_past}
 use Rattle.kp_accum.specs.declared.config.Config.{Config}
 use Rattle.kp_accum.specs.declared.item.Item.{Item}
-use Rattle.kp_accum.specs.Queue.{Pending}
 use Rattle.kp_frames.specs.declared.fault.FrameFault.TheVariants.{Mismatch}
 use Rattle.kp_frames.specs.declared.produce.PartitionProduceResponse.{PartitionProduceResponse}
 use Rattle.kp_frames.specs.declared.producer_id.InitProducerIdResponse.{InitProducerIdResponse}
@@ -31,17 +29,17 @@ use Rattle.kp_core.specs.Appending.{turned_away, refused, queued, would_exhaust,
 use Rattle.kp_core.specs.Attempts.{awaits, awaiting, dropped}
 use Rattle.kp_core.specs.Awaited.{Awaited, Nothing, Batches, Id, awaited}
 use Rattle.kp_core.specs.Fence.{told_given_up, fenced, given_up, end_of, ended}
-use Rattle.kp_core.specs.Mismatch.{Answers, is_for, answers_for, answers_of, answer_batches, is_given, answers_id}
+use Rattle.kp_core.specs.Mismatch.{Answers, is_for, answers_for, answers_of, answer_batches, answers_id}
 use Rattle.kp_core.specs.Partitions.{partition_at, new_partition, items_open, items_queued}
 use Rattle.kp_core.specs.Records.{Batch, Open, Partition, Request, IdRequest, Core, Told, Effect, Step}
-use Rattle.kp_core.specs.Replies.{first_answered, answering, batches_answered, batches_replied, id_answered, id_replied, replied_to, replied, after_end, faulty, known, Replies}
+use Rattle.kp_core.specs.Replies.{first_answered, answering, batches_answered, batches_replied, id_answered, replied_to, replied, after_end, faulty, known, Replies}
 use Rattle.kp_core.specs.Requesting.{Outgoing}
 use Rattle.kp_core.specs.Telling.{told_all, told_offsets, told_at_each, told_at}
 use Rattle.kp_core.specs.Tick.{expired_front, is_open_late, late_front, passed, has_timed_out, ticked_now, ticked_from, not_ticked, ticked}
 use Rattle.kp_world.specs.Client.{handed_at}
 use Rattle.kp_world.specs.Delivering.{log_at}
 use Rattle.kp_world.specs.Message.{sent_of, part_response, body_of_reply, response_of}
-use Rattle.kp_world.specs.World.{PartAnswer, ReplyContent, Batches as Parts, Id as GivenId, Reply, World, names}
+use Rattle.kp_world.specs.World.{PartAnswer, ReplyContent, Batches as Parts, Id as GivenId, Reply, names}
 use Rattle.kp_world.proofs.BrokerLemmas.{Agrees}
 use Rattle.kp_world.proofs.FlightLemmas.{Steady, all_at}
 use Rattle.kp_world.proofs.HearingLemmas.{Names, names_its, stored_code, duplicate_code, from_map, answered_batch, old_not_in_flight, answer_of, same_correlation}

@@ -1,7 +1,7 @@
 -- In every world of a run, what was ever told of an item is true of what was handed over and of the
 -- logs; and items are where their partition is.
-use Rattle.std.proofs.Common.{◌≡◌, ◌⊎◌, ℕ, ◌+◌, ◌<◌, Bool, true, false, List, [], ◌∷◌, ◌++◌, length, replicate, Some, None, refl, sym, ap, ◌∙◌, subst, ⊎_elim}
-use Rattle.std.specs.Prelude.{Option, Ok, Err, if◌then◌else◌, ◌==◌, ◌&&◌, slice_get}
+use Rattle.std.proofs.Common.{◌≡◌, ℕ, ◌<◌, Bool, true, false, List, [], ◌∷◌, ◌++◌, length, replicate, Some, None, refl, sym, ap, ◌∙◌, subst, ⊎_elim}
+use Rattle.std.specs.Prelude.{Option, Err, if◌then◌else◌, ◌==◌, ◌&&◌, slice_get}
 use Rattle.std.specs.List.{AllByRecursion}
 use Rattle.std.proofs.lemmas.Bool.{eqb-true, eq-eqb, ltb-true}
 use Rattle.std.proofs.lemmas.List.{get_or-replicate, get_or-set_same, get_or-set_other, append-nil}
@@ -14,15 +14,14 @@ use Rattle.kp_log.specs.Log.{stored_as}
 use Rattle.kp_log.proofs.PlaceLemmas.{In, In-nil}
 use Rattle.kp_core.specs.Appending.{Appended, TakenIn, BufferFull, appended}
 use Rattle.kp_core.specs.Awaited.{Awaited, Nothing, Batches, Id, awaited}
-use Rattle.kp_core.specs.Attempts.{is_waiting, lowest_waiting}
+use Rattle.kp_core.specs.Attempts.{is_waiting}
 use Rattle.kp_core.specs.Fence.{ended}
 use Rattle.kp_core.specs.Flush.{flushed}
 use Rattle.kp_core.specs.HandingOver.{sent_in}
-use Rattle.kp_core.specs.MaySend.{new_batch}
 use Rattle.kp_core.specs.Mismatch.{Answers, answers_for, answers_of, answer_batches, is_given, answers_id}
 use Rattle.kp_core.specs.Next.{Sending, Demand, Produce, InitProducerId, flags_of, next_demand}
 use Rattle.kp_core.specs.Opening.{new_core}
-use Rattle.kp_core.specs.Partitions.{partition_at, is_in, new_partition}
+use Rattle.kp_core.specs.Partitions.{partition_at, new_partition}
 use Rattle.kp_core.specs.Records.{Batch, Open, Partition, Request, IdRequest, Core, Told}
 use Rattle.kp_core.specs.Replies.{first_answered, answering, batches_answered, batches_replied, under_if_wanted, under, id_given, id_refused, id_answered, id_replied, replied_to, replied, after_end, faulty, known, Replies}
 use Rattle.kp_core.specs.Requesting.{Outgoing, Requested, nothing_out, goes_out, requested_for, requested, partitions_in, sent_out, is_spent}
@@ -31,7 +30,6 @@ use Rattle.kp_core.specs.Telling.{at_these, with_partitions}
 use Rattle.kp_core.specs.Tick.{ticked, disconnected, closed}
 use Rattle.kp_core.specs.declared.fault.CoreFault.TheVariants as fault
 use Rattle.kp_frames.specs.declared.fault.FrameFault.TheVariants.{Mismatch}
-use Rattle.kp_frames.specs.declared.produce.PartitionProduceResponse.{PartitionProduceResponse}
 use Rattle.kp_frames.specs.declared.producer_id.InitProducerIdResponse.{InitProducerIdResponse}
 use Rattle.kp_frames.specs.declared.response.Response.{Response}
 use Rattle.kp_frames.specs.declared.response.ResponseBody.{ResponseBody}
@@ -40,7 +38,7 @@ use Rattle.kp_world.specs.declared.event.Event.{Event}
 use Rattle.kp_world.specs.declared.event.Event.TheVariants as event
 use Rattle.kp_world.specs.Accepting.{is_large, with_accepted, accepting, item_for, accepted_by, taking, taking_of, taken_by}
 use Rattle.kp_world.specs.Client.{handed_at, with_sendings, sending, replying, has_sender, has_partition, only_if, ticking, ending, closing, client}
-use Rattle.kp_world.specs.Delivering.{log_at, PartsDeliver, Delivery, Delivers}
+use Rattle.kp_world.specs.Delivering.{log_at, Delivery, Delivers}
 use Rattle.kp_world.specs.Line.{Closed, Large}
 use Rattle.kp_world.specs.Loopback.{other_record, logs_with_others}
 use Rattle.kp_world.specs.Message.{response_of}
@@ -50,7 +48,7 @@ use Rattle.kp_world.specs.World.{Happened, Reply, World, opening, FIRST_ID}
 use Rattle.kp_world.proofs.DeliveryLemmas.{all_in}
 use Rattle.kp_world.proofs.FlightLemmas.{all_at, one_more}
 use Rattle.kp_world.proofs.ItemLemmas.{AreOf, QueueOf, HandedOf, Queues, CoreQueues, queues_same, at_places, queues_answered, queues_sent, queues_ticked, queues_ended, queues_flushed, queues_disconnected, queues_closed, queues_appended, sendings_of, sendings_in}
-use Rattle.kp_world.proofs.LawfulLemmas.{Lawful, IsLawful, GoesAgain, GoesFirst, sends_cases}
+use Rattle.kp_world.proofs.LawfulLemmas.{IsLawful, GoesAgain, GoesFirst, sends_cases}
 use Rattle.kp_world.proofs.LeavingLemmas.{found}
 use Rattle.kp_world.proofs.RunLemmas.{parts_came, got_in, lawful_step, lawful_opening, within_five}
 use Rattle.kp_world.proofs.SendingLemmas.{IsSent, demand_is_sent}

@@ -20,7 +20,7 @@ partition_of p w = partition_at p w.core.partitions
 
 -- ---- the log
 
--- the records of a partition's log that are this producer's, in order
+-- the own records of a partition's log: those under the partition's producer ids, in order
 abbrev pub own_records : ℕ → World → List Stored
 own_records p w = own (partition_of p w).ids (log_at p w.logs).records
 
@@ -29,7 +29,7 @@ abbrev pub as_stored : List HandedBatch → List Stored
 as_stored batches = records_of (map sent_of batches)
 
 -- Of the batches that were handed over for the partition the first so many are stored, whole and in
--- their order, and the log has nothing else of this producer.
+-- their order, and the log has no other own records.
 pub record IsPrefix (p : ℕ) (w : World) : Type 0 where
   pub stored : List HandedBatch
   pub rest : List HandedBatch
@@ -54,17 +54,21 @@ pub record StandsAt (w : World) (i : Item) (offset : ℤ) : Type 0 where
   pub earlier : List Item
   pub later : List Item
   pub handed : items_handed i.partition w ≡ earlier ++ i ∷ later
-
   pub id : ℕ
   pub known : Contains (partition_of i.partition w).ids id
   pub before : List Stored
   pub after : List Stored
-  pub record_is : (log_at i.partition w.logs).records ≡ before ++ (record { producer_id = pos id; body = i.body }) ∷ after
+  pub record_is : (log_at i.partition w.logs).records
+      ≡ before ++ (record { producer_id = pos id; body = i.body }) ∷ after
   pub offset_is : offset ≡ pos (length before)
   pub place : length (own (partition_of i.partition w).ids before) ≡ length earlier
 
 abbrev pub ToldOffsetsStand : World → Type 0
-ToldOffsetsStand w = (t : Told) (offset : ℤ) → WasTold w t → t.outcome ≡ Delivered offset → StandsAt w t.item offset
+ToldOffsetsStand w =
+    (t : Told) (offset : ℤ)
+    → WasTold w t
+    → t.outcome ≡ Delivered offset
+    → StandsAt w t.item offset
 
 -- ---- answers
 
