@@ -1,20 +1,20 @@
 -- What any honest broker does with a packet that went out: each partition, what was handed over for
 -- it, and its log agree still, and what is answered is true of them.
-use Rattle.std.proofs.Common.{◌≡◌, ◌⊎◌, ℕ, suc, ◌+◌, ◌<◌, ◌≤◌, Bool, true, false, cond, List, [], ◌∷◌, ◌++◌, length, map, ℤ, pos, refl, sym, ap, ◌∙◌, subst, inl, inr, ⊎_elim, arith, length-append, append_assoc, Contains}
-use Rattle.std.specs.Prelude.{◌==◌, slice_set}
-use Rattle.std.specs.List.{AllByRecursion, filter}
+use Rattle.std.proofs.Common.{◌≡◌, ◌⊎◌, ℕ, suc, ◌+◌, ◌<◌, ◌≤◌, Bool, true, false, cond, List, [], ◌∷◌, ◌++◌, length, pos, refl, sym, ap, ◌∙◌, subst, inl, inr, ⊎_elim, arith, length-append, append_assoc}
+use Rattle.std.specs.Prelude.{◌==◌}
+use Rattle.std.specs.List.{filter}
 use Rattle.std.proofs.lemmas.Bool.{eqb-true, eq-eqb}
 use Rattle.std.proofs.lemmas.List.{length-set, length-map, get_or-set_same, get_or-set_other, map-append, append-nil}
 use Rattle.std.proofs.lemmas.List.Concat.{flat_map-append}
 use Rattle.kp_log.specs.declared.stored.Stored.{Stored}
-use Rattle.kp_log.specs.BrokerStep.{Answered, MayAppend, IsOld, BrokerStep, DUPLICATE_SEQUENCE_NUMBER}
-use Rattle.kp_log.specs.HandedOver.{Follows, AreInSequence, CameBy}
+use Rattle.kp_log.specs.BrokerStep.{Answered, MayAppend, IsOld, BrokerStep}
+use Rattle.kp_log.specs.HandedOver.{Follows, AreInSequence}
 use Rattle.kp_log.specs.History.{Sent, History, stored_of, records_of, of_id, with_batch, empty_history}
 use Rattle.kp_log.specs.Log.{count_of}
 use Rattle.kp_log.proofs.KeepingLemmas.{came_appended}
 use Rattle.kp_log.proofs.LogLemmas.{count_of-append, count_of_own}
 use Rattle.kp_log.proofs.PlaceLemmas.{In, In-nil, In-cons, In-head, In-tail, cut_cases, contains_from_In}
-use Rattle.kp_core.specs.Next.{Sending, Produce}
+use Rattle.kp_core.specs.Next.{Sending}
 use Rattle.kp_core.specs.Partitions.{partition_at}
 use Rattle.kp_core.specs.Records.{Batch, Partition, Core}
 use Rattle.kp_core.specs.Requesting.{Outgoing}

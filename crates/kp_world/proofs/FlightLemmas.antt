@@ -1,7 +1,7 @@
 -- A partition's open batches, the packets and replies that have something for it, and its log: they
 -- agree, whatever happens.
-use Rattle.std.proofs.Common.{◌≡◌, ◌⊎◌, ℕ, suc, ◌+◌, ◌-◌, ◌<◌, ◌≤◌, Bool, true, false, cond, List, [], ◌∷◌, ◌++◌, length, ℤ, pos, Some, None, refl, sym, ap, ◌∙◌, subst, inl, inr, ⊎_elim, arith, length-append}
-use Rattle.std.specs.Prelude.{Option, find, nat_lt, if◌then◌else◌}
+use Rattle.std.proofs.Common.{◌≡◌, ◌⊎◌, ℕ, ◌+◌, ◌-◌, ◌<◌, ◌≤◌, Bool, true, false, cond, List, [], ◌∷◌, ◌++◌, length, Some, refl, sym, ap, ◌∙◌, subst, inl, inr, ⊎_elim, arith, length-append}
+use Rattle.std.specs.Prelude.{find, if◌then◌else◌}
 use Rattle.std.specs.List.{AllByRecursion}
 use Rattle.std.proofs.lemmas.Bool.{ltb-true}
 use Rattle.kp_accum.specs.declared.config.Config.{Config}
@@ -23,11 +23,9 @@ use Rattle.kp_core.specs.Replies.{under}
 use Rattle.kp_core.specs.Requesting.{Outgoing}
 use Rattle.kp_world.specs.Message.{sent_of}
 use Rattle.kp_world.specs.World.{PartAnswer, ReplyContent, Batches, Id, Reply}
-use Rattle.kp_world.proofs.KeepingLemmas.{OpenIn}
 use Rattle.kp_world.proofs.LeavingLemmas.{Rising, CameFrom, IsOpen, Leaves}
 use Rattle.kp_world.proofs.PrefixLemmas.{Cut, Grown, cut_empty, cut_kept, cut_handed, cut_fresh, stored_landed}
-use Rattle.kp_world.proofs.SendingLemmas.{all_weaker}
-use Rattle.kp_world.proofs.SoundLemmas.{Sound, sound_fresh}
+use Rattle.kp_world.proofs.SoundLemmas.{Sound}
 
 -- ---- packets
 

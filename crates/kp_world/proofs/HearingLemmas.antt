@@ -1,23 +1,19 @@
 -- What holds of every world of a run holds still when a reply came that was ever given.
-use Rattle.std.proofs.Common.{◌≡◌, ◌⊎◌, ℕ, ◌+◌, ◌<◌, ◌≤◌, Bool, true, false, not, cond, List, [], ◌∷◌, length, map, ℤ, pos, negsuc, Some, None, refl, sym, ap, ◌∙◌, subst, inl, inr, ⊎_elim, arith}
-use Rattle.std.specs.Prelude.{Option, if◌then◌else◌, ◌&&◌, ◌||◌, int_le, find, nat_abs}
+use Rattle.std.proofs.Common.{◌≡◌, ℕ, ◌+◌, ◌<◌, ◌≤◌, Bool, true, false, not, List, [], ◌∷◌, length, map, ℤ, pos, negsuc, Some, None, refl, sym, ap, ◌∙◌, subst, ⊎_elim, arith}
+use Rattle.std.specs.Prelude.{Option, if◌then◌else◌, ◌&&◌, find, nat_abs}
 use Rattle.std.specs.List.{list_any}
 use Rattle.std.specs.Ordering.{int_eq}
 use Rattle.std.specs.Str.{bytes_eq}
 use Rattle.std.proofs.lemmas.Bool.{and_parts}
 use Rattle.std.proofs.lemmas.Bool.Decides.{Decides-int_eq}
-use Rattle.kp_accum.specs.declared.config.Config.{Config}
 use Rattle.kp_frames.specs.declared.fault.FrameFault.TheVariants.{Mismatch}
 use Rattle.kp_frames.specs.declared.produce.PartitionProduceResponse.{PartitionProduceResponse}
 use Rattle.kp_frames.specs.declared.producer_id.InitProducerIdResponse.{InitProducerIdResponse}
-use Rattle.kp_frames.specs.declared.response.ResponseBody.{ResponseBody}
-use Rattle.kp_frames.specs.declared.response.ResponseBody.TheVariants as body
 use Rattle.kp_log.specs.BrokerStep.{Stands, NO_ERROR, DUPLICATE_SEQUENCE_NUMBER}
 use Rattle.kp_log.specs.HandedOver.{IsStored}
 use Rattle.kp_log.specs.History.{History}
 use Rattle.kp_log.proofs.PlaceLemmas.{In, In-nil, In-cons, In-head, In-tail}
 use Rattle.kp_core.specs.declared.attempt.Attempt.TheVariants.{InFlight}
-use Rattle.kp_core.specs.declared.verdict.Verdict.{Verdict}
 use Rattle.kp_core.specs.declared.verdict.Verdict.TheVariants.{Stored, Duplicate, Retry, Reject}
 use Rattle.kp_core.specs.Answered.{verdict_of, retried_codes}
 use Rattle.kp_core.specs.Awaited.{Awaited, Nothing, Batches, Id, id_awaited, or_id, awaited}
@@ -31,23 +27,23 @@ use Rattle.kp_core.specs.Telling.{at_these, with_partitions}
 use Rattle.kp_world.specs.Client.{handed_at}
 use Rattle.kp_world.specs.Delivering.{log_at, given}
 use Rattle.kp_world.specs.Message.{sent_of, part_response, epoch_for, body_of_reply, response_of}
-use Rattle.kp_world.specs.World.{PartAnswer, ReplyContent, Batches as Parts, Id as GivenId, Reply, World, names}
-use Rattle.kp_world.proofs.FlightLemmas.{PartHolds, ContentHolds, Aloft, Steady, all_at, flies_same, steady_fresh}
-use Rattle.kp_world.proofs.KeepingLemmas.{Keeps, keeps_same, keeps_answered, CoreKeeps, core_same, core_at_these, length-changed_at, at-changed_at}
-use Rattle.kp_world.proofs.LawfulLemmas.{Lawful, IsLawful, StoredAt, lawful_core}
-use Rattle.kp_world.proofs.LeavingLemmas.{Leaves, leaves_same, leaves_answered, SettlesOnly, CoreLeaves, left_same, at_some, left_in, found}
+use Rattle.kp_world.specs.World.{PartAnswer, ReplyContent, Batches as Parts, Id as GivenId, Reply, names}
+use Rattle.kp_world.proofs.FlightLemmas.{PartHolds, ContentHolds, Steady, all_at, flies_same, steady_fresh}
+use Rattle.kp_world.proofs.KeepingLemmas.{Keeps, keeps_same, keeps_answered, core_at_these, length-changed_at, at-changed_at}
+use Rattle.kp_world.proofs.LawfulLemmas.{Lawful, StoredAt, lawful_core}
+use Rattle.kp_world.proofs.LeavingLemmas.{Leaves, leaves_same, leaves_answered, SettlesOnly, at_some, left_in, found}
 use Rattle.kp_world.proofs.BrokerLemmas.{Agrees}
 use Rattle.kp_world.proofs.PrefixLemmas.{follows}
-use Rattle.kp_world.proofs.SoundLemmas.{Sound, sents, sound_fresh}
+use Rattle.kp_world.proofs.SoundLemmas.{Sound, sound_fresh}
 
 -- ---- which request a reply names
 
-abbrev Names : ℤ → Core → Awaited → Type 0
+abbrev pub Names : ℤ → Core → Awaited → Type 0
 Names k s Nothing = Unit {0}
 Names k s (Batches r) = pos r.correlation ≡ k
 Names k s (Id q) = (s.id_request ≡ Some q) × (pos q.correlation ≡ k)
 
-names_its : (k : ℤ) (s : Core) → Names k s (awaited k s)
+pub names_its : (k : ℤ) (s : Core) → Names k s (awaited k s)
 unfolding awaited
 names_its k s = at_request (find (λ (r : Request). int_eq (pos r.correlation) k) s.requests) refl
   where
@@ -65,7 +61,7 @@ names_its k s = at_request (find (λ (r : Request). int_eq (pos r.correlation) k
 
 -- ---- what a code means
 
-stored_code : (code : ℤ) → verdict_of code ≡ Stored → code ≡ NO_ERROR
+pub stored_code : (code : ℤ) → verdict_of code ≡ Stored → code ≡ NO_ERROR
 unfolding verdict_of
 stored_code code e = at_none (int_eq code (pos 0)) refl e
   where
@@ -78,7 +74,7 @@ stored_code code e = at_none (int_eq code (pos 0)) refl e
     at_none true is e' = (Decides-int_eq code (pos 0)).0 is
     at_none false is e' = absurd (later (int_eq code (pos 46)) (list_any (int_eq code) retried_codes) e')
 
-duplicate_code : (code : ℤ) → verdict_of code ≡ Duplicate → code ≡ DUPLICATE_SEQUENCE_NUMBER
+pub duplicate_code : (code : ℤ) → verdict_of code ≡ Duplicate → code ≡ DUPLICATE_SEQUENCE_NUMBER
 unfolding verdict_of
 duplicate_code code e = at_none (int_eq code (pos 0)) e
   where
@@ -123,9 +119,6 @@ leaves_part : (p now next k : ℕ) (ids : List ℕ) (e : Bool) (t : Partition) (
     → Leaves (λ b. IsStored h.records (sent_of b)) e t (answering now k (map part_response parts) p t).after
 leaves_part p now next k ids e t handed h packets replies r parts sound s i is named = at_first (answers_for p (map part_response parts)) refl
   where
-    P : Batch → Type 0
-    P = λ b. IsStored h.records (sent_of b)
-
     one : (a : PartAnswer) → In a parts → a.partition ≡ p → Leaves (λ b. IsStored h.records (sent_of b)) e t (first_answered now k t (part_response a ∷ [])).after
     one a j at = leaves_answered (λ b. IsStored h.records (sent_of b)) e now k t (part_response a) only (λ v o there flies. old_not_in_flight p next k e t handed h packets replies r parts a s i is named j at (duplicate_code a.answer.code v) o there flies)
       where
@@ -204,9 +197,6 @@ agrees_fresh : (n p id : ℕ) (s : Core) (logs : List History) (handed : List (L
 unfolding wants_id
 agrees_fresh n p id s logs handed packets replies ids a going drawn spare = at_test (wants_id s.config (partition_at p s.partitions)) refl
   where
-    t : Partition
-    t = partition_at p s.partitions
-
     at_test : (b : Bool) → wants_id s.config (partition_at p s.partitions) ≡ b → (Sound ids (if b then under id (partition_at p s.partitions) else partition_at p s.partitions) (handed_at p handed) (log_at p logs))
         × Steady p s.ended s.correlation (if b then under id (partition_at p s.partitions) else partition_at p s.partitions) (handed_at p handed) (log_at p logs) packets replies
     at_test false w = (a.sound, a.steady)
@@ -251,7 +241,7 @@ lawful_given n id s logs handed packets replies ids q r g going i is asked named
         at_test true = fresh p h
         at_test false = ((g.agree p h).sound, (g.agree p h).steady)
 
-abbrev answer_of : ℤ → ℤ → InitProducerIdResponse
+abbrev pub answer_of : ℤ → ℤ → InitProducerIdResponse
 answer_of code id = record { throttle_time_ms = pos 0; error_code = code; producer_id = id; producer_epoch = epoch_for code }
 
 abbrev id_step : ℕ → IdRequest → InitProducerIdResponse → Core → Bool → Replies
@@ -284,7 +274,7 @@ lawful_id_reply n now s logs handed packets replies ids q r code id g going i is
 
 -- ---- any reply
 
-same_correlation : (a b : ℕ) → pos a ≡ pos b → a ≡ b
+pub same_correlation : (a b : ℕ) → pos a ≡ pos b → a ≡ b
 same_correlation a b e = cc
 
 lawful_body : (n now : ℕ) (s : Core) (logs : List History) (handed : List (List Batch)) (packets : List Outgoing) (replies : List Reply) (ids : List ℕ) (r : Reply)

@@ -1,7 +1,7 @@
 -- The items in a partition's queue, and those that were handed over for it, are the partition's own,
 -- whatever happens.
-use Rattle.std.proofs.Common.{◌≡◌, ◌⊎◌, ℕ, ◌<◌, Bool, true, false, List, [], ◌∷◌, ◌++◌, length, map, Some, None, refl, sym, ap, ◌∙◌, subst, inl, inr, ⊎_elim}
-use Rattle.std.specs.Prelude.{Option, if◌then◌else◌, ◌==◌, ◌||◌, slice_set}
+use Rattle.std.proofs.Common.{◌≡◌, ◌⊎◌, ℕ, ◌<◌, Bool, true, false, List, [], ◌∷◌, ◌++◌, length, map, Some, None, refl, sym, subst, inl, inr, ⊎_elim}
+use Rattle.std.specs.Prelude.{Option, if◌then◌else◌, ◌==◌, ◌||◌}
 use Rattle.std.specs.List.{AllByRecursion, list_any}
 use Rattle.std.proofs.lemmas.Bool.{eqb-true, eq-eqb}
 use Rattle.std.proofs.lemmas.List.{get_or-map, length-map, length-set, get_or-set_same, get_or-set_other}
@@ -23,8 +23,8 @@ use Rattle.kp_core.specs.Flush.{with_marks, flushed}
 use Rattle.kp_core.specs.HandingOver.{handed_over_in, sent_first_in, sent_in}
 use Rattle.kp_core.specs.Next.{Sending}
 use Rattle.kp_core.specs.Partitions.{partition_at, changed_at, new_partition, is_in}
-use Rattle.kp_core.specs.Records.{Batch, Open, Partition, Core, Effect, Step}
-use Rattle.kp_core.specs.Telling.{with_partitions, at_each, told_at_each, at_these}
+use Rattle.kp_core.specs.Records.{Batch, Open, Partition, Core, Step}
+use Rattle.kp_core.specs.Telling.{with_partitions, at_each, told_at_each}
 use Rattle.kp_core.specs.Tick.{behind_late, expired_front, is_open_late, passed, has_timed_out, ticked_now, ticked_from, not_ticked, ticked, disconnected, closed}
 use Rattle.kp_world.specs.Client.{grown_by, handed_at, with_sending, with_sendings}
 use Rattle.kp_world.proofs.KeepingLemmas.{at-changed_at}

@@ -1,6 +1,6 @@
 -- What holds of every world of a run, for any honest broker; and that it holds still when the core was
 -- called, and when a request has gone out.
-use Rattle.std.proofs.Common.{◌≡◌, ◌⊎◌, ℕ, suc, ◌+◌, ◌<◌, ◌≤◌, Bool, true, false, cond, List, [], ◌∷◌, ◌++◌, length, map, Some, None, refl, sym, ap, ◌∙◌, subst, inl, inr, ⊎_elim, arith, length-append}
+use Rattle.std.proofs.Common.{◌≡◌, ◌⊎◌, ℕ, ◌+◌, ◌<◌, ◌≤◌, Bool, true, false, List, [], ◌∷◌, ◌++◌, length, Some, None, refl, sym, ap, ◌∙◌, subst, inl, inr, ⊎_elim, arith}
 use Rattle.std.specs.Prelude.{Option, Err, if◌then◌else◌, ◌==◌, ◌||◌, ◌&&◌}
 use Rattle.std.specs.List.{AllByRecursion}
 use Rattle.std.proofs.lemmas.Bool.{eqb-true, eq-eqb, and_parts}
@@ -24,13 +24,13 @@ use Rattle.kp_world.specs.Delivering.{log_at}
 use Rattle.kp_world.specs.Message.{sent_of}
 use Rattle.kp_world.specs.Noting.{noted}
 use Rattle.kp_world.specs.World.{Reply, World}
-use Rattle.kp_world.proofs.BrokerLemmas.{Agrees, AllAgree}
+use Rattle.kp_world.proofs.BrokerLemmas.{AllAgree}
 use Rattle.kp_world.proofs.DeliveryLemmas.{all_in}
-use Rattle.kp_world.proofs.FlightLemmas.{Says, Steady, SentAgain, again_from, all_at, one_more, steady_kept, steady_passed_by, steady_again, steady_handed}
+use Rattle.kp_world.proofs.FlightLemmas.{Says, Steady, again_from, all_at, one_more, steady_kept, steady_passed_by, steady_again, steady_handed}
 use Rattle.kp_world.proofs.GoodLemmas.{PartsIn, Went, Given, length-with_sendings, at-with_sendings}
-use Rattle.kp_world.proofs.KeepingLemmas.{Keeps, CoreKeeps, OpenIn, length-changed_at, at-changed_at}
-use Rattle.kp_world.proofs.LeavingLemmas.{Leaves, CoreLeaves, found}
-use Rattle.kp_world.proofs.SendingLemmas.{HandsOver, IsSent, all_weaker, demand_is_sent}
+use Rattle.kp_world.proofs.KeepingLemmas.{CoreKeeps, OpenIn, length-changed_at, at-changed_at}
+use Rattle.kp_world.proofs.LeavingLemmas.{CoreLeaves, found}
+use Rattle.kp_world.proofs.SendingLemmas.{IsSent, all_weaker, demand_is_sent}
 use Rattle.kp_world.proofs.SoundLemmas.{Sound, sound_kept, sound_handed}
 
 -- ---- what holds

@@ -1,8 +1,8 @@
 -- What a call on the core leaves of each partition's open batches, where it acknowledges only batches
 -- that are stored: the others stay open unless the partition is fenced, in their order, and none is in
 -- flight that was not.
-use Rattle.std.proofs.Common.{◌≡◌, ◌⊎◌, ℕ, ◌<◌, Bool, true, false, not, cond, List, [], ◌∷◌, ◌++◌, length, map, Some, None, refl, sym, ap, ◌∙◌, subst, inl, inr, ⊎_elim}
-use Rattle.std.specs.Prelude.{Option, find, if◌then◌else◌, ◌==◌, ◌&&◌, ◌||◌}
+use Rattle.std.proofs.Common.{◌≡◌, ◌⊎◌, ℕ, ◌<◌, Bool, true, false, not, cond, List, [], ◌∷◌, length, map, Some, None, refl, sym, ap, ◌∙◌, subst, inl, inr, ⊎_elim}
+use Rattle.std.specs.Prelude.{Option, find, if◌then◌else◌, ◌==◌, ◌||◌}
 use Rattle.std.specs.List.{AllByRecursion, filter, list_any}
 use Rattle.std.proofs.lemmas.Bool.{eqb-true, and_parts}
 use Rattle.std.proofs.lemmas.List.{get_or-map, length-map}
@@ -22,11 +22,10 @@ use Rattle.kp_core.specs.Attempts.{is_attempt_in, awaits, awaiting, dropped_atte
 use Rattle.kp_core.specs.Fence.{fenced, given_up, end_of, ended}
 use Rattle.kp_core.specs.Flush.{marked_open, with_marks, flushed}
 use Rattle.kp_core.specs.Partitions.{partition_at, changed_at, new_partition, is_in, present_id}
-use Rattle.kp_core.specs.Records.{Batch, Open, Partition, Core, Effect, Step}
-use Rattle.kp_core.specs.Telling.{with_partitions, at_each, told_at_each, at_these}
+use Rattle.kp_core.specs.Records.{Batch, Open, Partition, Core, Step}
+use Rattle.kp_core.specs.Telling.{with_partitions, at_each, told_at_each}
 use Rattle.kp_core.specs.Tick.{expired_front, is_open_late, passed, has_timed_out, ticked_now, ticked_from, not_ticked, ticked, disconnected, closed}
 use Rattle.kp_world.proofs.KeepingLemmas.{at-changed_at}
-use Rattle.kp_world.proofs.SendingLemmas.{all_weaker}
 
 -- ---- open batches
 
@@ -283,16 +282,6 @@ alike_waiting now k = record { batch = λ o. same o (awaits k o); flight = λ o 
     flies o true q e = absurd cc
     flies o false q e = e
 
-leaves_without : (P : Batch → Type 0) (k : ℕ) (t : Partition) → Leaves P true t (without_attempt k t)
-leaves_without P k t = record {
-  opens = λ x j. came_same t.open_batches x (left_in (λ (y : Open). not (awaits k y)) t.open_batches x j).0;
-  rises = λ r. rising_left (λ (y : Open). not (awaits k y)) t.open_batches r;
-  stays = λ g f o i. absurd cc;
-  fence = λ f. f;
-  acknowledged = λ a. inl a;
-  ids = refl;
-}
-
 leaves_rejected : (P : Batch → Type 0) (e : Bool) (k : ℕ) (t : Partition) → Leaves P e t (fenced (without_attempt k t)).after
 unfolding fenced
 leaves_rejected P e k t = record {
@@ -345,10 +334,6 @@ at_some P e ps f ts p h k = subst (Leaves (P p) e (partition_at p ts)) (sym (at-
     at_test : (b : Bool) → Leaves (P p) e (partition_at p ts) (if b then f p (partition_at p ts) else partition_at p ts)
     at_test true = k
     at_test false = leaves_same (P p) e (partition_at p ts)
-
-left_at_each : (P : ℕ → Batch → Type 0) (rule : Partition → Effect) → (s : Core) → ((Q : Batch → Type 0) (t : Partition) → Leaves Q s.ended t (rule t).after) → CoreLeaves P s (at_each rule s)
-unfolding at_each with_partitions
-left_at_each P rule s k = record { config = refl; ended = λ e. e; each = λ p h. at_all P s.ended (λ t. (rule t).after) k s.partitions p h }
 
 left_dropped : (P : ℕ → Batch → Type 0) (now : ℕ) (s : Core) → CoreLeaves P s (dropped now s)
 unfolding dropped

@@ -1,28 +1,28 @@
 -- The laws on logs, from what holds of every world of a run.
-use Rattle.std.proofs.Common.{◌≡◌, ◌⊎◌, ℕ, ◌+◌, ◌<◌, ◌≤◌, Bool, true, false, List, [], ◌∷◌, ◌++◌, length, map, Some, None, refl, sym, ap, ◌∙◌, subst, ⊎_elim, arith}
+use Rattle.std.proofs.Common.{◌≡◌, ℕ, ◌<◌, ◌≤◌, Bool, true, false, List, [], length, Some, None, refl, sym, ap, ◌∙◌, subst, ⊎_elim, arith}
 use Rattle.std.specs.Prelude.{Option, nat_lt}
 use Rattle.std.proofs.lemmas.Bool.{ltb-true, ltb-false}
 use Rattle.std.proofs.lemmas.List.{get_or_past}
 use Rattle.kp_accum.specs.declared.config.Config.{Config}
-use Rattle.kp_log.specs.BrokerStep.{Answered, MayAppend, BrokerStep, DUPLICATE_SEQUENCE_NUMBER}
-use Rattle.kp_log.specs.History.{History, with_batch, records_of}
+use Rattle.kp_log.specs.BrokerStep.{MayAppend}
+use Rattle.kp_log.specs.History.{with_batch, records_of}
 use Rattle.kp_log.proofs.PlaceLemmas.{In, In-from_contains}
 use Rattle.kp_core.specs.Attempts.{awaits, awaiting}
 use Rattle.kp_core.specs.Next.{Sending, Produce}
-use Rattle.kp_core.specs.Partitions.{partition_at, new_partition, present_id}
-use Rattle.kp_core.specs.Records.{Batch, Open, Partition}
+use Rattle.kp_core.specs.Partitions.{new_partition, present_id}
+use Rattle.kp_core.specs.Records.{Open}
 use Rattle.kp_world.specs.declared.event.Event.{Event}
 use Rattle.kp_world.specs.Client.{handed_at}
 use Rattle.kp_world.specs.Delivering.{log_at}
-use Rattle.kp_world.specs.LogLaws.{partition_of, IsPrefix, WasAnswered, NoDuplicateIsAwaited, WentOut, EarlierIdsAreSilent}
+use Rattle.kp_world.specs.LogLaws.{partition_of, IsPrefix, NoDuplicateIsAwaited, EarlierIdsAreSilent}
 use Rattle.kp_world.specs.Message.{sent_of}
 use Rattle.kp_world.specs.Run.{IsReached}
-use Rattle.kp_world.specs.World.{PartAnswer, World}
+use Rattle.kp_world.specs.World.{World}
 use Rattle.kp_world.proofs.BrokerLemmas.{Agrees}
 use Rattle.kp_world.proofs.FlightLemmas.{all_at}
 use Rattle.kp_world.proofs.GoodLemmas.{PartsIn}
 use Rattle.kp_world.proofs.HearingLemmas.{old_not_in_flight}
-use Rattle.kp_world.proofs.LawfulLemmas.{Lawful, IsLawful}
+use Rattle.kp_world.proofs.LawfulLemmas.{IsLawful}
 use Rattle.kp_world.proofs.LeavingLemmas.{awaits_is, found}
 use Rattle.kp_world.proofs.PrefixLemmas.{lands}
 use Rattle.kp_world.proofs.RunLemmas.{lawful_reached}

@@ -1,8 +1,8 @@
 -- What a partition's log has of the batches that were handed over for it: the first so many, in order.
 -- Whatever comes to an honest broker, only the first of the others can be appended.
-use Rattle.std.proofs.Common.{◌≡◌, ◌⊎◌, ℕ, suc, ◌+◌, ◌<◌, ◌≤◌, Bool, true, false, cond, List, [], ◌∷◌, ◌++◌, length, map, replicate, ℤ, pos, negsuc, refl, sym, ap, ◌∙◌, subst, inl, inr, ⊎_elim, arith, length-append, append_assoc}
+use Rattle.std.proofs.Common.{◌≡◌, ◌⊎◌, ℕ, suc, ◌+◌, ◌<◌, Bool, true, false, cond, List, [], ◌∷◌, ◌++◌, length, map, replicate, ℤ, pos, negsuc, refl, sym, ap, ◌∙◌, subst, inl, inr, ⊎_elim, arith, length-append, append_assoc}
 use Rattle.std.specs.Prelude.{Option, Some, None, unwrap_or, ◌==◌, ◌||◌}
-use Rattle.std.specs.List.{AllByRecursion, filter, list_any, last_or}
+use Rattle.std.specs.List.{filter, list_any, last_or}
 use Rattle.std.specs.Ordering.{int_eq}
 use Rattle.std.proofs.lemmas.Bool.{eqb-true}
 use Rattle.std.proofs.lemmas.Bool.Decides.{Decides-int_eq}
@@ -10,14 +10,14 @@ use Rattle.std.proofs.lemmas.List.{append-nil, map-append}
 use Rattle.std.proofs.lemmas.List.Concat.{flat_map-append}
 use Rattle.std.proofs.lemmas.List.Elements.{filter-append}
 use Rattle.kp_batch.specs.declared.record.Record.{Record}
-use Rattle.kp_accum.specs.Queue.{Pending, body_of}
+use Rattle.kp_accum.specs.Queue.{Pending}
 use Rattle.kp_log.specs.declared.stored.Stored.{Stored}
-use Rattle.kp_log.specs.BrokerStep.{MayAppend, Stands}
-use Rattle.kp_log.specs.HandedOver.{Follows, IsStored, CameBy}
-use Rattle.kp_log.specs.History.{Sent, History, stored_of, records_of, with_batch, with_others, empty_history, is_under, own, NO_ID}
+use Rattle.kp_log.specs.BrokerStep.{MayAppend}
+use Rattle.kp_log.specs.HandedOver.{Follows, IsStored}
+use Rattle.kp_log.specs.History.{History, stored_of, records_of, with_batch, with_others, empty_history, is_under, own, NO_ID}
 use Rattle.kp_log.specs.Log.{count_of, stored_as}
 use Rattle.kp_log.proofs.LogLemmas.{count_of-append, count_of_own, int_eq_same}
-use Rattle.kp_log.proofs.PlaceLemmas.{In, In-nil, In-cons, In-head, In-append_left, In-append_right, In-append_cases, cut_cases}
+use Rattle.kp_log.proofs.PlaceLemmas.{In, In-nil, In-cons, In-append_right, In-append_cases, cut_cases}
 use Rattle.kp_core.specs.MaySend.{is_confirmed, new_batch}
 use Rattle.kp_core.specs.HandingOver.{handed_over_in}
 use Rattle.kp_core.specs.Partitions.{new_partition, present_id}

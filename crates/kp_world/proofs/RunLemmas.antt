@@ -1,48 +1,45 @@
 -- What holds of every world of a run, whatever comes to an honest broker: from the opening world on,
 -- event by event.
-use Rattle.std.proofs.Common.{◌≡◌, ◌⊎◌, ℕ, suc, zero, ◌+◌, ◌<◌, ◌≤◌, Bool, true, false, cond, List, [], ◌∷◌, ◌++◌, length, replicate, ℤ, pos, Some, None, refl, sym, ap, ◌∙◌, subst, inl, inr, ⊎_elim, arith}
-use Rattle.std.specs.Prelude.{Option, Result, Ok, Err, if◌then◌else◌, ◌==◌, ◌&&◌, ◌||◌, nat_lt, slice_get, slice_set}
-use Rattle.std.specs.List.{AllByRecursion}
+use Rattle.std.proofs.Common.{◌≡◌, ◌⊎◌, ℕ, suc, zero, ◌<◌, ◌≤◌, Bool, true, false, List, [], ◌∷◌, ◌++◌, length, replicate, pos, Some, None, refl, sym, ◌∙◌, subst, inl, inr, ⊎_elim}
+use Rattle.std.specs.Prelude.{Option, Result, Ok, Err, if◌then◌else◌, ◌==◌, ◌&&◌, ◌||◌, nat_lt, slice_get}
 use Rattle.std.proofs.lemmas.Bool.{eqb-true, eq-eqb, ltb-true, ltb-false}
 use Rattle.std.proofs.lemmas.List.{get_or-replicate, length-replicate, length-set, get_or-set_same, get_or-set_other}
 use Rattle.kp_accum.specs.declared.fault.AppendFault.{AppendFault}
 use Rattle.kp_accum.specs.declared.config.Config.{Config}
 use Rattle.kp_accum.specs.declared.fault.ConfigFault.{ConfigFault}
-use Rattle.kp_accum.specs.declared.fault.ConfigFault.TheVariants.{BatchSize, Linger, BufferMemory, MaxRequestSize, RequestTimeout, DeliveryTimeout, RetryBackoff, MaxInFlight, SequenceLimit, BatchAboveRequest}
+use Rattle.kp_accum.specs.declared.fault.ConfigFault.TheVariants.{BatchSize, Linger, BufferMemory, MaxRequestSize, RequestTimeout, DeliveryTimeout, RetryBackoff, MaxInFlight}
 use Rattle.kp_accum.specs.declared.item.Item.{Item}
 use Rattle.kp_accum.specs.Config.{is_outside, checked}
 use Rattle.kp_log.specs.History.{History, empty_history, with_others}
 use Rattle.kp_log.proofs.KeepingLemmas.{came_others}
-use Rattle.kp_log.proofs.PlaceLemmas.{In, In-nil, In-cons, In-head, In-tail, In-append_left, In-append_right}
+use Rattle.kp_log.proofs.PlaceLemmas.{In, In-nil, In-head, In-tail, In-append_left, In-append_right}
 use Rattle.kp_core.specs.Appending.{appended}
 use Rattle.kp_core.specs.Fence.{ended}
 use Rattle.kp_core.specs.Flush.{flushed}
 use Rattle.kp_core.specs.Next.{Sending, Demand, Produce, InitProducerId}
 use Rattle.kp_core.specs.Opening.{new_core}
 use Rattle.kp_core.specs.Partitions.{partition_at, new_partition}
-use Rattle.kp_core.specs.Records.{Batch, Partition, IdRequest, Core}
-use Rattle.kp_core.specs.Replies.{replied}
+use Rattle.kp_core.specs.Records.{Batch, Partition, Core}
 use Rattle.kp_core.specs.Requesting.{Outgoing, requested}
 use Rattle.kp_core.specs.Tick.{ticked, disconnected, closed}
 use Rattle.kp_world.specs.declared.event.Event.{Event}
 use Rattle.kp_world.specs.declared.event.Event.TheVariants as event
 use Rattle.kp_world.specs.Accepting.{is_large, with_accepted, accepting, item_for, accepted_by, taking, taking_of, taken_by}
 use Rattle.kp_world.specs.Client.{handed_at, sending, replying, has_sender, has_partition, only_if, ticking, ending, closing, client}
-use Rattle.kp_world.specs.Delivering.{log_at, PartsDeliver, Delivery, IsFresh, IsError, IdDelivers, Delivers, given}
+use Rattle.kp_world.specs.Delivering.{log_at, PartsDeliver, Delivery, IsFresh, IsError, Delivers, given}
 use Rattle.kp_world.specs.Line.{Closed, Large}
 use Rattle.kp_world.specs.Loopback.{other_record, logs_with_others}
-use Rattle.kp_world.specs.Message.{response_of}
 use Rattle.kp_world.specs.Noting.{noted, only_noted}
-use Rattle.kp_world.specs.Run.{with_delivery, with_others_at, Arrives, Steps, Run, MayBegin, IsReached}
+use Rattle.kp_world.specs.Run.{with_delivery, with_others_at, Arrives, Steps, Run, IsReached}
 use Rattle.kp_world.specs.World.{PartAnswer, ReplyContent, Batches, Id, Reply, World, opening, FIRST_ID, FIRST_CORRELATION}
 use Rattle.kp_world.proofs.BrokerLemmas.{Agrees, AllAgree, Known, PartsDelivered, parts_delivered}
 use Rattle.kp_world.proofs.FlightLemmas.{Carries, PartHolds, ContentHolds, Steady, all_at, one_more, steady_new, steady_grown, steady_replied}
-use Rattle.kp_world.proofs.GoodLemmas.{PartsIn, Went, Given}
+use Rattle.kp_world.proofs.GoodLemmas.{PartsIn, Given}
 use Rattle.kp_world.proofs.HearingLemmas.{lawful_reply}
 use Rattle.kp_world.proofs.KeepingLemmas.{CoreKeeps, core_appended, core_ticked, core_ended, core_flushed, core_disconnected, core_closed}
 use Rattle.kp_world.proofs.LawfulLemmas.{Lawful, IsLawful, StoredAt, lawful_core, lawful_sending}
 use Rattle.kp_world.proofs.LeavingLemmas.{CoreLeaves, left_appended, left_ticked, left_ended, left_flushed, left_disconnected, left_closed}
-use Rattle.kp_world.proofs.PrefixLemmas.{Grown, grown_others}
+use Rattle.kp_world.proofs.PrefixLemmas.{grown_others}
 use Rattle.kp_world.proofs.SoundLemmas.{Sound, sents, sound_new, sound_history, sound_drawn}
 
 -- ---- a world in which only this happened
@@ -80,6 +77,17 @@ reply o content = record { correlation = o.correlation; content = content }
 
 -- ---- batches
 
+pub parts_came : (n : ℕ) (w : World) (o : Outgoing) (xs : List Sending) (logs : List History) (answers : List PartAnswer) → IsLawful n w → In o w.packets → o.demand ≡ Produce xs → PartsDeliver w.logs xs answers logs
+    → PartsDelivered n o.correlation w.ids w.core w.handed w.logs logs w.packets w.replies answers
+parts_came n w o xs logs answers g i is deliver =
+    parts_delivered n o.correlation w.ids w.core w.handed w.logs logs w.packets w.replies xs answers g.logs_count g.agree known deliver
+  where
+    known : Known n o.correlation w.handed w.packets xs
+    known x j =
+        let parts : PartsIn n w.handed (Produce xs) = subst (PartsIn n w.handed) is (g.went o i).parts in
+        let one = all_at (λ (y : Sending). (y.partition < n) × In y.batch (handed_at y.partition w.handed)) xs x parts j in
+        (one.0, one.1, record { packet = o; sent = i; named = refl; carries = subst (λ (e : Demand). Carries x.partition x.batch e) (sym is) (x, j, refl, refl) })
+
 came_parts : (n : ℕ) (w : World) (o : Outgoing) (xs : List Sending) (d : Delivery) → IsLawful n w → In o w.packets → o.demand ≡ Produce xs → Delivers w (Produce xs) d
     → Lawful n w.core d.logs w.handed w.packets (w.replies ++ reply o d.content ∷ []) d.ids
 unfolding Delivers
@@ -89,14 +97,8 @@ came_parts n w o xs d g i is honest =
     (lawful_answered n w.core w.logs d.logs w.handed w.packets w.replies w.ids w.ids (reply o (Batches honest.0)) g (all.count ∙ g.logs_count) all.agree (λ id j. j)
     (gives_none n w.ids w.core (reply o (Batches honest.0)) (g.went o i).before (λ id e. absurd cc)) content))
   where
-    known : Known n o.correlation w.handed w.packets xs
-    known x j =
-        let parts : PartsIn n w.handed (Produce xs) = subst (PartsIn n w.handed) is (g.went o i).parts in
-        let one = all_at (λ (y : Sending). (y.partition < n) × In y.batch (handed_at y.partition w.handed)) xs x parts j in
-        (one.0, one.1, record { packet = o; sent = i; named = refl; carries = subst (λ (e : Demand). Carries x.partition x.batch e) (sym is) (x, j, refl, refl) })
-
     all : PartsDelivered n o.correlation w.ids w.core w.handed w.logs d.logs w.packets w.replies honest.0
-    all = parts_delivered n o.correlation w.ids w.core w.handed w.logs d.logs w.packets w.replies xs honest.0 g.logs_count g.agree known honest.1
+    all = parts_came n w o xs d.logs honest.0 g i is honest.1
 
     content : (p : ℕ) → p < n → (a : PartAnswer) → In a honest.0 → a.partition ≡ p → PartHolds p (length (handed_at p w.handed)) o.correlation w.packets (log_at p d.logs).records a.answer
     content p h a j at = subst (λ (q : ℕ). PartHolds q (length (handed_at q w.handed)) o.correlation w.packets (log_at q d.logs).records a.answer) at (all.parts a j).1
@@ -330,7 +332,7 @@ within_five c e =
     at_least true b is e' = absurd cc
     at_least false b is e' = at_most b is e'
 
-lawful_opening : (c : Config) (partitions senders : ℕ) → c.max_in_flight_requests_per_connection ≤ 5 → IsLawful partitions (opening c partitions senders)
+pub lawful_opening : (c : Config) (partitions senders : ℕ) → c.max_in_flight_requests_per_connection ≤ 5 → IsLawful partitions (opening c partitions senders)
 unfolding opening new_core
 lawful_opening c partitions senders five = record {
   count = length-replicate partitions (new_partition FIRST_ID);

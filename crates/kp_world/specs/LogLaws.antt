@@ -1,24 +1,27 @@
 -- What holds of the partitions' logs in every world that a schedule leads to, for any honest broker.
-use Rattle.std.specs.Prelude.{◌≡◌, ℕ, List, ◌++◌, map, None, Contains}
+use Rattle.std.specs.Prelude.{◌≡◌, ℕ, ℤ, pos, List, ◌∷◌, ◌++◌, map, length, None, Contains}
+use Rattle.kp_accum.specs.declared.item.Item.{Item}
 use Rattle.kp_log.specs.declared.stored.Stored.{Stored}
 use Rattle.kp_log.specs.BrokerStep.{Answered, BrokerStep, DUPLICATE_SEQUENCE_NUMBER}
 use Rattle.kp_log.specs.History.{History, records_of, own}
+use Rattle.kp_core.specs.declared.outcome.Outcome.TheVariants.{Delivered, DeliveredNoOffset}
 use Rattle.kp_core.specs.Attempts.{awaiting}
 use Rattle.kp_core.specs.Next.{Sending, Produce}
 use Rattle.kp_core.specs.Partitions.{partition_at, present_id}
-use Rattle.kp_core.specs.Records.{Batch as HandedBatch, Partition}
+use Rattle.kp_core.specs.Records.{Batch as HandedBatch, Partition, Told}
 use Rattle.kp_core.specs.Requesting.{Outgoing}
+use Rattle.kp_world.specs.Accounts.{items_handed}
 use Rattle.kp_world.specs.Client.{handed_at}
 use Rattle.kp_world.specs.Delivering.{log_at}
 use Rattle.kp_world.specs.Message.{sent_of}
-use Rattle.kp_world.specs.World.{PartAnswer, Batches, Reply, World}
+use Rattle.kp_world.specs.World.{PartAnswer, Batches, Happened, Reply, World}
 
 abbrev pub partition_of : ℕ → World → Partition
 partition_of p w = partition_at p w.core.partitions
 
 -- ---- the log
 
--- the records of a partition's log that are this producer's, in order
+-- the own records of a partition's log: those under the partition's producer ids, in order
 abbrev pub own_records : ℕ → World → List Stored
 own_records p w = own (partition_of p w).ids (log_at p w.logs).records
 
@@ -27,12 +30,42 @@ abbrev pub as_stored : List HandedBatch → List Stored
 as_stored batches = records_of (map sent_of batches)
 
 -- Of the batches that were handed over for the partition the first so many are stored, whole and in
--- their order, and the log has nothing else of this producer.
+-- their order, and the log has no other own records.
 pub record IsPrefix (p : ℕ) (w : World) : Type 0 where
   pub stored : List HandedBatch
   pub rest : List HandedBatch
   pub handed : handed_at p w.handed ≡ stored ++ rest
   pub records : own_records p w ≡ as_stored stored
+
+-- ---- what was told
+
+-- Some event told this.
+pub record WasTold (w : World) (t : Told) : Type 0 where
+  pub event : Happened
+  pub happened : Contains w.past event
+  pub told : Contains event.told t
+
+-- The item's record is the one at this offset of its partition's log, under one of the partition's
+-- ids, and as many own records stand before it as items were handed over before it.
+pub record StandsAt (w : World) (i : Item) (offset : ℤ) : Type 0 where
+  pub earlier : List Item
+  pub later : List Item
+  pub handed : items_handed i.partition w ≡ earlier ++ i ∷ later
+  pub id : ℕ
+  pub known : Contains (partition_of i.partition w).ids id
+  pub before : List Stored
+  pub after : List Stored
+  pub record_is : (log_at i.partition w.logs).records
+      ≡ before ++ (record { producer_id = pos id; body = i.body }) ∷ after
+  pub offset_is : offset ≡ pos (length before)
+  pub place : length (own (partition_of i.partition w).ids before) ≡ length earlier
+
+abbrev pub ToldOffsetsStand : World → Type 0
+ToldOffsetsStand w =
+    (t : Told) (offset : ℤ)
+    → WasTold w t
+    → t.outcome ≡ Delivered offset
+    → StandsAt w t.item offset
 
 -- ---- answers
 
@@ -53,6 +86,10 @@ NoDuplicateIsAwaited w =
     → WasAnswered w k a
     → a.answer.code ≡ DUPLICATE_SEQUENCE_NUMBER
     → awaiting k (partition_of a.partition w) ≡ None
+
+-- So no item is ever told delivered without its offset.
+abbrev pub EachDeliveryHasItsOffset : World → Type 0
+EachDeliveryHasItsOffset w = (t : Told) → WasTold w t → t.outcome ≡ DeliveredNoOffset → ⊥
 
 -- ---- packets
 

@@ -2,7 +2,7 @@
 
 ghost use Rattle.std.specs.Prelude.{ℕ, ◌<◌, List};
 ghost use Rattle.kp_accum.specs.declared.config.Config.{Config};
-ghost use Rattle.kp_world.specs.LogLaws.{IsPrefix, NoDuplicateIsAwaited, EarlierIdsAreSilent};
+ghost use Rattle.kp_world.specs.LogLaws.{IsPrefix, ToldOffsetsStand, NoDuplicateIsAwaited, EachDeliveryHasItsOffset, EarlierIdsAreSilent};
 ghost use Rattle.kp_world.specs.Run.{IsReached};
 ghost use Rattle.kp_world.specs.World.{World};
 ghost use Rattle.kp_world.specs.declared.event.Event.{Event};
@@ -15,11 +15,24 @@ pub fn the_log_is_a_prefix()
         → (p : ℕ) → p < partitions → IsPrefix p w }
 {}
 
+/// What a sender was told of an item's offset is true, then and ever after: its record stands there, behind as many own
+/// records as items were handed over before it.
+pub fn told_offsets_stand()
+    ensures { (c : Config) (partitions senders : ℕ) (es : List Event) (w : World)
+        → IsReached c partitions senders es w → ToldOffsetsStand w }
+{}
+
 /// At most five batches of a partition are on their way, and a broker knows a producer's last five: so no batch in
 /// flight is ever called a duplicate.
 pub fn no_duplicate_is_awaited()
     ensures { (c : Config) (partitions senders : ℕ) (es : List Event) (w : World)
         → IsReached c partitions senders es w → NoDuplicateIsAwaited w }
+{}
+
+/// So a sender that is told that its item was delivered is told the offset too.
+pub fn each_delivery_has_its_offset()
+    ensures { (c : Config) (partitions senders : ℕ) (es : List Event) (w : World)
+        → IsReached c partitions senders es w → EachDeliveryHasItsOffset w }
 {}
 
 /// Once a partition goes on under a fresh producer id, no packet with an earlier one changes its log any more.
