@@ -46,3 +46,4 @@ pub mod ItemLemmas
 pub mod DeliveredLemmas
 pub mod TruthLemmas
 pub mod StandingLemmas
+pub mod ReachingLemmas

@@ -12,3 +12,4 @@ pub mod Lines
 pub mod Text
 pub mod Accounts
 pub mod LogLaws
+pub mod Reaching

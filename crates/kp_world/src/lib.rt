@@ -5,5 +5,6 @@ pub mod accounts;
 pub mod broker_laws;
 mod event;
 pub mod laws;
+pub mod reaching;
 
 pub use event::{Event, Treatment};

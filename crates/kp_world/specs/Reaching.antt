@@ -1,0 +1,47 @@
+-- Schedules that bring about each outcome: what holds of every run is said of some.
+use Rattle.std.specs.Prelude.{◌≡◌, pos, List, [], ◌∷◌, ◌++◌, map, flat_map}
+use Rattle.kp_accum.specs.Config.{default_config}
+use Rattle.kp_core.specs.declared.outcome.Outcome.{Outcome}
+use Rattle.kp_world.specs.declared.event.Event.{Event}
+use Rattle.kp_world.specs.declared.event.Event.TheVariants.{Accept, Take, Now, Tick, Send, Deliver, Reply, Drop, Other, Close, End, Flush}
+use Rattle.kp_world.specs.declared.event.Treatment.TheVariants.{Judged, Refused}
+use Rattle.kp_world.specs.Run.{IsReached}
+use Rattle.kp_world.specs.World.{World}
+
+-- what was told in a world, in order
+abbrev pub outcomes_in : World → List Outcome
+outcomes_in w = flat_map (λ h. map (λ t. t.outcome) h.told) w.past
+
+-- With the default configuration, a partition and a sender, the schedule leads to a world in which just this was told.
+pub record Tells (es : List Event) (outcomes : List Outcome) : Type 0 where
+  pub world : World
+  pub reached : IsReached default_config 1 1 es world
+  pub told : outcomes_in world ≡ outcomes
+
+-- ---- schedules
+
+-- a record is accepted and taken
+abbrev pub one_record : List Event
+one_record = Accept 0 0 (97 ∷ []) ∷ Take 0 ∷ []
+
+-- Its batch is stored, the connection is lost before the reply, and another producer's records come; it is sent again,
+-- and the repeat is answered with its offset.
+abbrev pub stored_and_repeated : List Event
+stored_and_repeated =
+    one_record ++ Send ∷ Deliver 0 Judged ∷ Other 0 2 ∷ Drop ∷ Now 100 ∷ Send ∷ Deliver 1 Judged ∷ Reply 1 ∷ Flush ∷ Close ∷ []
+
+-- No reply comes until its delivery timeout is over.
+abbrev pub sent_and_late : List Event
+sent_and_late = one_record ++ Send ∷ Now 120000 ∷ Tick ∷ []
+
+-- The broker refuses its batch for good, and then a second record comes.
+abbrev pub refused_and_followed : List Event
+refused_and_followed = one_record ++ Send ∷ Deliver 0 (Refused (pos 10)) ∷ Reply 0 ∷ one_record
+
+-- It is not sent until its delivery timeout is over.
+abbrev pub queued_and_late : List Event
+queued_and_late = one_record ++ Now 120000 ∷ Tick ∷ []
+
+-- The producer is ended while it waits.
+abbrev pub queued_and_ended : List Event
+queued_and_ended = one_record ++ End ∷ []
