@@ -47,3 +47,4 @@ pub mod DeliveredLemmas
 pub mod TruthLemmas
 pub mod StandingLemmas
 pub mod ReachingLemmas
+pub mod FreshIdLemmas

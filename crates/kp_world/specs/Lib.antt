@@ -13,3 +13,4 @@ pub mod Text
 pub mod Accounts
 pub mod LogLaws
 pub mod Reaching
+pub mod FreshIds

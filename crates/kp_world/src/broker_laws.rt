@@ -2,6 +2,7 @@
 
 ghost use Rattle.std.specs.Prelude.{ℕ, ◌<◌, List};
 ghost use Rattle.kp_accum.specs.declared.config.Config.{Config};
+ghost use Rattle.kp_world.specs.FreshIds.{BeginsAnew, GoesOnAlone};
 ghost use Rattle.kp_world.specs.LogLaws.{IsPrefix, ToldOffsetsStand, NoDuplicateIsAwaited, EachDeliveryHasItsOffset, EarlierIdsAreSilent};
 ghost use Rattle.kp_world.specs.Run.{IsReached};
 ghost use Rattle.kp_world.specs.World.{World};
@@ -33,6 +34,20 @@ pub fn no_duplicate_is_awaited()
 pub fn each_delivery_has_its_offset()
     ensures { (c : Config) (partitions senders : ℕ) (es : List Event) (w : World)
         → IsReached c partitions senders es w → EachDeliveryHasItsOffset w }
+{}
+
+/// Under each producer id a partition begins with base sequence 0.
+pub fn each_id_begins_anew()
+    ensures { (c : Config) (partitions senders : ℕ) (es : List Event) (w : World)
+        → IsReached c partitions senders es w
+        → (p : ℕ) → p < partitions → BeginsAnew p w }
+{}
+
+/// The first batch under a producer id goes out alone: no second one is handed over before it is stored.
+pub fn the_first_batch_under_an_id_is_alone()
+    ensures { (c : Config) (partitions senders : ℕ) (es : List Event) (w : World)
+        → IsReached c partitions senders es w
+        → (p : ℕ) → p < partitions → GoesOnAlone p w }
 {}
 
 /// Once a partition goes on under a fresh producer id, no packet with an earlier one changes its log any more.
