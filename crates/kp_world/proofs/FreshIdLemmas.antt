@@ -1,5 +1,5 @@
 -- The laws on fresh ids, from what holds of every world of a run.
-use Rattle.std.proofs.Common.{◌≡◌, ℕ, ◌<◌, List, ◌∙◌, ap}
+use Rattle.std.proofs.Common.{ℕ, ◌<◌, List, ◌∙◌, ap}
 use Rattle.kp_accum.specs.declared.config.Config.{Config}
 use Rattle.kp_log.specs.History.{records_of}
 use Rattle.kp_log.proofs.PlaceLemmas.{In-from_contains}

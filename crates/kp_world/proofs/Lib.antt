@@ -48,3 +48,4 @@ pub mod TruthLemmas
 pub mod StandingLemmas
 pub mod ReachingLemmas
 pub mod FreshIdLemmas
+pub mod RuledLemmas

@@ -14,3 +14,4 @@ pub mod Accounts
 pub mod LogLaws
 pub mod Reaching
 pub mod FreshIds
+pub mod Causes

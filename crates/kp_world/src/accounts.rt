@@ -5,7 +5,8 @@ ghost use Rattle.kp_accum.specs.declared.config.Config.{Config};
 ghost use Rattle.kp_world.specs.declared.event.Event.{Event};
 ghost use Rattle.kp_world.specs.declared.event.Event.TheVariants as event;
 ghost use Rattle.kp_world.specs.Accounts.{AreAccountedFor, AreInOrder, ArePlaced, IsNeverSent, IsToldOnce, IsUsedByUntold};
-ghost use Rattle.kp_world.specs.Run.{Run, IsReached};
+ghost use Rattle.kp_world.specs.Causes.{TellsByRule};
+ghost use Rattle.kp_world.specs.Run.{Steps, Run, IsReached};
 ghost use Rattle.kp_world.specs.World.{World};
 
 /// Of each sender and partition the items that were handed over are, in order and once, those that were accepted and
@@ -51,4 +52,9 @@ pub fn each_item_is_told_once()
 pub fn memory_is_of_what_is_not_told()
     ensures { (c : Config) (partitions senders : ℕ) (es : List Event) (w : World)
         → IsReached c partitions senders es w → IsUsedByUntold w }
+{}
+
+/// Whatever an event tells of an item is a case of the outcome rule.
+pub fn each_outcome_has_its_cause()
+    ensures { (w : World) (e : Event) (v : World) → Steps w e v → TellsByRule w v }
 {}
