@@ -44,30 +44,38 @@ new_batch t b = record {
   items = b.items;
 }
 
-abbrev pub may_hand_over : Config → Flags → ℕ → Partition → Pending → Bool
+-- whether a partition may hand its front batch over
+abbrev pub HandOverRule : Type 0
+HandOverRule = Config → Flags → ℕ → Partition → Pending → Bool
+
+abbrev pub may_hand_over : HandOverRule
 may_hand_over c flags now t front =
     is_ready c flags now t.queue
     && is_confirmed t
     && is_in_span c t.next_number t.open_batches
     && is_within_limit c t front
 
-abbrev pub sends_new : Config → Flags → ℕ → Partition → List Pending → Option Batch
-sends_new c flags now t [] = None
-sends_new c flags now t (front ∷ rest) =
-    if may_hand_over c flags now t front then Some (new_batch t front) else None
+abbrev pub sends_new : HandOverRule → Config → Flags → ℕ → Partition → List Pending → Option Batch
+sends_new may c flags now t [] = None
+sends_new may c flags now t (front ∷ rest) =
+    if may c flags now t front then Some (new_batch t front) else None
 
 -- ---- what the partition may send
 
 -- The lowest batch that waits goes before any new one.
-abbrev pub sends_first : Config → Flags → ℕ → Partition → Option Open → Option Batch
-sends_first c flags now t (Some lowest) =
+abbrev pub sends_first : HandOverRule → Config → Flags → ℕ → Partition → Option Open → Option Batch
+sends_first may c flags now t (Some lowest) =
     if is_rested c now lowest.attempt then Some lowest.batch else None
-sends_first c flags now t None = sends_new c flags now t t.queue
+sends_first may c flags now t None = sends_new may c flags now t t.queue
+
+abbrev pub sends_by : HandOverRule → Config → Flags → ℕ → Partition → Option Batch
+sends_by may c flags now t =
+    if t.fenced then None else sends_first may c flags now t (lowest_waiting t)
 
 -- The batch that the partition may send, while the core has not ended and one request more may be
 -- in flight.
 unfoldable pub sends : Config → Flags → ℕ → Partition → Option Batch
-sends c flags now t = if t.fenced then None else sends_first c flags now t (lowest_waiting t)
+sends c flags now t = sends_by may_hand_over c flags now t
 
 -- ---- whether it wants a fresh producer id
 

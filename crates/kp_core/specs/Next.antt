@@ -39,9 +39,13 @@ used_up_to (Some p) = p + 1
 abbrev pub in_turn : Core → List (ℕ × Partition)
 in_turn s = turned (used_up_to s.last_used) (enumerate_from 0 s.partitions)
 
-abbrev pub sending_of : Core → ℕ → (ℕ × Partition) → Option Sending
-sending_of s now x =
-    option_map (λ b. record { partition = x.0; batch = b }) (sends s.config (flags_of s) now x.1)
+-- what a partition sends
+abbrev pub Choice : Type 0
+Choice = Config → Flags → ℕ → Partition → Option Batch
+
+abbrev pub sending_by : Choice → Core → ℕ → (ℕ × Partition) → Option Sending
+sending_by choice s now x =
+    option_map (λ b. record { partition = x.0; batch = b }) (choice s.config (flags_of s) now x.1)
 
 -- up to the first with which the sizes would be above the room
 unfoldable pub fitting : ℕ → List Sending → List Sending
@@ -50,9 +54,13 @@ fitting room (x ∷ xs) =
     let size = size_of x.batch.items in
     if nat_le size room then x ∷ fitting (room - size) xs else []
 
--- The partitions that may send, in turn, with their batches, as far as they fit into a request.
+-- The partitions that send, in turn, with their batches, as far as they fit into a request.
+abbrev pub batches_by : Choice → ℕ → Core → List Sending
+batches_by choice now s =
+    fitting s.config.max_request_size (filter_map (sending_by choice s now) (in_turn s))
+
 unfoldable pub next_batches : ℕ → Core → List Sending
-next_batches now s = fitting s.config.max_request_size (filter_map (sending_of s now) (in_turn s))
+next_batches now s = batches_by sends now s
 
 -- ---- the id
 
@@ -79,9 +87,13 @@ produce_of [] = None
 produce_of (x ∷ xs) = Some (Produce (x ∷ xs))
 
 -- an id goes before any batches
-abbrev pub demand_of : ℕ → Core → Option ℕ → Option Demand
-demand_of now s (Some p) = Some (InitProducerId p)
-demand_of now s None = produce_of (next_batches now s)
+abbrev pub demand_of : List Sending → Option ℕ → Option Demand
+demand_of batches (Some p) = Some (InitProducerId p)
+demand_of batches None = produce_of batches
+
+-- with these batches, where no id is asked for
+abbrev pub demand_with : List Sending → ℕ → Core → Option Demand
+demand_with batches now s = if has_window s then demand_of batches (next_asking now s) else None
 
 unfoldable pub next_demand : ℕ → Core → Option Demand
-next_demand now s = if has_window s then demand_of now s (next_asking now s) else None
+next_demand now s = demand_with (next_batches now s) now s

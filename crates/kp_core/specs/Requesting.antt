@@ -100,10 +100,13 @@ requested_for now s None = nothing_out s (Ok None)
 requested_for now s (Some demand) =
     if is_spent s then nothing_out s (Err CorrelationSpent) else goes_out now s demand
 
--- After the end, no request at all; else what is next, while there are correlation ids.
+-- After the end, no request at all; else this one, while there are correlation ids.
+abbrev pub requested_unless_ended : ℕ → Core → Option Demand → Requested
+requested_unless_ended now s demand =
+    if s.ended then nothing_out s (Err Ended) else requested_for now s demand
+
 unfoldable pub requested : ℕ → Core → Requested
-requested now s =
-    if s.ended then nothing_out s (Err Ended) else requested_for now s (next_demand now s)
+requested now s = requested_unless_ended now s (next_demand now s)
 
 -- Memory can be wanting only where a request goes out.
 abbrev pub NeedsMemory : Requested → Type 0

@@ -7,7 +7,7 @@ use Rattle.std.proofs.lemmas.List.{take-append-drop}
 use Rattle.kp_accum.specs.Queue.{size_of}
 use Rattle.kp_core.specs.Attempts.{has_window}
 use Rattle.kp_core.specs.MaySend.{sends}
-use Rattle.kp_core.specs.Next.{Sending, Produce, flags_of, used_up_to, in_turn, sending_of, fitting, next_batches, next_asking, produce_of, demand_of, next_demand}
+use Rattle.kp_core.specs.Next.{Sending, Produce, flags_of, used_up_to, in_turn, sending_by, fitting, next_batches, next_asking, produce_of, demand_of, next_demand}
 use Rattle.kp_core.specs.Partitions.{is_in}
 use Rattle.kp_core.specs.Records.{Batch, Partition, Core}
 use Rattle.kp_core.specs.Requesting.{partitions_in}
@@ -62,7 +62,7 @@ place y = y.0
 abbrev partition_of : Sending → ℕ
 partition_of x = x.partition
 
-sending_place : (now : ℕ) (s : Core) (y : ℕ × Partition) (x : Sending) → sending_of s now y ≡ Some x → x.partition ≡ y.0
+sending_place : (now : ℕ) (s : Core) (y : ℕ × Partition) (x : Sending) → sending_by sends s now y ≡ Some x → x.partition ≡ y.0
 sending_place now s y x e = at_option (sends s.config (flags_of s) now y.1) e
   where
     at_option : (o : Option Batch) → option_map (λ b. record { partition = y.0; batch = b }) o ≡ Some x → x.partition ≡ y.0
@@ -70,21 +70,21 @@ sending_place now s y x e = at_option (sends s.config (flags_of s) now y.1) e
     at_option (Some b) e' = let made : (record { partition = y.0; batch = b }) ≡ x = cc in sym (ap (λ (z : Sending). z.partition) made)
 
 differ_all : (now : ℕ) (s : Core) (y : ℕ × Partition) (x : Sending) → x.partition ≡ y.0 → (ys : List (ℕ × Partition)) → AllByRecursion (Differ place y) ys
-    → AllByRecursion (Differ partition_of x) (filter_map (sending_of s now) ys)
+    → AllByRecursion (Differ partition_of x) (filter_map (sending_by sends s now) ys)
 differ_all now s y x e [] h = tt
-differ_all now s y x e (z ∷ ys) h = at_option (sending_of s now z) refl (differ_all now s y x e ys h.1)
+differ_all now s y x e (z ∷ ys) h = at_option (sending_by sends s now z) refl (differ_all now s y x e ys h.1)
   where
-    at_option : (o : Option Sending) → sending_of s now z ≡ o → AllByRecursion (Differ partition_of x) (filter_map (sending_of s now) ys)
-        → AllByRecursion (Differ partition_of x) (cons_option o (filter_map (sending_of s now) ys))
+    at_option : (o : Option Sending) → sending_by sends s now z ≡ o → AllByRecursion (Differ partition_of x) (filter_map (sending_by sends s now) ys)
+        → AllByRecursion (Differ partition_of x) (cons_option o (filter_map (sending_by sends s now) ys))
     at_option None is rest = rest
     at_option (Some u) is rest = ((λ (same : x.partition ≡ u.partition). h.0 (sym e ∙ same ∙ sending_place now s z u is)), rest)
 
-sendings_apart : (now : ℕ) (s : Core) (ys : List (ℕ × Partition)) → Apart place ys → Apart partition_of (filter_map (sending_of s now) ys)
+sendings_apart : (now : ℕ) (s : Core) (ys : List (ℕ × Partition)) → Apart place ys → Apart partition_of (filter_map (sending_by sends s now) ys)
 sendings_apart now s [] h = tt
-sendings_apart now s (y ∷ ys) h = at_option (sending_of s now y) refl (sendings_apart now s ys h.1)
+sendings_apart now s (y ∷ ys) h = at_option (sending_by sends s now y) refl (sendings_apart now s ys h.1)
   where
-    at_option : (o : Option Sending) → sending_of s now y ≡ o → Apart partition_of (filter_map (sending_of s now) ys)
-        → Apart partition_of (cons_option o (filter_map (sending_of s now) ys))
+    at_option : (o : Option Sending) → sending_by sends s now y ≡ o → Apart partition_of (filter_map (sending_by sends s now) ys)
+        → Apart partition_of (cons_option o (filter_map (sending_by sends s now) ys))
     at_option None is rest = rest
     at_option (Some x) is rest = (differ_all now s y x (sending_place now s y x is) ys h.0, rest)
 
@@ -125,7 +125,7 @@ batches_apart now s =
     let n = used_up_to s.last_used in
     let all : List (ℕ × Partition) = enumerate_from 0 s.partitions in
     let whole : Apart place (take n all ++ drop n all) = subst (Apart place) (sym (take-append-drop n all)) (places_apart 0 s.partitions) in
-    fitting_apart s.config.max_request_size (filter_map (sending_of s now) (in_turn s)) (sendings_apart now s (in_turn s) (apart_turned place (take n all) (drop n all) whole))
+    fitting_apart s.config.max_request_size (filter_map (sending_by sends s now) (in_turn s)) (sendings_apart now s (in_turn s) (apart_turned place (take n all) (drop n all) whole))
 
 pub demand_is_distinct : (now : ℕ) (s : Core) (xs : List Sending) → next_demand now s ≡ Some (Produce xs) → Distinct (partitions_in xs)
 unfolding next_demand
@@ -135,10 +135,10 @@ demand_is_distinct now s xs e = at_window (has_window s) e
     at_batches [] all e' = absurd cc
     at_batches (y ∷ ys) all e' = let same : y ∷ ys ≡ xs = cc in distinct xs (subst (Apart partition_of) same all)
 
-    at_asking : (o : Option ℕ) → demand_of now s o ≡ Some (Produce xs) → Distinct (partitions_in xs)
+    at_asking : (o : Option ℕ) → demand_of (next_batches now s) o ≡ Some (Produce xs) → Distinct (partitions_in xs)
     at_asking None e' = at_batches (next_batches now s) (batches_apart now s) e'
     at_asking (Some p) e' = absurd cc
 
-    at_window : (b : Bool) → (if b then demand_of now s (next_asking now s) else None) ≡ Some (Produce xs) → Distinct (partitions_in xs)
+    at_window : (b : Bool) → (if b then demand_of (next_batches now s) (next_asking now s) else None) ≡ Some (Produce xs) → Distinct (partitions_in xs)
     at_window true e' = at_asking (next_asking now s) e'
     at_window false e' = absurd cc

@@ -142,7 +142,7 @@ goes_out : (c : Config) (f : Flags) (now k : ℕ) (t : Partition) (handed : List
 unfolding sends sent_in
 goes_out c f now k t handed b h e = at_fence t.fenced e
   where
-    at_front : (q : List Pending) → t.queue ≡ q → sends_new c f now t q ≡ Some b → Goes k t handed (handed_over_in k t q) (grown_by b handed)
+    at_front : (q : List Pending) → t.queue ≡ q → sends_new may_hand_over c f now t q ≡ Some b → Goes k t handed (handed_over_in k t q) (grown_by b handed)
     at_front [] is e' = absurd cc
     at_front (front ∷ rest) is e' = subst (λ (x : Batch). Goes k t handed (handed_over_in k t (front ∷ rest)) (grown_by x handed)) (at_test (may_hand_over c f now t front) e') (goes_first k t handed front rest h is)
       where
@@ -150,7 +150,7 @@ goes_out c f now k t handed b h e = at_fence t.fenced e
         at_test true same = cc
         at_test false same = absurd cc
 
-    at_lowest : (o : Option Open) → lowest_waiting t ≡ o → sends_first c f now t o ≡ Some b → Goes k t handed (sent_first_in k t o) (grown_by b handed)
+    at_lowest : (o : Option Open) → lowest_waiting t ≡ o → sends_first may_hand_over c f now t o ≡ Some b → Goes k t handed (sent_first_in k t o) (grown_by b handed)
     at_lowest None is e' = at_front t.queue refl e'
     at_lowest (Some lowest) is e' = subst (λ (x : Batch). Goes k t handed (sent_first_in k t (Some lowest)) (grown_by x handed)) (at_test (is_rested c now lowest.attempt) e') (goes_again k t handed lowest h is)
       where
@@ -158,7 +158,7 @@ goes_out c f now k t handed b h e = at_fence t.fenced e
         at_test true same = cc
         at_test false same = absurd cc
 
-    at_fence : (fence : Bool) → (if fence then None else sends_first c f now t (lowest_waiting t)) ≡ Some b → Goes k t handed (sent_first_in k t (lowest_waiting t)) (grown_by b handed)
+    at_fence : (fence : Bool) → (if fence then None else sends_first may_hand_over c f now t (lowest_waiting t)) ≡ Some b → Goes k t handed (sent_first_in k t (lowest_waiting t)) (grown_by b handed)
     at_fence true e' = absurd cc
     at_fence false e' = at_lowest (lowest_waiting t) refl e'
 

@@ -101,7 +101,7 @@ pub sends_cases : (c : Config) (f : Flags) (now k : ℕ) (t : Partition) (b : Ba
 unfolding sends sent_in
 sends_cases c f now k t b e = at_fence t.fenced e
   where
-    at_front : lowest_waiting t ≡ None → (q : List Pending) → t.queue ≡ q → sends_new c f now t q ≡ Some b → GoesFirst k c t b
+    at_front : lowest_waiting t ≡ None → (q : List Pending) → t.queue ≡ q → sends_new may_hand_over c f now t q ≡ Some b → GoesFirst k c t b
     at_front none [] is e' = absurd cc
     at_front none (front ∷ queue) is e' = at_may (may_hand_over c f now t front) refl e'
       where
@@ -113,7 +113,7 @@ sends_cases c f now k t b e = at_fence t.fenced e
             let one = and_parts (is_ready c f now t.queue) (is_confirmed t) two.0 in
             record { front = front; queue = queue; queue_is = is; batch = cc; confirmed = one.1; in_span = two.1; after_is = ap (sent_first_in k t) none ∙ ap (handed_over_in k t) is }
 
-    at_lowest : (o : Option Open) → lowest_waiting t ≡ o → sends_first c f now t o ≡ Some b → GoesAgain k t b ⊎ GoesFirst k c t b
+    at_lowest : (o : Option Open) → lowest_waiting t ≡ o → sends_first may_hand_over c f now t o ≡ Some b → GoesAgain k t b ⊎ GoesFirst k c t b
     at_lowest None is e' = inr (at_front is t.queue refl e')
     at_lowest (Some lowest) is e' = inl (at_test (is_rested c now lowest.attempt) e')
       where
@@ -121,7 +121,7 @@ sends_cases c f now k t b e = at_fence t.fenced e
         at_test true same = let known : lowest.batch ≡ b = cc in record { lowest = lowest; waits = is; batch = known; after_is = ap (sent_first_in k t) is }
         at_test false same = absurd cc
 
-    at_fence : (fence : Bool) → (if fence then None else sends_first c f now t (lowest_waiting t)) ≡ Some b → GoesAgain k t b ⊎ GoesFirst k c t b
+    at_fence : (fence : Bool) → (if fence then None else sends_first may_hand_over c f now t (lowest_waiting t)) ≡ Some b → GoesAgain k t b ⊎ GoesFirst k c t b
     at_fence true e' = absurd cc
     at_fence false e' = at_lowest (lowest_waiting t) refl e'
 

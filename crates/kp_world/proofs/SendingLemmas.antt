@@ -10,7 +10,7 @@ use Rattle.kp_log.proofs.PlaceLemmas.{In}
 use Rattle.kp_core.specs.Attempts.{has_window, is_waiting, lowest_waiting}
 use Rattle.kp_core.specs.HandingOver.{again_in, handed_over_in, sent_again_in, sent_first_in, sent_in}
 use Rattle.kp_core.specs.MaySend.{is_rested, may_hand_over, new_batch, sends_new, sends_first, sends}
-use Rattle.kp_core.specs.Next.{Sending, Produce, flags_of, used_up_to, in_turn, sending_of, fitting, next_batches, next_asking, produce_of, demand_of, next_demand}
+use Rattle.kp_core.specs.Next.{Sending, Produce, flags_of, used_up_to, in_turn, sending_by, fitting, next_batches, next_asking, produce_of, demand_of, next_demand}
 use Rattle.kp_core.specs.Partitions.{partition_at, new_partition}
 use Rattle.kp_core.specs.Records.{Batch, Open, Partition, Core}
 use Rattle.kp_world.proofs.KeepingLemmas.{OpenIn, Keeps}
@@ -57,7 +57,7 @@ pub goes_out_of : (c : Config) (f : Flags) (now k : ℕ) (t : Partition) (b : Ba
 unfolding sends sent_in
 goes_out_of c f now k t b e = at_fence t.fenced e
   where
-    at_front : (q : List Pending) → t.queue ≡ q → sends_new c f now t q ≡ Some b
+    at_front : (q : List Pending) → t.queue ≡ q → sends_new may_hand_over c f now t q ≡ Some b
         → HandsOver t (handed_over_in k t q) b
     at_front [] is e' = absurd cc
     at_front (front ∷ rest) is e' = record {
@@ -74,7 +74,7 @@ goes_out_of c f now k t b e = at_fence t.fenced e
         at_test true same = cc
         at_test false same = absurd cc
 
-    at_lowest : (o : Option Open) → lowest_waiting t ≡ o → sends_first c f now t o ≡ Some b
+    at_lowest : (o : Option Open) → lowest_waiting t ≡ o → sends_first may_hand_over c f now t o ≡ Some b
         → Again t (sent_first_in k t o) b ⊎ HandsOver t (sent_first_in k t o) b
     at_lowest None is e' = inr (at_front t.queue refl e')
     at_lowest (Some lowest) is e' = inl (at_test (is_rested c now lowest.attempt) e')
@@ -97,7 +97,7 @@ goes_out_of c f now k t b e = at_fence t.fenced e
             }
         at_test false same = absurd cc
 
-    at_fence : (fence : Bool) → (if fence then None else sends_first c f now t (lowest_waiting t))
+    at_fence : (fence : Bool) → (if fence then None else sends_first may_hand_over c f now t (lowest_waiting t))
         ≡ Some b → Again t (sent_first_in k t (lowest_waiting t)) b
         ⊎ HandsOver t (sent_first_in k t (lowest_waiting t)) b
     at_fence true e' = absurd cc
@@ -175,7 +175,7 @@ all_fitting P room (x ∷ xs) h = at_test (nat_le (size_of x.batch.items) room)
     at_test false rest = tt
 
 sending_is : (now : ℕ) (s : Core) (y : ℕ × Partition) (x : Sending)
-    → IsPlace 0 s.partitions (new_partition 0) y → sending_of s now y ≡ Some x → IsSent now s x
+    → IsPlace 0 s.partitions (new_partition 0) y → sending_by sends s now y ≡ Some x → IsSent now s x
 sending_is now s y x place e = at_option (sends s.config (flags_of s) now y.1) refl e
   where
     at_option : (o : Option Batch) → sends s.config (flags_of s) now y.1 ≡ o
@@ -199,8 +199,8 @@ all_sent now s =
     let all : AllByRecursion (IsPlace 0 s.partitions (new_partition 0))
     (enumerate_from 0 s.partitions) = places 0 s.partitions (new_partition 0) in
     let n = used_up_to s.last_used in
-    all_fitting (IsSent now s) s.config.max_request_size (filter_map (sending_of s now) (in_turn s))
-    (all_filter_map (IsSent now s) (IsPlace 0 s.partitions (new_partition 0)) (sending_of s now)
+    all_fitting (IsSent now s) s.config.max_request_size (filter_map (sending_by sends s now) (in_turn s))
+    (all_filter_map (IsSent now s) (IsPlace 0 s.partitions (new_partition 0)) (sending_by sends s now)
     (sending_is now s) (in_turn s)
     (all_append (IsPlace 0 s.partitions (new_partition 0)) (drop n (enumerate_from 0 s.partitions))
     (take n (enumerate_from 0 s.partitions))
@@ -218,11 +218,11 @@ demand_is_sent now s xs e = at_window (has_window s) e
     at_batches [] all e' = absurd cc
     at_batches (y ∷ ys) all e' = let same : y ∷ ys ≡ xs = cc in subst (AllByRecursion (IsSent now s)) same all
 
-    at_asking : (o : Option ℕ) → demand_of now s o ≡ Some (Produce xs) → AllByRecursion (IsSent now s) xs
+    at_asking : (o : Option ℕ) → demand_of (next_batches now s) o ≡ Some (Produce xs) → AllByRecursion (IsSent now s) xs
     at_asking None e' = at_batches (next_batches now s) (all_sent now s) e'
     at_asking (Some p) e' = absurd cc
 
-    at_window : (b : Bool) → (if b then demand_of now s (next_asking now s) else None)
+    at_window : (b : Bool) → (if b then demand_of (next_batches now s) (next_asking now s) else None)
         ≡ Some (Produce xs) → AllByRecursion (IsSent now s) xs
     at_window true e' = at_asking (next_asking now s) e'
     at_window false e' = absurd cc

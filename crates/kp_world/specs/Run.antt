@@ -45,16 +45,26 @@ pub record Arrives (w : World) (k : ℕ) (v : World) : Type 0 where
   pub honest : Delivers w packet.demand delivery
   pub after_is : v ≡ with_delivery packet delivery w
 
+-- what the producer's events do
+abbrev pub Producer : Type 0
+Producer = Event → World → Option World
+
+abbrev pub StepsBy : Producer → World → Event → World → Type 0
+StepsBy producer w (Deliver k treatment) v = Arrives w k v
+StepsBy producer w (Other p n) v = with_others_at p n w ≡ Some v
+StepsBy producer w e v = producer e w ≡ Some v
+
 unfoldable pub Steps : World → Event → World → Type 0
-Steps w (Deliver k treatment) v = Arrives w k v
-Steps w (Other p n) v = with_others_at p n w ≡ Some v
-Steps w e v = client e w ≡ Some v
+Steps w e v = StepsBy client w e v
 
 -- ---- a run: a list of steps
 
+abbrev pub RunBy : (World → Event → World → Type 0) → World → List Event → World → Type 0
+RunBy steps w [] v = v ≡ w
+RunBy steps w (e ∷ es) v = (middle : World) × steps w e middle × RunBy steps middle es v
+
 unfoldable pub Run : World → List Event → World → Type 0
-Run w [] v = v ≡ w
-Run w (e ∷ es) v = (middle : World) × Steps w e middle × Run middle es v
+Run w es v = RunBy Steps w es v
 
 -- What a schedule may begin with.
 pub record MayBegin (c : Config) (partitions senders : ℕ) : Type 0 where
