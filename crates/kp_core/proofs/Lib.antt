@@ -4,4 +4,5 @@ pub mod ReplyFacts
 pub mod RequestFacts
 pub mod DueFacts
 pub mod MessageFacts
+pub mod CallLemmas
 pub mod OutcomeLemmas

@@ -1,0 +1,113 @@
+-- What holds of the world after each kind of event holds after any step.
+use Rattle.std.proofs.Common.{◌≡◌, ℕ, ◌<◌, Bool, true, false, List, [], ◌∷◌, length, Some, None, refl, sym, subst}
+use Rattle.std.specs.Prelude.{Option, if◌then◌else◌, ◌&&◌, slice_get}
+use Rattle.std.proofs.lemmas.Bool.{and_parts, ltb-true}
+use Rattle.kp_accum.specs.declared.item.Item.{Item}
+use Rattle.kp_core.specs.Flush.{flushed}
+use Rattle.kp_core.specs.Replies.{replied}
+use Rattle.kp_core.specs.Requesting.{Outgoing, requested}
+use Rattle.kp_core.specs.Tick.{disconnected}
+use Rattle.kp_world.specs.declared.event.Event.{Event}
+use Rattle.kp_world.specs.declared.event.Event.TheVariants as event
+use Rattle.kp_world.specs.Accepting.{accepted_by, taken_by, item_for, is_large, with_accepted, accepting, taking}
+use Rattle.kp_world.specs.Client.{sending, reply_line, flush_line, has_sender, has_partition, only_if, replying, ticking, ending, closing, client}
+use Rattle.kp_world.specs.Delivering.{Delivery, Delivers}
+use Rattle.kp_world.specs.Line.{Closed, Large, Empty}
+use Rattle.kp_world.specs.Loopback.{logs_with_others}
+use Rattle.kp_world.specs.Message.{response_of}
+use Rattle.kp_world.specs.Noting.{noted, only_noted}
+use Rattle.kp_world.specs.Run.{with_delivery, with_others_at, Steps, Run}
+use Rattle.kp_world.specs.World.{Reply, World}
+
+-- ---- the producer's events
+
+pub record OfEvent (P : World → Type 0) (w : World) : Type 0 where
+  pub not_accepted : (s p : ℕ) → P (only_noted (Closed s p ∷ []) w) × P (only_noted (Large s p ∷ []) w)
+  pub accepted : (s p : ℕ) (value : List ℕ) → s < length w.accepted → p < length w.logs → w.is_shut ≡ false
+      → is_large (item_for s p value w) w ≡ false → P (only_noted [] (with_accepted (item_for s p value w) w))
+  pub none_taken : (s : ℕ) → P (only_noted (Empty s ∷ []) w)
+  pub taken : (s : ℕ) (i : Item) → s < length w.accepted → slice_get (accepted_by s w) (taken_by s w) ≡ Some i → P (taking s (Some i) w)
+  pub now : (moment : ℕ) → P (only_noted [] (record w { moment = moment }))
+  pub tick : P (ticking w)
+  pub send : let step = requested w.moment w.core in P (sending w step.after step.answer)
+  pub reply : (j : ℕ) (r : Reply) → slice_get w.replies j ≡ Some r
+      → let step = replied w.moment (response_of r) w.core in P (noted step.after (reply_line j step.answer) step.told w)
+  pub lost : P (noted (disconnected w.moment w.core) [] [] w)
+  pub close : P (closing w)
+  pub end : P (ending w)
+  pub flush : P (noted (flushed w.core) (flush_line w.core ∷ []) [] w)
+
+at_some : (P : World → Type 0) (x v : World) → Some x ≡ Some v → P x → P v
+at_some P x v e h = let same : x ≡ v = cc in subst P same h
+
+at_only_if : (P : World → Type 0) (b : Bool) (x v : World) → only_if b x ≡ Some v → (b ≡ true → P x) → P v
+at_only_if P true x v e h = at_some P x v e (h refl)
+at_only_if P false x v e h = absurd cc
+
+pub at_client : (P : World → Type 0) (w : World) → OfEvent P w → (e : Event) (v : World) → client e w ≡ Some v → P v
+unfolding client
+at_client P w c (event.Accept s p value) v e =
+    at_only_if P (has_sender s w && has_partition p w) (accepting i w) v e (λ is. at_shut (and_parts (has_sender s w) (has_partition p w) is) w.is_shut refl)
+  where
+    i : Item
+    i = item_for s p value w
+
+    at_large : (has_sender s w ≡ true) × (has_partition p w ≡ true) → w.is_shut ≡ false → (b : Bool) → is_large i w ≡ b
+        → P (if b then only_noted (Large s p ∷ []) w else only_noted [] (with_accepted i w))
+    at_large there is true l = (c.not_accepted s p).1
+    at_large there is false l = c.accepted s p value (ltb-true s (length w.accepted) there.0) (ltb-true p (length w.logs) there.1) is l
+
+    at_shut : (has_sender s w ≡ true) × (has_partition p w ≡ true) → (b : Bool) → w.is_shut ≡ b
+        → P (if b then only_noted (Closed s p ∷ []) w else if is_large i w then only_noted (Large s p ∷ []) w else only_noted [] (with_accepted i w))
+    at_shut there true is = (c.not_accepted s p).0
+    at_shut there false is = at_large there is (is_large i w) refl
+at_client P w c (event.Take s) v e =
+    at_only_if P (has_sender s w) (taking s (slice_get (accepted_by s w) (taken_by s w)) w) v e (λ is. at_item (slice_get (accepted_by s w) (taken_by s w)) refl (ltb-true s (length w.accepted) is))
+  where
+    at_item : (o : Option Item) → slice_get (accepted_by s w) (taken_by s w) ≡ o → s < length w.accepted → P (taking s o w)
+    at_item None is l = c.none_taken s
+    at_item (Some i) is l = c.taken s i l is
+at_client P w c (event.Now moment) v e = at_some P _ v e (c.now moment)
+at_client P w c event.Tick v e = at_some P _ v e c.tick
+at_client P w c event.Send v e = at_some P _ v e c.send
+at_client P w c (event.Reply j) v e = at_reply (slice_get w.replies j) refl e
+  where
+    at_reply : (o : Option Reply) → slice_get w.replies j ≡ o → replying j o w ≡ Some v → P v
+    at_reply None is e' = absurd cc
+    at_reply (Some r) is e' = at_some P _ v e' (c.reply j r is)
+at_client P w c event.Drop v e = at_some P _ v e c.lost
+at_client P w c event.Close v e = at_some P _ v e c.close
+at_client P w c event.End v e = at_some P _ v e c.end
+at_client P w c event.Flush v e = at_some P _ v e c.flush
+at_client P w c (event.Deliver k how) v e = absurd cc
+at_client P w c (event.Other p n) v e = absurd cc
+
+-- ---- any event
+
+pub record OfStep (P : World → Type 0) (w : World) : Type 0 where
+  pub client : OfEvent P w
+  pub arrives : (k : ℕ) (o : Outgoing) (d : Delivery) → slice_get w.packets k ≡ Some o → Delivers w o.demand d → P (with_delivery o d w)
+  pub others : (p n : ℕ) → p < length w.logs → P (only_noted [] (record w { logs = logs_with_others p n w.logs }))
+
+pub at_step : (P : World → Type 0) (w : World) → OfStep P w → (e : Event) (v : World) → Steps w e v → P v
+unfolding Steps with_others_at
+at_step P w c (event.Deliver k how) v a = subst P (sym a.after_is) (c.arrives k a.packet a.delivery a.went_out a.honest)
+at_step P w c (event.Other p n) v e = at_only_if P (has_partition p w) _ v e (λ is. c.others p n (ltb-true p (length w.logs) is))
+at_step P w c (event.Accept s p value) v e = at_client P w c.client (event.Accept s p value) v e
+at_step P w c (event.Take s) v e = at_client P w c.client (event.Take s) v e
+at_step P w c (event.Now moment) v e = at_client P w c.client (event.Now moment) v e
+at_step P w c event.Tick v e = at_client P w c.client event.Tick v e
+at_step P w c event.Send v e = at_client P w c.client event.Send v e
+at_step P w c (event.Reply j) v e = at_client P w c.client (event.Reply j) v e
+at_step P w c event.Drop v e = at_client P w c.client event.Drop v e
+at_step P w c event.Close v e = at_client P w c.client event.Close v e
+at_step P w c event.End v e = at_client P w c.client event.End v e
+at_step P w c event.Flush v e = at_client P w c.client event.Flush v e
+
+-- ---- a run
+
+pub at_run : (P : World → Type 0) → ((w : World) → P w → (e : Event) (v : World) → Steps w e v → P v)
+    → (es : List Event) (w v : World) → Run w es v → P w → P v
+unfolding Run
+at_run P keeps [] w v r h = subst P (sym r) h
+at_run P keeps (e ∷ es) w v r h = at_run P keeps es r.0 v r.2 (keeps w h e r.0 r.1)
