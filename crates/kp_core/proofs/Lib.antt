@@ -4,5 +4,6 @@ pub mod ReplyFacts
 pub mod RequestFacts
 pub mod DueFacts
 pub mod MessageFacts
+pub mod ListLemmas
 pub mod CallLemmas
 pub mod OutcomeLemmas

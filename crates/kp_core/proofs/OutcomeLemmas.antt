@@ -34,30 +34,9 @@ use Rattle.kp_core.specs.Records.{Open, Partition, Request, IdRequest, Core, Tol
 use Rattle.kp_core.specs.Replies.{Replies, first_answered, answering, batches_answered, batches_replied, id_answered, replied_to, replied, after_end, known, faulty}
 use Rattle.kp_core.specs.Telling.{told_all, told_at_each, told_at}
 use Rattle.kp_core.specs.Tick.{Ticks, is_open_late, late_front, expired_front, passed, has_timed_out, ticked_from, not_ticked, ticked}
+use Rattle.kp_core.proofs.ListLemmas.{contains_head, contains_tail, all_append, all_contained, all_flat_map}
 
 -- ---- lists
-
-contains_head : {A : Type 0} (x : A) (xs : List A) → Contains (x ∷ xs) x
-contains_head x xs = (0, omega arith, refl)
-
-contains_tail : {A : Type 0} (x y : A) (xs : List A) → Contains xs x → Contains (y ∷ xs) x
-contains_tail x y xs h = (suc h.0, omega (arith, h.1), h.2)
-
-all_append : {A : Type 0} (P : A → Type 0) (xs ys : List A) → AllByRecursion P xs
-    → AllByRecursion P ys → AllByRecursion P (xs ++ ys)
-all_append P [] ys h k = k
-all_append P (x ∷ xs) ys h k = (h.0, all_append P xs ys h.1 k)
-
-all_contained : {A : Type 0} (P : A → Type 0) (xs : List A) → ((x : A) → Contains xs x → P x) → AllByRecursion P xs
-all_contained P [] f = tt
-all_contained P (x ∷ xs) f =
-    (f x (contains_head x xs), all_contained P xs (λ y h. f y (contains_tail y x xs h)))
-
-all_flat_map : {A B : Type 0} (P : B → Type 0) (g : A → List B) (xs : List A)
-    → ((x : A) → Contains xs x → AllByRecursion P (g x)) → AllByRecursion P (flat_map g xs)
-all_flat_map P g [] f = tt
-all_flat_map P g (x ∷ xs) f = all_append P (g x) (flat_map g xs) (f x (contains_head x xs))
-    (all_flat_map P g xs (λ y h. f y (contains_tail y x xs h)))
 
 -- at the places of a list
 all_placed : {A : Type 0} (P : A → Type 0) (xs : List A)

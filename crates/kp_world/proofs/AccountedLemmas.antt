@@ -12,7 +12,8 @@ use Rattle.kp_world.specs.Accepting.{accepted_by, for_partition, taken_by}
 use Rattle.kp_world.specs.Accounts.{is_same, is_among, of_sender, items_handed, told_unsent, not_taken, queued_at, has_left, AreAccountedFor, AreRising, AreInOrder}
 use Rattle.kp_world.specs.World.{World}
 use Rattle.kp_world.proofs.AccountLemmas.{taken_for, IsAccounted, partition-append}
-use Rattle.kp_world.proofs.FateLemmas.{all_front, all_back, all_weaker, all_filter, filter_agrees, filter_all, filter_none, filter_twice, has_number, is_out, AreNumbered, below_is_out, in_itself, fates_rise, fates_handed, Rising, fates_apart}
+use Rattle.kp_world.proofs.FateLemmas.{filter_agrees, filter_all, filter_none, filter_twice, has_number, is_out, AreNumbered, below_is_out, in_itself, fates_rise, fates_handed, Rising, fates_apart}
+use Rattle.kp_world.proofs.ListLemmas.{all_back, all_filter, all_front, all_weaker}
 
 -- ---- of one sender and partition
 

@@ -22,10 +22,10 @@ use Rattle.kp_world.specs.Client.{handed_at}
 use Rattle.kp_world.specs.Delivering.{log_at, PartDelivers, PartsDeliver}
 use Rattle.kp_world.specs.Message.{sent_of}
 use Rattle.kp_world.specs.World.{PartAnswer, Reply}
-use Rattle.kp_world.proofs.DeliveryLemmas.{In-map}
 use Rattle.kp_world.proofs.FlightLemmas.{Carried, PartHolds, Steady, part_grown, steady_grown}
 use Rattle.kp_world.proofs.PrefixLemmas.{Cut, Grown, lands, lands_at, grown_same, grown_appended}
 use Rattle.kp_world.proofs.SoundLemmas.{Sound, sents, sound_history}
+use Rattle.kp_world.proofs.ListLemmas.{In-map}
 
 -- ---- a batch that is old
 

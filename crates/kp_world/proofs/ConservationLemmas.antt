@@ -27,8 +27,9 @@ use Rattle.kp_core.specs.Records.{Batch, Open, Partition, Told}
 use Rattle.kp_core.specs.Telling.{told_all, told_offsets}
 use Rattle.kp_core.specs.Tick.{late_front, behind_late, expired_front, is_open_late, passed}
 use Rattle.kp_world.specs.Accounts.{is_unsent, unsent_among}
-use Rattle.kp_world.proofs.FateLemmas.{all_both, all_front, all_back}
 use Rattle.kp_world.proofs.WeightLemmas.{weigh, weigh-append, weigh_filter, weigh_map}
+use Rattle.kp_core.proofs.ListLemmas.{all_append}
+use Rattle.kp_world.proofs.ListLemmas.{all_back, all_front}
 
 -- ---- what is told
 
@@ -89,7 +90,7 @@ all_open_filter P test [] h = tt
 all_open_filter P test (o ∷ os) h = at_test (test o) (all_open_filter P test os (all_back P o.batch.items (items_open os) h))
   where
     at_test : (b : Bool) → AllByRecursion P (items_open (filter test os)) → AllByRecursion P (items_open (cond b (o ∷ filter test os) (filter test os)))
-    at_test true rest = all_both P o.batch.items (items_open (filter test os)) (all_front P o.batch.items (items_open os) h) rest
+    at_test true rest = all_append P o.batch.items (items_open (filter test os)) (all_front P o.batch.items (items_open os) h) rest
     at_test false rest = rest
 
 all_open_find : (P : Item → Type 0) (test : Open → Bool) (os : List Open) (o : Open) → find test os ≡ Some o → AllByRecursion P (items_open os) → AllByRecursion P o.batch.items
@@ -232,7 +233,7 @@ tells_expired c now t =
     record {
       queue = split ∙ ap (λ r. r ++ behind) (sym (unsent_all (Unsent reason.Expired) late refl));
       told_from = λ P h. subst (AllByRecursion P) (sym (told_all_items (Unsent reason.Expired) late)) (all_front P late behind (subst (AllByRecursion P) split (all_back P (items_open t.open_batches) (items_queued t.queue) h)));
-      left_from = λ P h. all_both P (items_open t.open_batches) behind (all_front P (items_open t.open_batches) (items_queued t.queue) h) (all_back P late behind (subst (AllByRecursion P) split (all_back P (items_open t.open_batches) (items_queued t.queue) h)));
+      left_from = λ P h. all_append P (items_open t.open_batches) behind (all_front P (items_open t.open_batches) (items_queued t.queue) h) (all_back P late behind (subst (AllByRecursion P) split (all_back P (items_open t.open_batches) (items_queued t.queue) h)));
       weighs = λ f.
           let told : weigh f (items_told (told_all (Unsent reason.Expired) (items_queued (late_front c now t.queue)))) ≡ weigh f (items_queued (late_front c now t.queue)) = ap (weigh f) (told_all_items (Unsent reason.Expired) late) in
           let before : weigh f (items_open t.open_batches ++ items_queued t.queue) ≡ weigh f (items_open t.open_batches) + weigh f (items_queued t.queue) = weigh-append f (items_open t.open_batches) (items_queued t.queue) in
@@ -278,7 +279,7 @@ unfolding untold
 tells_without k t o told one at none items = record {
   queue = sym (ap (λ r. r ++ items_queued t.queue) none);
   told_from = λ P h. subst (AllByRecursion P) (sym items) (all_open_find P (awaits k) t.open_batches o at (all_front P (items_open t.open_batches) (items_queued t.queue) h));
-  left_from = λ P h. all_both P (items_open (without_attempt k t).open_batches) (items_queued t.queue)
+  left_from = λ P h. all_append P (items_open (without_attempt k t).open_batches) (items_queued t.queue)
       (all_open_filter P (λ x. not (awaits k x)) t.open_batches (all_front P (items_open t.open_batches) (items_queued t.queue) h))
       (all_back P (items_open t.open_batches) (items_queued t.queue) h);
   weighs = λ f.
@@ -293,7 +294,7 @@ tells_without k t o told one at none items = record {
 pub tells_both : (t u v : Partition) (a b : List Told) → unsent_among a ≡ [] → items_queued t.queue ≡ items_queued u.queue → Tells t a u → Tells u b v → Tells t (a ++ b) v
 tells_both t u v a b none same c d = record {
   queue = same ∙ d.queue ∙ ap (λ r. r ++ items_queued v.queue) (sym (unsent-append a b ∙ ap (λ r. r ++ unsent_among b) none));
-  told_from = λ P h. subst (AllByRecursion P) (sym (map-append (λ (x : Told). x.item) a b)) (all_both P (items_told a) (items_told b) (c.told_from P h) (d.told_from P (c.left_from P h)));
+  told_from = λ P h. subst (AllByRecursion P) (sym (map-append (λ (x : Told). x.item) a b)) (all_append P (items_told a) (items_told b) (c.told_from P h) (d.told_from P (c.left_from P h)));
   left_from = λ P h. d.left_from P (c.left_from P h);
   weighs = λ f.
       let told : weigh f (items_told (a ++ b)) ≡ weigh f (items_told a) + weigh f (items_told b) = ap (weigh f) (map-append (λ (x : Told). x.item) a b) ∙ weigh-append f (items_told a) (items_told b) in

@@ -41,12 +41,13 @@ use Rattle.kp_world.specs.Delivering.{log_at}
 use Rattle.kp_world.specs.Message.{sent_of, part_response, body_of_reply, response_of}
 use Rattle.kp_world.specs.World.{PartAnswer, ReplyContent, Batches as Parts, Id as GivenId, Reply, names}
 use Rattle.kp_world.proofs.BrokerLemmas.{Agrees}
-use Rattle.kp_world.proofs.FlightLemmas.{Steady, all_at}
+use Rattle.kp_world.proofs.FlightLemmas.{Steady}
 use Rattle.kp_world.proofs.HearingLemmas.{Names, names_its, stored_code, duplicate_code, from_map, answered_batch, old_not_in_flight, answer_of, same_correlation}
 use Rattle.kp_world.proofs.ItemLemmas.{AreOf, HandedOf}
 use Rattle.kp_world.proofs.LawfulLemmas.{Lawful}
 use Rattle.kp_world.proofs.LeavingLemmas.{awaits_is, left_in, found}
 use Rattle.kp_world.proofs.SoundLemmas.{Sound}
+use Rattle.kp_world.proofs.ListLemmas.{all_at}
 
 -- ---- what is told
 

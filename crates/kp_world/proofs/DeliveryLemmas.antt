@@ -1,16 +1,16 @@
 -- What the loopback broker does with a packet is what an honest broker may do, and what holds of
 -- every world of a replay holds still.
-use Rattle.std.proofs.Common.{◌≡◌, ◌⊎◌, ℕ, ◌+◌, ◌<◌, Bool, true, false, List, [], ◌∷◌, ◌++◌, length, map, ℤ, refl, sym, ap, ◌∙◌, subst, inl, inr, ⊎_elim, arith, length-append, Contains}
+use Rattle.std.proofs.Common.{◌≡◌, ◌⊎◌, ℕ, ◌+◌, ◌<◌, Bool, true, false, List, [], ◌∷◌, ◌++◌, length, ℤ, refl, sym, ap, ◌∙◌, subst, inl, inr, ⊎_elim, arith, length-append, Contains}
 use Rattle.std.specs.Prelude.{◌==◌, slice_set}
 use Rattle.std.specs.List.{AllByRecursion}
 use Rattle.std.proofs.lemmas.Bool.{eqb-true, eq-eqb}
-use Rattle.std.proofs.lemmas.List.{length-set, get_or-set_same, get_or-set_other, map-append}
+use Rattle.std.proofs.lemmas.List.{length-set, get_or-set_same, get_or-set_other}
 use Rattle.kp_log.specs.BrokerStep.{BrokerStep}
 use Rattle.kp_log.specs.HandedOver.{CameBy}
 use Rattle.kp_log.specs.History.{History, empty_history, with_others}
 use Rattle.kp_log.proofs.KeepingLemmas.{came_offered, came_others}
 use Rattle.kp_log.proofs.LoopbackLemmas.{loopback_step, late_step}
-use Rattle.kp_log.proofs.PlaceLemmas.{In, In-nil, In-cons, In-head, In-tail, In-append_left, In-append_right, In-append_cases, contains_from_In}
+use Rattle.kp_log.proofs.PlaceLemmas.{In, In-nil, In-cons, In-head, In-append_left, In-append_right, In-append_cases, contains_from_In}
 use Rattle.kp_core.specs.Next.{Sending, Demand, Produce, InitProducerId}
 use Rattle.kp_core.specs.Partitions.{partition_at}
 use Rattle.kp_core.specs.Records.{Batch, Partition, Core}
@@ -27,20 +27,9 @@ use Rattle.kp_world.specs.Run.{with_delivery}
 use Rattle.kp_world.specs.World.{PartAnswer, ReplyContent, Batches, Reply, World, FIRST_ID}
 use Rattle.kp_world.proofs.GoodLemmas.{PartsIn, Given, Good, IsGood}
 use Rattle.kp_world.proofs.SoundLemmas.{Sound, sents, sound_history, sound_drawn}
+use Rattle.kp_world.proofs.ListLemmas.{In-map, all_in}
 
 -- ---- lists
-
-pub In-map : {A B : Type 0} (f : A → B) (x : A) (xs : List A) → In x xs → In (f x) (map f xs)
-In-map f x xs h = record {
-  earlier = map f h.earlier;
-  later = map f h.later;
-  split = ap (map f)
-      h.split ∙ map-append f h.earlier (x ∷ h.later);
-}
-
-pub all_in : {A : Type 0} (P : A → Type 0) (xs : List A) → ((x : A) → In x xs → P x) → AllByRecursion P xs
-all_in P [] f = tt
-all_in P (x ∷ xs) f = (f x (In-head x xs), all_in P xs (λ y i. f y (In-tail y x xs i)))
 
 at_log : (logs : List History) (p q : ℕ) (h : History) → p < length logs
     → ((q ≡ p) × (log_at q (slice_set logs p h) ≡ h))

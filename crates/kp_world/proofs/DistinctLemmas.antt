@@ -11,8 +11,9 @@ use Rattle.kp_core.specs.Next.{Sending, Produce, flags_of, used_up_to, in_turn, 
 use Rattle.kp_core.specs.Partitions.{is_in}
 use Rattle.kp_core.specs.Records.{Batch, Partition, Core}
 use Rattle.kp_core.specs.Requesting.{partitions_in}
-use Rattle.kp_world.proofs.FateLemmas.{all_both, all_front, all_back, all_weaker}
 use Rattle.kp_world.proofs.TellingLemmas.{Distinct}
+use Rattle.kp_core.proofs.ListLemmas.{all_append}
+use Rattle.kp_world.proofs.ListLemmas.{all_back, all_front, all_weaker}
 
 -- ---- lists of which no two have one key
 
@@ -30,7 +31,7 @@ apart_front key (x ∷ xs) ys h = (all_front (Differ key x) xs ys h.0, apart_fro
 apart_last : {A : Type 0} (key : A → ℕ) (ys : List A) (x : A) (xs : List A) → AllByRecursion (Differ key x) ys → AllByRecursion (Differ key x) xs → Apart key (ys ++ xs) → Apart key (ys ++ x ∷ xs)
 apart_last key [] x xs a b h = (b, h)
 apart_last key (y ∷ ys) x xs a b h = (
-  all_both (Differ key y) ys (x ∷ xs) (all_front (Differ key y) ys xs h.0) ((λ (e : key y ≡ key x). a.0 (sym e)), all_back (Differ key y) ys xs h.0),
+  all_append (Differ key y) ys (x ∷ xs) (all_front (Differ key y) ys xs h.0) ((λ (e : key y ≡ key x). a.0 (sym e)), all_back (Differ key y) ys xs h.0),
   apart_last key ys x xs a.1 b h.1,
 )
 
@@ -40,7 +41,7 @@ apart_turned key [] ys h = behind ys h
   where
     behind : (ys : List _) → Apart key ys → Apart key (ys ++ [])
     behind [] h = tt
-    behind (y ∷ ys) h = (all_both (Differ key y) ys [] h.0 tt, behind ys h.1)
+    behind (y ∷ ys) h = (all_append (Differ key y) ys [] h.0 tt, behind ys h.1)
 apart_turned key (x ∷ xs) ys h = apart_last key ys x xs (all_back (Differ key x) xs ys h.0) (all_front (Differ key x) xs ys h.0) (apart_turned key xs ys h.1)
 
 places_from : (k : ℕ) (xs : List Partition) → AllByRecursion (λ (y : ℕ × Partition). k ≤ y.0) (enumerate_from k xs)

@@ -8,36 +8,10 @@ use Rattle.std.proofs.lemmas.List.{append-nil}
 use Rattle.std.proofs.lemmas.List.Elements.{filter-append}
 use Rattle.std.proofs.lemmas.List.Folds.{list_any-append}
 use Rattle.kp_accum.specs.declared.item.Item.{Item}
+use Rattle.kp_core.proofs.ListLemmas.{all_append}
+use Rattle.kp_world.proofs.ListLemmas.{all_back, all_filter, all_front, all_say, all_weaker}
 
 -- ---- lists
-
-pub all_both : {A : Type 0} (P : A → Type 0) (xs ys : List A) → AllByRecursion P xs → AllByRecursion P ys → AllByRecursion P (xs ++ ys)
-all_both P [] ys h k = k
-all_both P (x ∷ xs) ys h k = (h.0, all_both P xs ys h.1 k)
-
-pub all_front : {A : Type 0} (P : A → Type 0) (xs ys : List A) → AllByRecursion P (xs ++ ys) → AllByRecursion P xs
-all_front P [] ys h = tt
-all_front P (x ∷ xs) ys h = (h.0, all_front P xs ys h.1)
-
-pub all_back : {A : Type 0} (P : A → Type 0) (xs ys : List A) → AllByRecursion P (xs ++ ys) → AllByRecursion P ys
-all_back P [] ys h = h
-all_back P (x ∷ xs) ys h = all_back P xs ys h.1
-
-pub all_weaker : {A : Type 0} (P Q : A → Type 0) → ((x : A) → P x → Q x) → (xs : List A) → AllByRecursion P xs → AllByRecursion Q xs
-all_weaker P Q f [] h = tt
-all_weaker P Q f (x ∷ xs) h = (f x h.0, all_weaker P Q f xs h.1)
-
-pub all_say : {A : Type 0} (P : A → Type 0) → ((x : A) → P x) → (xs : List A) → AllByRecursion P xs
-all_say P f [] = tt
-all_say P f (x ∷ xs) = (f x, all_say P f xs)
-
-pub all_filter : {A : Type 0} (P : A → Type 0) (test : A → Bool) (xs : List A) → AllByRecursion P xs → AllByRecursion P (filter test xs)
-all_filter P test [] h = tt
-all_filter P test (x ∷ xs) h = at_test (test x) (all_filter P test xs h.1)
-  where
-    at_test : (b : Bool) → AllByRecursion P (filter test xs) → AllByRecursion P (cond b (x ∷ filter test xs) (filter test xs))
-    at_test true rest = (h.0, rest)
-    at_test false rest = rest
 
 pub filter_twice : {A : Type 0} (p q : A → Bool) (xs : List A) → filter (λ k. p k && q k) xs ≡ filter q (filter p xs)
 filter_twice p q [] = refl
@@ -240,7 +214,7 @@ fates_turned_away t q h u i f e =
     let rise : Rising ((h ++ q) ++ (i ∷ [] ++ [])) = subst Rising one (rising_filter (is_out u) (t ++ i ∷ []) (numbered_rise 0 (t ++ i ∷ []) more.numbered)) in
     record {
       kept = given_up (t ++ i ∷ []) u (h ++ q) (i ∷ []) [] one rise ∙ append-nil (h ++ q);
-      known = all_both (λ j. j.number < length (t ++ i ∷ [])) u (i ∷ []) more.known (omega (arith, e, length-append t (i ∷ [])), tt);
+      known = all_append (λ j. j.number < length (t ++ i ∷ [])) u (i ∷ []) more.known (omega (arith, e, length-append t (i ∷ [])), tt);
       numbered = more.numbered;
     }
 
@@ -252,7 +226,7 @@ fates_given_up t front back h u f =
     let below = all_back (λ i. i.number < length t) h (front ++ back) (fates_below t (front ++ back) h u f) in
     record {
       kept = given_up t u h front back f.kept (fates_rise t (front ++ back) h u f);
-      known = all_both (λ i. i.number < length t) u front f.known (all_front (λ i. i.number < length t) front back below);
+      known = all_append (λ i. i.number < length t) u front f.known (all_front (λ i. i.number < length t) front back below);
       numbered = f.numbered;
     }
 

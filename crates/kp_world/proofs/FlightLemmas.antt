@@ -11,7 +11,7 @@ use Rattle.kp_log.specs.BrokerStep.{Answered, Stands, NO_ERROR, DUPLICATE_SEQUEN
 use Rattle.kp_log.specs.HandedOver.{IsStored}
 use Rattle.kp_log.specs.History.{History, empty_history}
 use Rattle.kp_log.proofs.OffsetLemmas.{stands_still, stored_still}
-use Rattle.kp_log.proofs.PlaceLemmas.{In, In-nil, In-cons, In-head, In-tail, In-append_left, In-append_right, In-append_cases}
+use Rattle.kp_log.proofs.PlaceLemmas.{In, In-nil, In-cons, In-head, In-tail, In-append_left, In-append_right}
 use Rattle.kp_core.specs.declared.attempt.Attempt.TheVariants.{InFlight}
 use Rattle.kp_core.specs.Attempts.{is_waiting, lowest_waiting}
 use Rattle.kp_core.specs.HandingOver.{again_in, sent_again_in, opened_in, handed_over_in}
@@ -26,6 +26,7 @@ use Rattle.kp_world.specs.World.{PartAnswer, ReplyContent, Batches, Id, Reply}
 use Rattle.kp_world.proofs.LeavingLemmas.{Rising, CameFrom, IsOpen, Leaves}
 use Rattle.kp_world.proofs.PrefixLemmas.{Cut, Grown, cut_empty, cut_kept, cut_handed, cut_fresh, stored_landed}
 use Rattle.kp_world.proofs.SoundLemmas.{Sound}
+use Rattle.kp_world.proofs.ListLemmas.{all_at, one_more}
 
 -- ---- packets
 
@@ -126,9 +127,6 @@ steady_kept p next ids e e' t t' handed h packets replies s k ended l = record {
     still g f b x = subst (λ (c : Batch). IsStored h.records (sent_of c) ⊎ IsOpen t'.open_batches c) x.batch (l.stays g f x.it x.there)
 
 -- ---- one packet more
-
-pub one_more : {A : Type 0} (xs : List A) (x y : A) → In y (xs ++ x ∷ []) → In y xs ⊎ (y ≡ x)
-one_more xs x y i = ⊎_elim (λ (j : In y xs). inl j) (λ (j : In y (x ∷ [])). ⊎_elim (λ (same : y ≡ x). inr same) (λ (none : In y []). absurd (In-nil y none)) (In-cons y x [] j)) (In-append_cases y xs (x ∷ []) i)
 
 carried_more : (p k : ℕ) (packets : List Outgoing) (o : Outgoing) (b : Batch) → Carried p k packets b → Carried p k (packets ++ o ∷ []) b
 carried_more p k packets o b c = record { packet = c.packet; sent = In-append_left c.packet packets (o ∷ []) c.sent; named = c.named; carries = c.carries }
@@ -263,10 +261,6 @@ steady_again p next e t handed h packets replies o lowest k below named is says 
 -- ---- the front batch is handed over
 
 -- what holds of each holds of this
-pub all_at : {A : Type 0} (P : A → Type 0) (xs : List A) (x : A) → AllByRecursion P xs → In x xs → P x
-all_at P [] x a i = absurd (In-nil x i)
-all_at P (y ∷ xs) x a i = ⊎_elim (λ (same : x ≡ y). subst P (sym same) a.0) (λ (j : In x xs). all_at P xs x a.1 j) (In-cons x y xs i)
-
 abbrev LowestIsNear : ℕ → ℕ → List Open → Type 0
 LowestIsNear most count [] = Unit {0}
 LowestIsNear most count (o ∷ os) = count - o.batch.number < most

@@ -16,8 +16,8 @@ use Rattle.kp_world.specs.Client.{grown_by, handed_at, with_sending, with_sendin
 use Rattle.kp_world.specs.Delivering.{log_at, given}
 use Rattle.kp_world.specs.World.{Reply, World, FIRST_ID}
 use Rattle.kp_world.proofs.KeepingLemmas.{CoreKeeps}
-use Rattle.kp_world.proofs.SendingLemmas.{all_weaker}
 use Rattle.kp_world.proofs.SoundLemmas.{Sound, sound_kept}
+use Rattle.kp_world.proofs.ListLemmas.{all_weaker}
 
 -- ---- what holds
 

@@ -28,13 +28,15 @@ use Rattle.kp_world.proofs.ConservationLemmas.{items_told, attempts_of, attempt_
 use Rattle.kp_world.proofs.TakingLemmas.{weigh_same}
 use Rattle.kp_world.proofs.WeightLemmas.{weigh, weigh-append}
 use Rattle.kp_world.proofs.DistinctLemmas.{demand_is_distinct}
-use Rattle.kp_world.proofs.FateLemmas.{all_both, all_weaker, Fates, fates_handed_over}
+use Rattle.kp_world.proofs.FateLemmas.{Fates, fates_handed_over}
 use Rattle.kp_world.proofs.GoodLemmas.{length-with_sendings, at-with_sendings}
 use Rattle.kp_world.proofs.KeepingLemmas.{length-changed_at, at-changed_at}
 use Rattle.kp_world.proofs.RequestLemmas.{in_request, only_this, none_here, grown_known, grown_new, spent_step, end_step}
 use Rattle.kp_world.proofs.SendingLemmas.{find_open, opens_again, IsSent, demand_is_sent}
 use Rattle.kp_world.proofs.SoundLemmas.{opens_more, opens_last}
 use Rattle.kp_world.proofs.TellingLemmas.{Distinct, home_past, core_nothing}
+use Rattle.kp_core.proofs.ListLemmas.{all_append}
+use Rattle.kp_world.proofs.ListLemmas.{all_weaker}
 
 -- ---- one partition
 
@@ -199,7 +201,7 @@ accounts_sent now s accepted taken handed told xs a e = record {
   senders = λ s'. subst (λ (n : ℕ). Accepts n s' (slice_index_or accepted s' []) (slice_index taken s')) (sym (length-changed_at (partitions_in xs) (λ q u. sent_in s.correlation u) s.partitions)) (a.senders s');
   each = λ p l. (goes p (within p l)).holds;
   home = home_past (sent_out now s (Produce xs)).partitions (λ p l. subst (AllByRecursion (λ i. i.partition ≡ p)) (sym (goes p (within p l)).same) (a.home p));
-  requests = all_both (λ (r : Request). Distinct r.partitions) s.requests (request_of now s xs ∷ []) a.requests (demand_is_distinct now s xs e, tt);
+  requests = all_append (λ (r : Request). Distinct r.partitions) s.requests (request_of now s xs ∷ []) a.requests (demand_is_distinct now s xs e, tt);
   fates = λ s' p l.
       let g = goes p (within p l) in
       let back = items_queued (partition_at p (sent_out now s (Produce xs)).partitions).queue in

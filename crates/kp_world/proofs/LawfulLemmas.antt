@@ -25,13 +25,13 @@ use Rattle.kp_world.specs.Message.{sent_of}
 use Rattle.kp_world.specs.Noting.{noted}
 use Rattle.kp_world.specs.World.{Reply, World}
 use Rattle.kp_world.proofs.BrokerLemmas.{AllAgree}
-use Rattle.kp_world.proofs.DeliveryLemmas.{all_in}
-use Rattle.kp_world.proofs.FlightLemmas.{Says, Steady, again_from, all_at, one_more, steady_kept, steady_passed_by, steady_again, steady_handed}
+use Rattle.kp_world.proofs.FlightLemmas.{Says, Steady, again_from, steady_kept, steady_passed_by, steady_again, steady_handed}
 use Rattle.kp_world.proofs.GoodLemmas.{PartsIn, Went, Given, length-with_sendings, at-with_sendings}
 use Rattle.kp_world.proofs.KeepingLemmas.{CoreKeeps, OpenIn, length-changed_at, at-changed_at}
 use Rattle.kp_world.proofs.LeavingLemmas.{CoreLeaves, found}
-use Rattle.kp_world.proofs.SendingLemmas.{IsSent, all_weaker, demand_is_sent}
+use Rattle.kp_world.proofs.SendingLemmas.{IsSent, demand_is_sent}
 use Rattle.kp_world.proofs.SoundLemmas.{Sound, sound_kept, sound_handed}
+use Rattle.kp_world.proofs.ListLemmas.{all_at, all_in, all_weaker, one_more}
 
 -- ---- what holds
 

@@ -13,6 +13,7 @@ pub mod Memory
 pub mod Requests
 pub mod FreshIds
 pub mod Flushing
+pub mod ListLemmas
 pub mod EventLemmas
 pub mod KeepingLemmas
 pub mod SendingLemmas

@@ -1,5 +1,5 @@
 -- A replay is a run: each event of it is a step that a run may take.
-use Rattle.std.proofs.Common.{◌≡◌, ℕ, suc, zero, ◌+◌, ◌<◌, Bool, true, false, List, [], ◌∷◌, length, replicate, ℤ, pos, negsuc, Some, None, refl, sym, ◌∙◌, subst, ⊎_elim, arith}
+use Rattle.std.proofs.Common.{◌≡◌, ℕ, ◌+◌, ◌<◌, Bool, true, false, List, [], ◌∷◌, length, replicate, ℤ, pos, negsuc, Some, None, refl, sym, ◌∙◌, subst, ⊎_elim, arith}
 use Rattle.std.specs.Prelude.{Option, Result, Ok, Err, if◌then◌else◌, ◌&&◌, nat_abs, slice_get}
 use Rattle.std.specs.List.{AllByRecursion}
 use Rattle.std.proofs.lemmas.Bool.{ltb-true}
@@ -11,7 +11,7 @@ use Rattle.kp_accum.specs.declared.item.Item.{Item}
 use Rattle.kp_frames.specs.declared.producer_id.InitProducerIdResponse.{InitProducerIdResponse}
 use Rattle.kp_frames.specs.declared.response.ResponseBody.TheVariants as body
 use Rattle.kp_log.specs.History.{History, empty_history}
-use Rattle.kp_log.proofs.PlaceLemmas.{In, In-nil, In-head, In-tail, In-cons}
+use Rattle.kp_log.proofs.PlaceLemmas.{In, In-nil, In-cons}
 use Rattle.kp_core.specs.Appending.{appended}
 use Rattle.kp_core.specs.Fence.{ended}
 use Rattle.kp_core.specs.Flush.{flushed}
@@ -42,6 +42,7 @@ use Rattle.kp_world.proofs.KeepingLemmas.{CoreKeeps, core_appended, core_ticked,
 use Rattle.kp_world.proofs.ReplyLemmas.{TakesId, replied_cases}
 use Rattle.kp_world.proofs.RequestLemmas.{good_sending}
 use Rattle.kp_world.proofs.SoundLemmas.{Sound, sound_new, sound_fresh}
+use Rattle.kp_world.proofs.ListLemmas.{in_at}
 
 -- ---- a world in which only this happened
 
@@ -191,11 +192,6 @@ good_taken w r s g i t = subst (λ (c : Core). Good c w.logs w.handed w.packets 
         (under_if_wanted (nat_abs t.answer.producer_id) w.core) w.core.partitions p
         (subst (λ (n : ℕ). p < n) (sym g.count) h)))
         (wanted p h (is_in p (t.request.partition ∷ [])))
-
-in_at : {A : Type 0} (xs : List A) (j : ℕ) (x : A) → slice_get xs j ≡ Some x → In x xs
-in_at [] j x e = absurd cc
-in_at (y ∷ xs) zero x e = let same : y ≡ x = cc in subst (λ z. In z (y ∷ xs)) same (In-head y xs)
-in_at (y ∷ xs) (suc j) x e = In-tail x y xs (in_at xs j x e)
 
 good_replying : (j : ℕ) (w v : World) → replying j (slice_get w.replies j) w ≡ Some v → IsGood w → IsGood v
 unfolding noted

@@ -18,8 +18,9 @@ use Rattle.kp_world.specs.Noting.{noted}
 use Rattle.kp_world.specs.World.{Reply, World}
 use Rattle.kp_world.proofs.GoodLemmas.{PartsIn, Went, Good, IsGood, length-with_sendings, at-with_sendings}
 use Rattle.kp_world.proofs.KeepingLemmas.{length-changed_at, at-changed_at}
-use Rattle.kp_world.proofs.SendingLemmas.{Again, HandsOver, goes_out_of, IsSent, all_weaker, demand_is_sent}
+use Rattle.kp_world.proofs.SendingLemmas.{Again, HandsOver, goes_out_of, IsSent, demand_is_sent}
 use Rattle.kp_world.proofs.SoundLemmas.{Sound, sound_kept, sound_handed}
+use Rattle.kp_world.proofs.ListLemmas.{all_weaker}
 
 -- ---- one partition from which a batch goes out
 

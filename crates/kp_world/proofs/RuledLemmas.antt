@@ -25,7 +25,7 @@ use Rattle.kp_core.specs.OutcomeRule as call
 use Rattle.kp_core.proofs.OutcomeLemmas.{each_outcome}
 use Rattle.kp_world.specs.Causes.{MayBeTold, TellsByRule}
 use Rattle.kp_world.specs.Message.{response_of}
-use Rattle.kp_world.proofs.SendingLemmas.{all_weaker}
+use Rattle.kp_world.proofs.ListLemmas.{all_weaker}
 
 -- ---- what is noted
 

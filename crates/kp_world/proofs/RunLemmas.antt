@@ -1,6 +1,6 @@
 -- What holds of every world of a run, whatever comes to an honest broker: from the opening world on,
 -- event by event.
-use Rattle.std.proofs.Common.{◌≡◌, ◌⊎◌, ℕ, suc, zero, ◌<◌, ◌≤◌, Bool, true, false, List, [], ◌∷◌, ◌++◌, length, replicate, pos, Some, None, refl, sym, ◌∙◌, subst, inl, inr, ⊎_elim}
+use Rattle.std.proofs.Common.{◌≡◌, ◌⊎◌, ℕ, ◌<◌, ◌≤◌, Bool, true, false, List, [], ◌∷◌, ◌++◌, length, replicate, pos, Some, None, refl, sym, ◌∙◌, subst, inl, inr, ⊎_elim}
 use Rattle.std.specs.Prelude.{Option, Result, Ok, Err, if◌then◌else◌, ◌==◌, ◌&&◌, ◌||◌, nat_lt, slice_get}
 use Rattle.std.proofs.lemmas.Bool.{eqb-true, eq-eqb, ltb-true, ltb-false}
 use Rattle.std.proofs.lemmas.List.{get_or-replicate, length-replicate, length-set, get_or-set_same, get_or-set_other}
@@ -12,7 +12,7 @@ use Rattle.kp_accum.specs.declared.item.Item.{Item}
 use Rattle.kp_accum.specs.Config.{is_outside, checked}
 use Rattle.kp_log.specs.History.{History, empty_history, with_others}
 use Rattle.kp_log.proofs.KeepingLemmas.{came_others}
-use Rattle.kp_log.proofs.PlaceLemmas.{In, In-nil, In-head, In-tail, In-append_left, In-append_right}
+use Rattle.kp_log.proofs.PlaceLemmas.{In, In-nil, In-head, In-append_left, In-append_right}
 use Rattle.kp_core.specs.Appending.{appended}
 use Rattle.kp_core.specs.Fence.{ended}
 use Rattle.kp_core.specs.Flush.{flushed}
@@ -33,7 +33,7 @@ use Rattle.kp_world.specs.Noting.{noted, only_noted}
 use Rattle.kp_world.specs.Run.{with_delivery, with_others_at, Arrives, Steps, Run, IsReached}
 use Rattle.kp_world.specs.World.{PartAnswer, ReplyContent, Batches, Id, Reply, World, opening, FIRST_ID, FIRST_CORRELATION}
 use Rattle.kp_world.proofs.BrokerLemmas.{Agrees, AllAgree, Known, PartsDelivered, parts_delivered}
-use Rattle.kp_world.proofs.FlightLemmas.{Carries, PartHolds, ContentHolds, Steady, all_at, one_more, steady_new, steady_grown, steady_replied}
+use Rattle.kp_world.proofs.FlightLemmas.{Carries, PartHolds, ContentHolds, Steady, steady_new, steady_grown, steady_replied}
 use Rattle.kp_world.proofs.GoodLemmas.{PartsIn, Given}
 use Rattle.kp_world.proofs.HearingLemmas.{lawful_reply}
 use Rattle.kp_world.proofs.KeepingLemmas.{CoreKeeps, core_appended, core_ticked, core_ended, core_flushed, core_disconnected, core_closed}
@@ -41,6 +41,7 @@ use Rattle.kp_world.proofs.LawfulLemmas.{Lawful, IsLawful, StoredAt, lawful_core
 use Rattle.kp_world.proofs.LeavingLemmas.{CoreLeaves, left_appended, left_ticked, left_ended, left_flushed, left_disconnected, left_closed}
 use Rattle.kp_world.proofs.PrefixLemmas.{grown_others}
 use Rattle.kp_world.proofs.SoundLemmas.{Sound, sents, sound_new, sound_history, sound_drawn}
+use Rattle.kp_world.proofs.ListLemmas.{all_at, in_at, one_more}
 
 -- ---- a world in which only this happened
 
@@ -157,18 +158,13 @@ came_id n p w o d g i honest =
 
 -- ---- the broker's events
 
-pub got_in : {A : Type 0} (xs : List A) (j : ℕ) (x : A) → slice_get xs j ≡ Some x → In x xs
-got_in [] j x e = absurd cc
-got_in (y ∷ xs) zero x e = let same : y ≡ x = cc in subst (λ z. In z (y ∷ xs)) same (In-head y xs)
-got_in (y ∷ xs) (suc j) x e = In-tail x y xs (got_in xs j x e)
-
 lawful_arrives : (n k : ℕ) (w v : World) → IsLawful n w → Arrives w k v → IsLawful n v
 unfolding with_delivery noted
 lawful_arrives n k w v g a = subst (IsLawful n) (sym a.after_is) (at_demand a.packet.demand refl a.honest)
   where
     at_demand : (e : Demand) → a.packet.demand ≡ e → Delivers w e a.delivery → Lawful n w.core a.delivery.logs w.handed w.packets (w.replies ++ reply a.packet a.delivery.content ∷ []) a.delivery.ids
-    at_demand (Produce xs) is honest = came_parts n w a.packet xs a.delivery g (got_in w.packets k a.packet a.went_out) is honest
-    at_demand (InitProducerId p) is honest = came_id n p w a.packet a.delivery g (got_in w.packets k a.packet a.went_out) honest
+    at_demand (Produce xs) is honest = came_parts n w a.packet xs a.delivery g (in_at w.packets k a.packet a.went_out) is honest
+    at_demand (InitProducerId p) is honest = came_id n p w a.packet a.delivery g (in_at w.packets k a.packet a.went_out) honest
 
 lawful_others : (n p m : ℕ) (core : Core) (logs : List History) (handed : List (List Batch)) (packets : List Outgoing) (replies : List Reply) (ids : List ℕ)
     → p < length logs → Lawful n core logs handed packets replies ids → Lawful n core (logs_with_others p m logs) handed packets replies ids
@@ -252,7 +248,7 @@ lawful_replying n j w v e g = at_reply (slice_get w.replies j) refl e
   where
     at_reply : (o : Option Reply) → slice_get w.replies j ≡ o → replying j o w ≡ Some v → IsLawful n v
     at_reply None is e' = absurd cc
-    at_reply (Some r) is e' = lawful_some n _ v e' (lawful_reply n w.moment w.core w.logs w.handed w.packets w.replies w.ids r g (got_in w.replies j r is))
+    at_reply (Some r) is e' = lawful_some n _ v e' (lawful_reply n w.moment w.core w.logs w.handed w.packets w.replies w.ids r g (in_at w.replies j r is))
 
 lawful_client : (n : ℕ) (e : Event) (w v : World) → client e w ≡ Some v → IsLawful n w → IsLawful n v
 unfolding client noted

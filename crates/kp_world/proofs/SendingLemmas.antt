@@ -1,6 +1,6 @@
 -- What goes out of each partition when a request does: a batch that was handed over, or the front
 -- batch.
-use Rattle.std.proofs.Common.{◌≡◌, ◌⊎◌, ℕ, suc, zero, ◌+◌, ◌-◌, ◌<◌, ◌≤◌, Bool, true, false, cond, List, [], ◌∷◌, ◌++◌, length, get_or, take, drop, Some, None, refl, sym, ap, ◌∙◌, subst, inl, inr, arith}
+use Rattle.std.proofs.Common.{◌≡◌, ◌⊎◌, ℕ, suc, ◌+◌, ◌-◌, ◌<◌, ◌≤◌, Bool, true, false, cond, List, [], ◌∷◌, length, get_or, take, drop, Some, None, refl, sym, ap, ◌∙◌, subst, inl, inr, arith}
 use Rattle.std.specs.Prelude.{Option, if◌then◌else◌, find, option_map, filter_map, nat_le}
 use Rattle.std.specs.List.{AllByRecursion, enumerate_from, cons_option}
 use Rattle.kp_accum.specs.declared.config.Config.{Config}
@@ -14,6 +14,8 @@ use Rattle.kp_core.specs.Next.{Sending, Produce, flags_of, used_up_to, in_turn, 
 use Rattle.kp_core.specs.Partitions.{partition_at, new_partition}
 use Rattle.kp_core.specs.Records.{Batch, Open, Partition, Core}
 use Rattle.kp_world.proofs.KeepingLemmas.{OpenIn, Keeps}
+use Rattle.kp_core.proofs.ListLemmas.{all_append}
+use Rattle.kp_world.proofs.ListLemmas.{all_drop, all_take, all_weaker}
 
 -- ---- one partition
 
@@ -109,26 +111,6 @@ goes_out_of c f now k t b e = at_fence t.fenced e
 pub record IsSent (now : ℕ) (s : Core) (x : Sending) : Type 0 where
   pub there : x.partition < length s.partitions
   pub sends : sends s.config (flags_of s) now (partition_at x.partition s.partitions) ≡ Some x.batch
-
-all_append : {A : Type 0} (P : A → Type 0) (xs ys : List A) → AllByRecursion P xs
-    → AllByRecursion P ys → AllByRecursion P (xs ++ ys)
-all_append P [] ys h k = k
-all_append P (x ∷ xs) ys h k = (h.0, all_append P xs ys h.1 k)
-
-all_take : {A : Type 0} (P : A → Type 0) (n : ℕ) (xs : List A) → AllByRecursion P xs → AllByRecursion P (take n xs)
-all_take P zero xs h = tt
-all_take P (suc n) [] h = tt
-all_take P (suc n) (x ∷ xs) h = (h.0, all_take P n xs h.1)
-
-all_drop : {A : Type 0} (P : A → Type 0) (n : ℕ) (xs : List A) → AllByRecursion P xs → AllByRecursion P (drop n xs)
-all_drop P zero xs h = h
-all_drop P (suc n) [] h = tt
-all_drop P (suc n) (x ∷ xs) h = all_drop P n xs h.1
-
-pub all_weaker : {A : Type 0} (P Q : A → Type 0) → ((x : A) → P x → Q x) → (xs : List A)
-    → AllByRecursion P xs → AllByRecursion Q xs
-all_weaker P Q f [] h = tt
-all_weaker P Q f (x ∷ xs) h = (f x h.0, all_weaker P Q f xs h.1)
 
 pub record IsPlace {A : Type 0} (k : ℕ) (xs : List A) (d : A) (y : ℕ × A) : Type 0 where
   pub least : k ≤ y.0

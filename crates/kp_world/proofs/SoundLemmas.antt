@@ -20,7 +20,8 @@ use Rattle.kp_core.specs.Records.{Batch, Open, Partition}
 use Rattle.kp_core.specs.Replies.{under}
 use Rattle.kp_world.specs.Message.{sent_of}
 use Rattle.kp_world.proofs.KeepingLemmas.{HasItems, OpenIn, Keeps}
-use Rattle.kp_world.proofs.SendingLemmas.{all_weaker, HandsOver}
+use Rattle.kp_world.proofs.SendingLemmas.{HandsOver}
+use Rattle.kp_world.proofs.ListLemmas.{all_weaker}
 
 -- the batches as a broker sees them
 abbrev pub sents : List Batch → List Sent

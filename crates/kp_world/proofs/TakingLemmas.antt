@@ -19,9 +19,10 @@ use Rattle.kp_world.specs.Client.{handed_at}
 use Rattle.kp_world.proofs.AccountLemmas.{items_of, taken_for, taken_of, all_taken, items_told-append, Accepts, Holds, Accounts, sender-append, partition-append, both-append}
 use Rattle.kp_world.proofs.ConservationLemmas.{items_told, unsent-append}
 use Rattle.kp_world.proofs.WeightLemmas.{weigh, weigh-append, grown_at}
-use Rattle.kp_world.proofs.FateLemmas.{all_both, AreNumbered, numbered_more, numbered_back, Fates, fates_queued, fates_turned_away}
+use Rattle.kp_world.proofs.FateLemmas.{AreNumbered, numbered_more, numbered_back, Fates, fates_queued, fates_turned_away}
 use Rattle.kp_world.proofs.KeepingLemmas.{length-changed_at, at-changed_at}
 use Rattle.kp_world.proofs.TellingLemmas.{Distinct, home_past}
+use Rattle.kp_core.proofs.ListLemmas.{all_append}
 
 -- ---- lists
 
@@ -81,9 +82,9 @@ for_one p i b e = ap (λ (z : Bool). cond z (i ∷ []) []) e
 accepts_more : (count s : ℕ) (items : List Item) (n : ℕ) (i : Item) → Accepts count s items n → i.sender ≡ s → i.partition < count → i.number ≡ length (for_partition i.partition items)
     → Accepts count s (items ++ i ∷ []) n
 accepts_more count s items n i a own there number = record {
-  known = all_both (λ (x : Item). x.partition < count) items (i ∷ []) a.known (there, tt);
+  known = all_append (λ (x : Item). x.partition < count) items (i ∷ []) a.known (there, tt);
   within = let w : n ≤ length items = a.within in omega (arith, length-append items (i ∷ []));
-  own = all_both (λ (x : Item). x.sender ≡ s) items (i ∷ []) a.own (own, tt);
+  own = all_append (λ (x : Item). x.sender ≡ s) items (i ∷ []) a.own (own, tt);
   numbered = λ p. subst (AreNumbered 0) (sym (partition-append p items (i ∷ []))) (at_test p (i.partition == p) refl);
 }
   where
@@ -332,7 +333,7 @@ home_queued : (c : Config) (i : Item) (t : Partition) (p : ℕ) → i.partition 
 unfolding untold
 home_queued c i t p e h =
     subst (AllByRecursion (λ (x : Item). x.partition ≡ p)) (append_assoc (items_open t.open_batches) (items_queued t.queue) (i ∷ []) ∙ ap (λ r. items_open t.open_batches ++ r) (sym (queued_with c i t.queue)))
-    (all_both (λ (x : Item). x.partition ≡ p) (items_open t.open_batches ++ items_queued t.queue) (i ∷ []) h (e, tt))
+    (all_append (λ (x : Item). x.partition ≡ p) (items_open t.open_batches ++ items_queued t.queue) (i ∷ []) h (e, tt))
 
 weigh_queued : (f : Item → ℕ) (c : Config) (i : Item) (t : Partition) → weigh f (untold (with_queued c i t)) ≡ weigh f (untold t) + f i
 unfolding untold

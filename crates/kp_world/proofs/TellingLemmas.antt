@@ -24,9 +24,11 @@ use Rattle.kp_core.specs.Replies.{first_answered, answering, batches_answered, b
 use Rattle.kp_core.specs.Telling.{with_partitions, at_each, told_at_each, at_these, told_at}
 use Rattle.kp_core.specs.Tick.{passed, has_timed_out, ticked_now, ticked_from, not_ticked, ticked, disconnected, closed}
 use Rattle.kp_world.proofs.ConservationLemmas.{items_told, attempt_count, Tells, tells_same, tells_both, tells_nothing, tells_dropped, tells_marked, tells_given_up, tells_passed, tells_answered}
-use Rattle.kp_world.proofs.FateLemmas.{all_both, all_filter, filter_all, filter_none, all_weaker}
+use Rattle.kp_world.proofs.FateLemmas.{filter_all, filter_none}
 use Rattle.kp_world.proofs.WeightLemmas.{weigh, weigh-append, grown_at}
 use Rattle.kp_world.proofs.KeepingLemmas.{OpenIn, Keeps, keeps_same, keeps_dropped, keeps_given_up, keeps_passed, keeps_answered, keeps_marked, at-changed_at, length-changed_at}
+use Rattle.kp_core.proofs.ListLemmas.{all_append}
+use Rattle.kp_world.proofs.ListLemmas.{all_filter, all_weaker}
 
 -- ---- what is told, by partition
 
@@ -216,11 +218,11 @@ core_closed s = at_end s.ended
 
 pub all_flat_places : (P : Told → Type 0) (f : Partition → List Told) (ts : List Partition) (d : Partition) → ((q : ℕ) → q < length ts → AllByRecursion P (f (get_or ts q d))) → AllByRecursion P (flat_map f ts)
 all_flat_places P f [] d h = tt
-all_flat_places P f (t ∷ ts) d h = all_both P (f t) (flat_map f ts) (h 0 (omega arith)) (all_flat_places P f ts d (λ q l. h (suc q) (omega (arith, l))))
+all_flat_places P f (t ∷ ts) d h = all_append P (f t) (flat_map f ts) (h 0 (omega arith)) (all_flat_places P f ts d (λ q l. h (suc q) (omega (arith, l))))
 
 pub all_flat : (P : Told → Type 0) (g : ℕ → List Told) → ((q : ℕ) → AllByRecursion P (g q)) → (ps : List ℕ) → AllByRecursion P (flat_map g ps)
 all_flat P g h [] = tt
-all_flat P g h (q ∷ ps) = all_both P (g q) (flat_map g ps) (h q) (all_flat P g h ps)
+all_flat P g h (q ∷ ps) = all_append P (g q) (flat_map g ps) (h q) (all_flat P g h ps)
 
 core_at_each : (rule : Partition → Effect) → ((t : Partition) → Keeps t (rule t).after) → ((t : Partition) → Tells t (rule t).told (rule t).after)
     → (s : Core) → AtHome s.partitions → CoreTells s (told_at_each rule s) (at_each rule s)

@@ -11,8 +11,9 @@ use Rattle.kp_world.specs.Accepting.{accepted_by, for_partition, taken_by}
 use Rattle.kp_world.specs.Accounts.{is_same, is_among, told_items, items_taken, IsToldOnce, IsUsedByUntold}
 use Rattle.kp_world.specs.World.{World}
 use Rattle.kp_world.proofs.AccountLemmas.{IsAccounted, partition-append}
-use Rattle.kp_world.proofs.FateLemmas.{all_front, all_weaker, AreNumbered, numbered_front}
+use Rattle.kp_world.proofs.FateLemmas.{AreNumbered, numbered_front}
 use Rattle.kp_world.proofs.WeightLemmas.{weigh, weigh-append, weigh_agrees, sum_is}
+use Rattle.kp_world.proofs.ListLemmas.{all_front, all_weaker}
 
 -- ---- counting an item
 

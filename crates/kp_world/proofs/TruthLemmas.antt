@@ -46,14 +46,13 @@ use Rattle.kp_world.specs.Message.{response_of}
 use Rattle.kp_world.specs.Noting.{noted, only_noted}
 use Rattle.kp_world.specs.Run.{with_delivery, with_others_at, Arrives, Steps, Run, IsReached}
 use Rattle.kp_world.specs.World.{Happened, Reply, World, opening, FIRST_ID}
-use Rattle.kp_world.proofs.DeliveryLemmas.{all_in}
-use Rattle.kp_world.proofs.FlightLemmas.{all_at, one_more}
 use Rattle.kp_world.proofs.ItemLemmas.{AreOf, QueueOf, HandedOf, Queues, CoreQueues, queues_same, at_places, queues_answered, queues_sent, queues_ticked, queues_ended, queues_flushed, queues_disconnected, queues_closed, queues_appended, sendings_of, sendings_in}
 use Rattle.kp_world.proofs.LawfulLemmas.{IsLawful, GoesAgain, GoesFirst, sends_cases}
 use Rattle.kp_world.proofs.LeavingLemmas.{found}
-use Rattle.kp_world.proofs.RunLemmas.{parts_came, got_in, lawful_step, lawful_opening, within_five}
+use Rattle.kp_world.proofs.RunLemmas.{parts_came, lawful_step, lawful_opening, within_five}
 use Rattle.kp_world.proofs.SendingLemmas.{IsSent, demand_is_sent}
 use Rattle.kp_world.proofs.DeliveredLemmas.{Truly, AllTruly, truly_grown, truly_quiet, quiet_none, quiet_ticked, quiet_ended, quiet_appended, truly_replied}
+use Rattle.kp_world.proofs.ListLemmas.{all_at, all_in, in_at, one_more}
 
 -- ---- what holds
 
@@ -252,7 +251,7 @@ truthful_replying n j w v e g t = at_reply (slice_get w.replies j) refl e
     at_reply None is e' = absurd cc
     at_reply (Some r) is e' =
         truthful_some n _ v e' (truthful_called n w.core (replied w.moment (response_of r) w.core).after w.handed w.logs w.past _ g.count t (queues_replied w.moment (response_of r) w.core)
-        (truly_replied n w.moment w.core w.logs w.handed w.packets w.replies w.ids r g t.own (got_in w.replies j r is)))
+        (truly_replied n w.moment w.core w.logs w.handed w.packets w.replies w.ids r g t.own (in_at w.replies j r is)))
 
 truthful_client : (n : ℕ) (e : Event) (w v : World) → client e w ≡ Some v → IsLawful n w → IsTruthful n w → IsTruthful n v
 unfolding client noted
@@ -291,7 +290,7 @@ grown_logs n w o d g i (InitProducerId q) is honest p = ([], ap (λ (ls : List H
 
 truthful_arrives : (n k : ℕ) (w v : World) → IsLawful n w → IsTruthful n w → Arrives w k v → IsTruthful n v
 unfolding with_delivery noted
-truthful_arrives n k w v g t a = subst (IsTruthful n) (sym a.after_is) (truthful_logs n w a.delivery.logs _ t (λ p h. grown_logs n w a.packet a.delivery g (got_in w.packets k a.packet a.went_out) a.packet.demand refl a.honest p) refl)
+truthful_arrives n k w v g t a = subst (IsTruthful n) (sym a.after_is) (truthful_logs n w a.delivery.logs _ t (λ p h. grown_logs n w a.packet a.delivery g (in_at w.packets k a.packet a.went_out) a.packet.demand refl a.honest p) refl)
 
 others_grown : (p m : ℕ) (logs : List History) (q : ℕ) → p < length logs → (more : List Stored) × ((log_at q (logs_with_others p m logs)).records ≡ (log_at q logs).records ++ more)
 others_grown p m logs q within = at_test (q == p) refl
