@@ -49,5 +49,7 @@ pub mod DeliveredLemmas
 pub mod TruthLemmas
 pub mod StandingLemmas
 pub mod ReachingLemmas
+pub mod ChosenRuns
+pub mod BrokenLaws
 pub mod FreshIdLemmas
 pub mod RuledLemmas

@@ -15,3 +15,4 @@ pub mod LogLaws
 pub mod Reaching
 pub mod FreshIds
 pub mod Causes
+pub mod OtherRules

@@ -1,0 +1,210 @@
+-- What a world has in which a law does not hold, so that it can be computed.
+use Rattle.std.proofs.Common.{◌≡◌, ℕ, suc, zero, ◌+◌, ◌<◌, ◌≤◌, Bool, true, false, not, cond, List, [], ◌∷◌, ◌++◌, length, map, ℤ, pos, negsuc, Some, None, refl, sym, ap, ◌∙◌, arith, Contains}
+use Rattle.std.specs.Prelude.{Option, Ok, unwrap_or, filter, flat_map, take, slice_get, ◌||◌}
+use Rattle.std.specs.List.{AllByRecursion, list_any}
+use Rattle.std.specs.Ordering.{int_eq}
+use Rattle.std.proofs.lemmas.Bool.{true≢false, eq-eqb}
+use Rattle.std.specs.Str.{bytes_eq}
+use Rattle.std.proofs.lemmas.Slice.Eq.{bytes_eq-Decides}
+use Rattle.std.proofs.lemmas.List.{map-append}
+use Rattle.std.proofs.lemmas.List.Concat.{flat_map-append}
+use Rattle.kp_accum.specs.Config.{checked}
+use Rattle.kp_accum.specs.declared.config.Config.{Config}
+use Rattle.kp_accum.specs.declared.item.Item.{Item}
+use Rattle.kp_accum.specs.Queue.{body_of}
+use Rattle.kp_batch.specs.declared.record.Record.{Record}
+use Rattle.kp_log.specs.History.{stored_of, own, is_under, NO_ID}
+use Rattle.kp_log.specs.Log.{stored_as}
+use Rattle.kp_log.specs.declared.stored.Stored.{Stored}
+use Rattle.kp_core.specs.declared.outcome.Outcome.{Outcome}
+use Rattle.kp_core.specs.declared.outcome.Outcome.TheVariants.{Delivered, DeliveredNoOffset, Unknown, Rejected, Unsent}
+use Rattle.kp_core.specs.Records.{Batch, Told}
+use Rattle.kp_core.proofs.ListLemmas.{contains_head, contains_tail}
+use Rattle.kp_world.specs.declared.event.Event.{Event}
+use Rattle.kp_world.specs.Accounts.{items_handed, is_among, is_same, told_unsent, IsNeverSent}
+use Rattle.kp_world.specs.Delivering.{log_at}
+use Rattle.kp_world.specs.LogLaws.{partition_of, own_records, as_stored, IsPrefix, WasTold, EachDeliveryHasItsOffset, ToldOffsetsStand, StandsAt}
+use Rattle.kp_world.specs.Message.{sent_of}
+use Rattle.kp_world.specs.OtherRules.{Breaks}
+use Rattle.kp_world.specs.Run.{Producer, MayBegin}
+use Rattle.kp_world.specs.World.{World, opening}
+use Rattle.kp_world.proofs.ChosenRuns.{Choice, are_there, AreHonest, end_of, run_of}
+
+-- ---- a world that breaks a law
+
+any_contained : {A : Type 0} (test : A → Bool) (xs : List A) → list_any test xs ≡ true → (x : A) × Contains xs x × (test x ≡ true)
+any_contained test [] e = absurd cc
+any_contained {A = A} test (x ∷ xs) e = at_test (test x) refl e (λ e'. any_contained test xs e')
+  where
+    at_test : (b : Bool) → test x ≡ b → b || list_any test xs ≡ true → (list_any test xs ≡ true → (y : A) × Contains xs y × (test y ≡ true)) → (y : A) × Contains (x ∷ xs) y × (test y ≡ true)
+    at_test true is e' later = (x, contains_head x xs, is)
+    at_test false is e' later = let h = later e' in (h.0, contains_tail h.0 x xs h.1, h.2)
+
+-- something was told that passes this test
+abbrev pub has_told : (Told → Bool) → World → Bool
+has_told test w = list_any (λ h. list_any test h.told) w.past
+
+told_such : (test : Told → Bool) (w : World) → has_told test w ≡ true → (t : Told) × WasTold w t × (test t ≡ true)
+told_such test w e =
+    let h = any_contained (λ h. list_any test h.told) w.past e in
+    let t = any_contained test h.0.told h.2 in
+    (t.0, record { event = h.0; happened = h.1; told = t.1 }, t.2)
+
+-- a delivery without an offset
+
+abbrev is_without_offset : Outcome → Bool
+is_without_offset DeliveredNoOffset = true
+is_without_offset _ = false
+
+without_offset_is : (o : Outcome) → is_without_offset o ≡ true → o ≡ DeliveredNoOffset
+without_offset_is DeliveredNoOffset e = refl
+without_offset_is (Delivered base) e = absurd cc
+without_offset_is Unknown e = absurd cc
+without_offset_is (Rejected code) e = absurd cc
+without_offset_is (Unsent why) e = absurd cc
+
+pub offset_is_missing : (w : World) → has_told (λ t. is_without_offset t.outcome) w ≡ true → EachDeliveryHasItsOffset w → ⊥
+offset_is_missing w e law =
+    let t = told_such (λ t. is_without_offset t.outcome) w e in law t.0 t.1 (without_offset_is t.0.outcome t.2)
+
+-- an item that was told Unsent, and was handed over
+
+pub unsent_is_sent : (w : World) → list_any (λ i. is_among i (told_unsent w)) (items_handed 0 w) ≡ true → IsNeverSent 0 w → ⊥
+unsent_is_sent w e law = at_items (items_handed 0 w) e law
+  where
+    at_items : (is : List Item) → list_any (λ i. is_among i (told_unsent w)) is ≡ true → AllByRecursion (λ i. is_among i (told_unsent w) ≡ false) is → ⊥
+    at_items [] e h = absurd cc
+    at_items (i ∷ is) e h = at_items is (sym (ap (λ (b : Bool). b || list_any (λ i. is_among i (told_unsent w)) is) h.0) ∙ e) h.1
+
+-- an item that was told an offset below its place among what was handed over
+
+abbrev is_before_place : World → Item → Outcome → Bool
+is_before_place w i (Delivered (pos k)) = not (is_among i (take (k + 1) (items_handed i.partition w)))
+is_before_place w i _ = false
+
+same_itself : (i : Item) → is_same i i ≡ true
+same_itself i = let s = eq-eqb i.sender i.sender refl in let p = eq-eqb i.partition i.partition refl in let n = eq-eqb i.number i.number refl in cc
+
+among_first : (i : Item) (earlier later : List Item) (n : ℕ) → length earlier < n → is_among i (take n (earlier ++ i ∷ later)) ≡ true
+among_first i [] later zero l = absurd (omega (arith, l))
+among_first i [] later (suc n) l = ap (λ (b : Bool). b || is_among i (take n later)) (same_itself i)
+among_first i (x ∷ earlier) later zero l = absurd (omega (arith, l))
+among_first i (x ∷ earlier) later (suc n) l = at_test (is_same i x) (among_first i earlier later n (omega (arith, l)))
+  where
+    at_test : (b : Bool) → is_among i (take n (earlier ++ i ∷ later)) ≡ true → b || is_among i (take n (earlier ++ i ∷ later)) ≡ true
+    at_test true e = refl
+    at_test false e = e
+
+no_longer : {A : Type 0} (test : A → Bool) (xs : List A) → length (filter test xs) ≤ length xs
+no_longer test [] = omega arith
+no_longer test (x ∷ xs) = at_test (test x) (no_longer test xs)
+  where
+    at_test : (b : Bool) → length (filter test xs) ≤ length xs → length (cond b (x ∷ filter test xs) (filter test xs)) ≤ suc (length xs)
+    at_test true l = omega (arith, l)
+    at_test false l = omega (arith, l)
+
+place_is_above : (w : World) (i : Item) (k : ℕ) → StandsAt w i (pos k) → is_before_place w i (Delivered (pos k)) ≡ false
+unfolding own
+place_is_above w i k s =
+    let own_before = no_longer (is_under (map pos (partition_of i.partition w).ids)) s.before in
+    let before : k ≡ length s.before = cc in
+    let early : length s.earlier < k + 1 = omega (arith, own_before, before, s.place) in
+    ap (λ is. not (is_among i (take (k + 1) is))) s.handed ∙ ap not (among_first i s.earlier s.later (k + 1) early)
+
+offset_stands_not : (is_wrong : World → Item → Outcome → Bool) → ((w : World) (i : Item) (k : ℕ) → StandsAt w i (pos k) → is_wrong w i (Delivered (pos k)) ≡ false)
+    → ((w : World) (i : Item) (o : Outcome) → is_wrong w i o ≡ true → (k : ℕ) × (o ≡ Delivered (pos k)))
+    → (w : World) → has_told (λ t. is_wrong w t.item t.outcome) w ≡ true → ToldOffsetsStand w → ⊥
+offset_stands_not is_wrong right only w e law =
+    let t = told_such (λ t. is_wrong w t.item t.outcome) w e in
+    let k = only w t.0.item t.0.outcome t.2 in
+    let no = right w t.0.item k.0 (law t.0 (pos k.0) t.1 k.1) in
+    absurd (true≢false (sym t.2 ∙ ap (is_wrong w t.0.item) k.1 ∙ no))
+
+pub offset_is_early : (w : World) → has_told (λ t. is_before_place w t.item t.outcome) w ≡ true → ToldOffsetsStand w → ⊥
+offset_is_early w e law = offset_stands_not is_before_place place_is_above only w e law
+  where
+    only : (w : World) (i : Item) (o : Outcome) → is_before_place w i o ≡ true → (k : ℕ) × (o ≡ Delivered (pos k))
+    only w i (Delivered (pos k)) e = (k, refl)
+    only w i (Delivered (negsuc k)) e = absurd cc
+    only w i DeliveredNoOffset e = absurd cc
+    only w i Unknown e = absurd cc
+    only w i (Rejected code) e = absurd cc
+    only w i (Unsent why) e = absurd cc
+
+-- an item that was told an offset where another producer's record stands
+
+abbrev is_of_none : Option Stored → Bool
+is_of_none (Some r) = int_eq r.producer_id NO_ID
+is_of_none None = false
+
+abbrev is_at_another : World → Item → Outcome → Bool
+is_at_another w i (Delivered (pos k)) = is_of_none (slice_get (log_at i.partition w.logs).records k)
+is_at_another w i _ = false
+
+element : {A : Type 0} (xs ys : List A) (x : A) (k : ℕ) → k ≡ length xs → slice_get (xs ++ x ∷ ys) k ≡ Some x
+element [] ys x k e = ap (slice_get (x ∷ ys)) e
+element (y ∷ xs) ys x zero e = absurd (omega (arith, e))
+element (y ∷ xs) ys x (suc k) e = element xs ys x k (omega (arith, e))
+
+own_is_there : (w : World) (i : Item) (k : ℕ) → StandsAt w i (pos k) → is_at_another w i (Delivered (pos k)) ≡ false
+own_is_there w i k s =
+    let before : k ≡ length s.before = cc in
+    ap is_of_none (ap (λ rs. slice_get rs k) s.record_is ∙ element s.before s.after _ k before)
+
+pub offset_is_anothers : (w : World) → has_told (λ t. is_at_another w t.item t.outcome) w ≡ true → ToldOffsetsStand w → ⊥
+offset_is_anothers w e law = offset_stands_not is_at_another own_is_there only w e law
+  where
+    only : (w : World) (i : Item) (o : Outcome) → is_at_another w i o ≡ true → (k : ℕ) × (o ≡ Delivered (pos k))
+    only w i (Delivered (pos k)) e = (k, refl)
+    only w i (Delivered (negsuc k)) e = absurd cc
+    only w i DeliveredNoOffset e = absurd cc
+    only w i Unknown e = absurd cc
+    only w i (Rejected code) e = absurd cc
+    only w i (Unsent why) e = absurd cc
+
+-- a log that begins with another record than what was handed over
+
+abbrev value_of : Record → List ℕ
+value_of r = unwrap_or r.value []
+
+abbrev is_unlike : List Record → List Record → Bool
+is_unlike (x ∷ xs) (y ∷ ys) = not (bytes_eq (value_of x) (value_of y))
+is_unlike xs ys = false
+
+bodies_stored : (id : ℤ) (rs : List Record) → map (λ s. s.body) (stored_as id rs) ≡ rs
+bodies_stored id [] = refl
+bodies_stored id (r ∷ rs) = ap (λ z. r ∷ z) (bodies_stored id rs)
+
+bodies_as_stored : (bs : List Batch) → map (λ s. s.body) (as_stored bs) ≡ map body_of (flat_map (λ b. b.items) bs)
+bodies_as_stored [] = refl
+bodies_as_stored (b ∷ bs) =
+    map-append (λ (s : Stored). s.body) (stored_of (sent_of b)) (as_stored bs)
+    ∙ ap (λ z. z ++ map (λ s. s.body) (as_stored bs)) (bodies_stored (pos b.id) (map body_of b.items))
+    ∙ ap (λ z. map body_of b.items ++ z) (bodies_as_stored bs)
+    ∙ sym (map-append body_of b.items (flat_map (λ b. b.items) bs))
+
+like_itself : (xs ys : List Record) → is_unlike xs (xs ++ ys) ≡ false
+like_itself [] ys = refl
+like_itself (x ∷ xs) ys = ap not ((bytes_eq-Decides (value_of x) (value_of x)).1 refl)
+
+pub log_is_unlike : (w : World) → is_unlike (map (λ s. s.body) (own_records 0 w)) (map body_of (items_handed 0 w)) ≡ true → IsPrefix 0 w → ⊥
+log_is_unlike w e law =
+    let mine : map (λ s. s.body) (own_records 0 w) ≡ map body_of (flat_map (λ b. b.items) law.stored) = ap (map (λ s. s.body)) law.records ∙ bodies_as_stored law.stored in
+    let all : map body_of (items_handed 0 w) ≡ map body_of (flat_map (λ b. b.items) law.stored) ++ map body_of (flat_map (λ b. b.items) law.rest) =
+    ap (λ z. map body_of (flat_map (λ b. b.items) z)) law.handed ∙ ap (map body_of) (flat_map-append (λ (b : Batch). b.items) law.stored law.rest) ∙ map-append body_of (flat_map (λ b. b.items) law.stored) (flat_map (λ b. b.items) law.rest) in
+    absurd (true≢false (sym e ∙ ap (λ z. is_unlike z (map body_of (items_handed 0 w))) mine ∙ ap (is_unlike (map body_of (flat_map (λ b. b.items) law.stored))) all ∙ like_itself (map body_of (flat_map (λ b. b.items) law.stored)) (map body_of (flat_map (λ b. b.items) law.rest))))
+
+-- ---- a schedule that breaks a law
+
+pub may_begin : (c : Config) → checked c ≡ Ok tt → MayBegin c 1 1
+may_begin c e = record { config = e; some_partitions = omega arith; partition_limit = omega arith; some_senders = omega arith; sender_limit = omega arith }
+
+-- What the world at its end has is computed.
+pub breaks : (producer : Producer) (cs : List Choice) (c : Config) (es : List Event) (Law : World → Type 0) → checked c ≡ Ok tt → are_there producer cs es (opening c 1 1) ≡ true
+    → AreHonest producer cs es (opening c 1 1) → (test : World → Bool) → ((w : World) → test w ≡ true → Law w → ⊥) → test (end_of producer cs es (opening c 1 1)) ≡ true → Breaks producer c es Law
+breaks producer cs c es Law e t h test none is = record {
+  may_begin = may_begin c e;
+  world = end_of producer cs es (opening c 1 1);
+  run = run_of producer cs es (opening c 1 1) t h;
+  broken = none (end_of producer cs es (opening c 1 1)) is;
+}

@@ -1,0 +1,187 @@
+-- Schedules that a producer goes through while a broker makes certain choices, all of them honest: the
+-- world after each event is computed.
+use Rattle.std.proofs.Common.{◌≡◌, ℕ, suc, zero, ◌+◌, Bool, true, false, List, [], ◌∷◌, ◌++◌, length, pos, negsuc, Some, None, refl, sym, ap, ◌∙◌, inl, inr, arith, append-nil}
+use Rattle.std.specs.Prelude.{Option, is_some, unwrap_or, take, drop, slice_get, slice_set, nat_le, ◌&&◌, ◌||◌, ◌==◌}
+use Rattle.std.specs.List.{list_any}
+use Rattle.std.proofs.lemmas.Bool.{true≢false, eq-eqb, leb-true, and_parts}
+use Rattle.std.proofs.lemmas.Int.{ints}
+use Rattle.kp_log.specs.BrokerStep.{Answered, BrokerStep}
+use Rattle.kp_log.specs.History.{History, stored_of, of_id, with_batch}
+use Rattle.kp_log.specs.Log.{KEPT, count_of}
+use Rattle.kp_core.specs.Next.{Sending, Demand, Produce, InitProducerId}
+use Rattle.kp_core.specs.Requesting.{Outgoing}
+use Rattle.kp_world.specs.declared.event.Event.{Event}
+use Rattle.kp_world.specs.declared.event.Event.TheVariants as event
+use Rattle.kp_world.specs.declared.event.Treatment.TheVariants.{Judged}
+use Rattle.kp_world.specs.Delivering.{Delivery, Delivers, PartsDeliver, IsFresh, log_at}
+use Rattle.kp_world.specs.Loopback.{next_id, id_delivered}
+use Rattle.kp_world.specs.Message.{sent_of}
+use Rattle.kp_world.specs.Run.{Producer, StepsBy, RunBy, Arrives, with_delivery, with_others_at}
+use Rattle.kp_world.specs.World.{Batches, World}
+
+-- ---- what an honest broker does with a packet of one batch, or with an id request
+
+pub data Choice : Type 0 where
+  Append : Choice  -- it appends the batch, which begins at the count of its id's records
+  AppendLate : Choice  -- it appends it where its id has no records, and answers that the request timed out
+  Repeat : (offset : ℕ) → Choice  -- the batch stands at this offset
+  Forgotten : (place : ℕ) → Choice  -- it was appended at this place among all, and five later ones of its id were
+  GiveId : Choice  -- it gives the next id
+
+abbrev log_of : World → Sending → History
+log_of w x = log_at x.partition w.logs
+
+abbrev part_came : World → Sending → Answered → History → Delivery
+part_came w x answer log = record { logs = slice_set w.logs x.partition log; ids = w.ids; content = Batches ((record { partition = x.partition; answer = answer }) ∷ []) }
+
+abbrev chosen : Choice → World → Demand → Delivery
+chosen Append w (Produce (x ∷ [])) = part_came w x (record { code = pos 0; base = pos (length (log_of w x).records) }) (with_batch (sent_of x.batch) (log_of w x))
+chosen AppendLate w (Produce (x ∷ [])) = part_came w x (record { code = pos 7; base = negsuc 0 }) (with_batch (sent_of x.batch) (log_of w x))
+chosen (Repeat offset) w (Produce (x ∷ [])) = part_came w x (record { code = pos 0; base = pos offset }) (log_of w x)
+chosen (Forgotten place) w (Produce (x ∷ [])) = part_came w x (record { code = pos 46; base = negsuc 0 }) (log_of w x)
+chosen choice w d = id_delivered Judged w
+
+-- it may do so
+abbrev pub MayChoose : Choice → World → Demand → Type 0
+MayChoose Append w (Produce (x ∷ [])) = count_of (pos x.batch.id) (log_of w x).records ≡ x.batch.sequence
+MayChoose AppendLate w (Produce (x ∷ [])) = count_of (pos x.batch.id) (log_of w x).records ≡ 0
+MayChoose (Repeat offset) w (Produce (x ∷ [])) =
+    ((log_of w x).records ≡ take offset (log_of w x).records ++ (stored_of (sent_of x.batch) ++ drop (offset + length x.batch.items) (log_of w x).records))
+    × (length (take offset (log_of w x).records) ≡ offset)
+    × (count_of (pos x.batch.id) (take offset (log_of w x).records) ≡ x.batch.sequence)
+MayChoose (Forgotten place) w (Produce (x ∷ [])) =
+    (slice_get (log_of w x).batches place ≡ Some (sent_of x.batch))
+    × (nat_le KEPT (length (of_id x.batch.id (drop (suc place) (log_of w x).batches))) ≡ true)
+MayChoose GiveId w (InitProducerId p) = list_any (λ d. d == next_id w.ids) w.ids ≡ false
+MayChoose choice w d = ⊥
+
+part_delivers : (w : World) (x : Sending) (answer : Answered) (log : History) → BrokerStep (log_of w x) (sent_of x.batch) answer log → Delivers w (Produce (x ∷ [])) (part_came w x answer log)
+unfolding Delivers PartsDeliver
+part_delivers w x answer log h = (_, (_, record { partition = refl; log = log; step = h; after_is = refl }, refl), refl, refl)
+
+split_at : {A : Type 0} (xs : List A) (k : ℕ) (x : A) → slice_get xs k ≡ Some x → xs ≡ take k xs ++ x ∷ drop (suc k) xs
+split_at [] k x e = absurd cc
+split_at (y ∷ xs) zero x e = let same : y ≡ x = cc in ap (λ z. z ∷ xs) same
+split_at (y ∷ xs) (suc k) x e = ap (λ z. y ∷ z) (split_at xs k x e)
+
+is_fresh : (ids : List ℕ) (id : ℕ) → list_any (λ d. d == id) ids ≡ false → IsFresh ids id
+is_fresh [] id e = tt
+is_fresh (d ∷ ids) id e = at_test (d == id) refl e (λ e'. is_fresh ids id e')
+  where
+    at_test : (b : Bool) → (d == id) ≡ b → b || list_any (λ d. d == id) ids ≡ false → (list_any (λ d. d == id) ids ≡ false → IsFresh ids id) → IsFresh (d ∷ ids) id
+    at_test true is e' later = absurd cc
+    at_test false is e' later = (λ (same : d ≡ id). absurd (true≢false (sym (eq-eqb d id same) ∙ is)), later e')
+
+is_honest : (c : Choice) (w : World) (d : Demand) → MayChoose c w d → Delivers w d (chosen c w d)
+unfolding Delivers
+is_honest Append w (Produce (x ∷ [])) e = part_delivers w x _ _ (record {
+  change = inr (inl e, refl);
+  stands = λ none. record { before = (log_of w x).records; after = []; split = ap (λ z. (log_of w x).records ++ z) (sym (append-nil (stored_of (sent_of x.batch)))); offset = refl; place = e };
+  is_old = λ old. absurd (omega (arith, ints, old));
+})
+is_honest AppendLate w (Produce (x ∷ [])) e =
+    part_delivers w x _ _ (record { change = inr (inr e, refl); stands = λ none. absurd (omega (arith, ints, none)); is_old = λ old. absurd (omega (arith, ints, old)) })
+is_honest (Repeat offset) w (Produce (x ∷ [])) e = part_delivers w x _ _ (record {
+  change = inl refl;
+  stands = λ none. record { before = _; after = _; split = e.0; offset = ap pos (sym e.1); place = e.2 };
+  is_old = λ old. absurd (omega (arith, ints, old));
+})
+is_honest (Forgotten place) w (Produce (x ∷ [])) e = part_delivers w x _ _ (record {
+  change = inl refl;
+  stands = λ none. absurd (omega (arith, ints, none));
+  is_old = λ old. record { earlier = _; later = _; split = split_at (log_of w x).batches place (sent_of x.batch) e.0; more = leb-true KEPT (length (of_id x.batch.id (drop (suc place) (log_of w x).batches))) e.1 };
+})
+is_honest GiveId w (InitProducerId p) e = (inr (next_id w.ids, is_fresh w.ids (next_id w.ids) e, refl, inr refl), refl)
+is_honest GiveId w (Produce xs) e = absurd e
+is_honest Append w (Produce []) e = absurd e
+is_honest Append w (Produce (x ∷ y ∷ xs)) e = absurd e
+is_honest Append w (InitProducerId p) e = absurd e
+is_honest AppendLate w (Produce []) e = absurd e
+is_honest AppendLate w (Produce (x ∷ y ∷ xs)) e = absurd e
+is_honest AppendLate w (InitProducerId p) e = absurd e
+is_honest (Repeat offset) w (Produce []) e = absurd e
+is_honest (Repeat offset) w (Produce (x ∷ y ∷ xs)) e = absurd e
+is_honest (Repeat offset) w (InitProducerId p) e = absurd e
+is_honest (Forgotten place) w (Produce []) e = absurd e
+is_honest (Forgotten place) w (Produce (x ∷ y ∷ xs)) e = absurd e
+is_honest (Forgotten place) w (InitProducerId p) e = absurd e
+
+-- ---- a run, event by event, with these choices
+
+abbrev came : Choice → World → Option Outgoing → World
+came c w (Some o) = with_delivery o (chosen c w o.demand) w
+came c w None = w
+
+abbrev pub next : Producer → Choice → Event → World → World
+next producer c (event.Deliver k how) w = came c w (slice_get w.packets k)
+next producer c (event.Other p n) w = unwrap_or (with_others_at p n w) w
+next producer c e w = unwrap_or (producer e w) w
+
+-- the choice for the next delivery, and those for the others
+abbrev first_of : List Choice → Choice
+first_of [] = Append
+first_of (c ∷ cs) = c
+
+abbrev others_of : Event → List Choice → List Choice
+others_of (event.Deliver k how) cs = drop 1 cs
+others_of e cs = cs
+
+abbrev pub end_of : Producer → List Choice → List Event → World → World
+end_of producer cs [] w = w
+end_of producer cs (e ∷ es) w = end_of producer (others_of e cs) es (next producer (first_of cs) e w)
+
+-- each event names what is there
+abbrev is_there : Producer → Event → World → Bool
+is_there producer (event.Deliver k how) w = is_some (slice_get w.packets k)
+is_there producer (event.Other p n) w = is_some (with_others_at p n w)
+is_there producer e w = is_some (producer e w)
+
+abbrev pub are_there : Producer → List Choice → List Event → World → Bool
+are_there producer cs [] w = true
+are_there producer cs (e ∷ es) w = is_there producer e w && are_there producer (others_of e cs) es (next producer (first_of cs) e w)
+
+-- each choice may be made
+abbrev MayCome : Choice → World → Option Outgoing → Type 0
+MayCome c w (Some o) = MayChoose c w o.demand
+MayCome c w None = ⊥
+
+abbrev pub AreHonest : Producer → List Choice → List Event → World → Type 0
+AreHonest producer cs [] w = Unit {0}
+AreHonest producer cs (event.Deliver k how ∷ es) w = MayCome (first_of cs) w (slice_get w.packets k) × AreHonest producer (drop 1 cs) es (next producer (first_of cs) (event.Deliver k how) w)
+AreHonest producer cs (e ∷ es) w = AreHonest producer cs es (next producer (first_of cs) e w)
+
+some_is : (o : Option World) (w : World) → is_some o ≡ true → o ≡ Some (unwrap_or o w)
+some_is (Some v) w e = refl
+some_is None w e = absurd cc
+
+arrives : (c : Choice) (k : ℕ) (w : World) (o : Option Outgoing) → slice_get w.packets k ≡ o → MayCome c w o → Arrives w k (came c w o)
+arrives c k w (Some o) is h = record { packet = o; went_out = is; delivery = chosen c w o.demand; honest = is_honest c w o.demand h; after_is = refl }
+arrives c k w None is h = absurd h
+
+pub run_of : (producer : Producer) (cs : List Choice) (es : List Event) (w : World) → are_there producer cs es w ≡ true → AreHonest producer cs es w
+    → RunBy (StepsBy producer) w es (end_of producer cs es w)
+run_of producer cs [] w t h = refl
+run_of producer cs (event.Deliver k how ∷ es) w t h =
+    (_, arrives (first_of cs) k w (slice_get w.packets k) refl h.0, run_of producer (drop 1 cs) es _ (and_parts (is_there producer (event.Deliver k how) w) _ t).1 h.1)
+run_of producer cs (event.Other p n ∷ es) w t h =
+    let both = and_parts (is_there producer (event.Other p n) w) _ t in (_, some_is (with_others_at p n w) w both.0, run_of producer cs es _ both.1 h)
+run_of producer cs (event.Accept s p value ∷ es) w t h =
+    let both = and_parts (is_there producer (event.Accept s p value) w) _ t in (_, some_is (producer (event.Accept s p value) w) w both.0, run_of producer cs es _ both.1 h)
+run_of producer cs (event.Take s ∷ es) w t h =
+    let both = and_parts (is_there producer (event.Take s) w) _ t in (_, some_is (producer (event.Take s) w) w both.0, run_of producer cs es _ both.1 h)
+run_of producer cs (event.Now moment ∷ es) w t h =
+    let both = and_parts (is_there producer (event.Now moment) w) _ t in (_, some_is (producer (event.Now moment) w) w both.0, run_of producer cs es _ both.1 h)
+run_of producer cs (event.Tick ∷ es) w t h =
+    let both = and_parts (is_there producer event.Tick w) _ t in (_, some_is (producer event.Tick w) w both.0, run_of producer cs es _ both.1 h)
+run_of producer cs (event.Send ∷ es) w t h =
+    let both = and_parts (is_there producer event.Send w) _ t in (_, some_is (producer event.Send w) w both.0, run_of producer cs es _ both.1 h)
+run_of producer cs (event.Reply j ∷ es) w t h =
+    let both = and_parts (is_there producer (event.Reply j) w) _ t in (_, some_is (producer (event.Reply j) w) w both.0, run_of producer cs es _ both.1 h)
+run_of producer cs (event.Drop ∷ es) w t h =
+    let both = and_parts (is_there producer event.Drop w) _ t in (_, some_is (producer event.Drop w) w both.0, run_of producer cs es _ both.1 h)
+run_of producer cs (event.Close ∷ es) w t h =
+    let both = and_parts (is_there producer event.Close w) _ t in (_, some_is (producer event.Close w) w both.0, run_of producer cs es _ both.1 h)
+run_of producer cs (event.End ∷ es) w t h =
+    let both = and_parts (is_there producer event.End w) _ t in (_, some_is (producer event.End w) w both.0, run_of producer cs es _ both.1 h)
+run_of producer cs (event.Flush ∷ es) w t h =
+    let both = and_parts (is_there producer event.Flush w) _ t in (_, some_is (producer event.Flush w) w both.0, run_of producer cs es _ both.1 h)

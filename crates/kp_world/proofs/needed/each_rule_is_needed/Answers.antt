@@ -1,0 +1,67 @@
+use Rattle.std.proofs.Common.{◌≡◌, List, [], ◌∷◌, refl}
+use Rattle.std.specs.Prelude.{Ok}
+use Rattle.kp_accum.specs.Config.{checked, is_outside}
+use Rattle.kp_log.specs.History.{own}
+use Rattle.kp_world.specs.Accounts.{IsNeverSent}
+use Rattle.kp_world.specs.LogLaws.{EachDeliveryHasItsOffset, IsPrefix, ToldOffsetsStand}
+use Rattle.kp_world.specs.OtherRules.{Breaks, sending_by, with_window, counts_open, one_wider, without_waiting, hearing_as, at_sequences, to_oldest, ticking_by, open_expires, keeping_ids, one_each, two_an_id, six_on_their_way, second_comes_first, stored_behind_another, answered_again, late_when_sent, goes_on_under_an_id}
+use Rattle.kp_world.proofs.Evaluation.{evaluated}
+use Rattle.kp_world.proofs.ChosenRuns.{Choice, Append, AppendLate, Repeat, Forgotten, GiveId}
+use Rattle.kp_world.proofs.BrokenLaws.{breaks, offset_is_missing, log_is_unlike, offset_is_anothers, offset_is_early, unsent_is_sent}
+use Rattle.kp_world.proofs.needed.each_rule_is_needed.Goals as goal
+
+one_each_passes : checked one_each ≡ Ok tt
+unfolding checked is_outside
+one_each_passes = refl
+
+two_an_id_passes : checked two_an_id ≡ Ok tt
+unfolding checked is_outside
+two_an_id_passes = refl
+
+seven_and_the_second_again : List Choice
+seven_and_the_second_again = Append ∷ Append ∷ Append ∷ Append ∷ Append ∷ Append ∷ Append ∷ Forgotten 1 ∷ []
+
+open_batches_counted : Breaks (sending_by (with_window counts_open)) one_each six_on_their_way EachDeliveryHasItsOffset
+unfolding evaluated seven_and_the_second_again
+open_batches_counted =
+    breaks (sending_by (with_window counts_open)) seven_and_the_second_again one_each six_on_their_way EachDeliveryHasItsOffset one_each_passes refl
+    (refl, (refl, (refl, (refl, (refl, (refl, (refl, ((refl, refl), tt)))))))) _ offset_is_missing refl
+
+window_of_six : Breaks (sending_by (with_window one_wider)) one_each six_on_their_way EachDeliveryHasItsOffset
+unfolding evaluated seven_and_the_second_again
+window_of_six =
+    breaks (sending_by (with_window one_wider)) seven_and_the_second_again one_each six_on_their_way EachDeliveryHasItsOffset one_each_passes refl
+    (refl, (refl, (refl, (refl, (refl, (refl, (refl, ((refl, refl), tt)))))))) _ offset_is_missing refl
+
+second_first : Breaks (sending_by without_waiting) one_each second_comes_first (IsPrefix 0)
+unfolding evaluated own
+second_first = breaks (sending_by without_waiting) (AppendLate ∷ []) one_each second_comes_first (IsPrefix 0) one_each_passes refl (refl, tt) _ log_is_unlike refl
+
+sequence_told : Breaks (hearing_as at_sequences) one_each stored_behind_another ToldOffsetsStand
+unfolding evaluated
+sequence_told = breaks (hearing_as at_sequences) (Append ∷ []) one_each stored_behind_another ToldOffsetsStand one_each_passes refl (refl, tt) _ offset_is_anothers refl
+
+stale_settles : Breaks (hearing_as to_oldest) one_each answered_again ToldOffsetsStand
+unfolding evaluated
+stale_settles = breaks (hearing_as to_oldest) (Append ∷ []) one_each answered_again ToldOffsetsStand one_each_passes refl (refl, tt) _ offset_is_early refl
+
+expires : Breaks (ticking_by open_expires) one_each late_when_sent (IsNeverSent 0)
+unfolding evaluated
+expires = breaks (ticking_by open_expires) [] one_each late_when_sent (IsNeverSent 0) one_each_passes refl tt _ unsent_is_sent refl
+
+id_kept : Breaks keeping_ids two_an_id goes_on_under_an_id ToldOffsetsStand
+unfolding evaluated
+id_kept =
+    breaks keeping_ids (Append ∷ Append ∷ GiveId ∷ Repeat 0 ∷ []) two_an_id goes_on_under_an_id ToldOffsetsStand two_an_id_passes refl
+    (refl, (refl, (refl, ((refl, refl, refl), tt)))) _ offset_is_early refl
+
+pub returns : goal.returns
+returns c = record {
+  window_of_open_batches = open_batches_counted;
+  window_of_six = window_of_six;
+  second_before_first = second_first;
+  sequence_told = sequence_told;
+  stale_settles = stale_settles;
+  open_expires = expires;
+  old_id_kept = id_kept;
+}

@@ -1,0 +1,191 @@
+-- Producers that go by all rules but one, and schedules in which this shows.
+use Rattle.std.specs.Prelude.{ℕ, ◌+◌, ℤ, pos, Bool, not, List, [], ◌∷◌, ◌++◌, map, filter, length, Some, option_map, unwrap_or, slice_get, nat_lt, ◌&&◌, if◌then◌else◌}
+use Rattle.std.specs.List.{enumerate_from}
+use Rattle.kp_accum.specs.declared.config.Config.{Config}
+use Rattle.kp_accum.specs.Config.{default_config}
+use Rattle.kp_accum.specs.Ready.{is_ready}
+use Rattle.kp_core.specs.declared.outcome.Outcome.TheVariants.{Unsent}
+use Rattle.kp_core.specs.declared.outcome.Reason.TheVariants.{Expired}
+use Rattle.kp_core.specs.Attempts.{awaiting, dropped}
+use Rattle.kp_core.specs.Awaited.{Awaited, Nothing, awaited}
+use Rattle.kp_core.specs.MaySend.{HandOverRule, is_confirmed, is_in_span, is_within_limit, sends_by}
+use Rattle.kp_core.specs.Next.{batches_by, demand_with}
+use Rattle.kp_core.specs.Partitions.{items_open}
+use Rattle.kp_core.specs.Records.{Partition, Request, Core, Effect}
+use Rattle.kp_core.specs.Requesting.{Requested, requested_unless_ended}
+use Rattle.kp_core.specs.Telling.{told_all, at_each, told_at_each}
+use Rattle.kp_core.specs.Tick.{has_timed_out, is_open_late}
+use Rattle.kp_world.specs.declared.event.Event.{Event}
+use Rattle.kp_world.specs.declared.event.Event.TheVariants as event
+use Rattle.kp_world.specs.declared.event.Treatment.TheVariants.{Judged}
+use Rattle.kp_world.specs.Client.{sending, replying, client}
+use Rattle.kp_world.specs.Line.{Reconnect}
+use Rattle.kp_world.specs.LogLaws.{partition_of}
+use Rattle.kp_world.specs.Noting.{noted}
+use Rattle.kp_world.specs.Run.{Producer, StepsBy, RunBy, MayBegin}
+use Rattle.kp_world.specs.World.{PartAnswer, ReplyContent, Batches, Reply, World, opening}
+
+-- ---- what goes out
+
+-- It hands batches over by this rule.
+abbrev pub requested_by : HandOverRule → ℕ → Core → Requested
+requested_by may now s =
+    requested_unless_ended now s (demand_with (batches_by (sends_by may) now s) now s)
+
+abbrev pub sending_by : HandOverRule → Producer
+sending_by may event.Send w =
+    let step = requested_by may w.moment w.core in Some (sending w step.after step.answer)
+sending_by may e w = client e w
+
+-- all conditions but the window, which is this one
+abbrev pub with_window : (Config → Partition → Bool) → HandOverRule
+with_window fits c flags now t front =
+    is_ready c flags now t.queue && is_confirmed t && fits c t && is_within_limit c t front
+
+-- A window that counts the open batches, however far their numbers lie apart.
+abbrev pub counts_open : Config → Partition → Bool
+counts_open c t = nat_lt (length t.open_batches) c.max_in_flight_requests_per_connection
+
+-- A window of one batch more than may be in flight.
+abbrev pub one_wider : Config → Partition → Bool
+one_wider c t =
+    is_in_span
+    (record c { max_in_flight_requests_per_connection = c.max_in_flight_requests_per_connection + 1 })
+    t.next_number t.open_batches
+
+-- The second batch does not wait until the first is acknowledged.
+abbrev pub without_waiting : HandOverRule
+without_waiting c flags now t front =
+    is_ready c flags now t.queue && is_in_span c t.next_number t.open_batches
+    && is_within_limit c t front
+
+-- ---- how a reply is heard
+
+-- It hears each reply as another.
+abbrev pub hearing_as : (World → Reply → Reply) → Producer
+hearing_as heard (event.Reply j) w = replying j (option_map (heard w) (slice_get w.replies j)) w
+hearing_as heard e w = client e w
+
+-- the base sequence of the batch that awaits the reply to request k
+abbrev pub sequence_awaiting : ℕ → Partition → ℤ
+sequence_awaiting k t = unwrap_or (option_map (λ o. pos o.batch.sequence) (awaiting k t)) (pos 0)
+
+abbrev pub at_sequence : World → ℕ → PartAnswer → PartAnswer
+at_sequence w k a = record a {
+  answer = record a.answer { base = sequence_awaiting k (partition_of a.partition w) };
+}
+
+abbrev pub content_at_sequences : World → ℕ → ReplyContent → ReplyContent
+content_at_sequences w k (Batches parts) = Batches (map (at_sequence w k) parts)
+content_at_sequences w k content = content
+
+-- An offset is the sequence number.
+abbrev pub at_sequences : World → Reply → Reply
+at_sequences w r = record r { content = content_at_sequences w r.correlation r.content }
+
+abbrev pub to_first : List Request → Reply → Reply
+to_first [] r = r
+to_first (q ∷ others) r = record r { correlation = q.correlation }
+
+abbrev pub to_oldest_if : Awaited → Core → Reply → Reply
+to_oldest_if Nothing s r = to_first s.requests r
+to_oldest_if who s r = r
+
+-- A reply to no request in flight settles the oldest that is.
+abbrev pub to_oldest : World → Reply → Reply
+to_oldest w r = to_oldest_if (awaited (pos r.correlation) w.core) w.core r
+
+-- ---- what the time does
+
+abbrev pub reconnecting : Bool → ℕ → Core → Core
+reconnecting timed_out now s = if timed_out then dropped now s else s
+
+-- It does this at each partition.
+abbrev pub ticking_by : (Config → ℕ → Partition → Effect) → Producer
+ticking_by rule event.Tick w =
+    let timed_out = has_timed_out w.moment w.core in
+    let s = reconnecting timed_out w.moment w.core in
+    let at = rule s.config w.moment in
+    Some (noted (at_each at s) (if timed_out then Reconnect ∷ [] else []) (told_at_each at s) w)
+ticking_by rule e w = client e w
+
+-- An open batch that is late expires.
+abbrev pub open_expires : Config → ℕ → Partition → Effect
+open_expires c now t = record {
+  after =
+      record t { open_batches = filter (λ o. not (is_open_late c now o)) t.open_batches };
+  told = told_all (Unsent Expired) (items_open (filter (is_open_late c now) t.open_batches));
+}
+
+-- ---- a fresh producer id
+
+abbrev pub with_ids_of : World → World → World
+with_ids_of w v = record v {
+  core = record v.core {
+    partitions = map (λ x. record x.1 { ids = (partition_of x.0 w).ids })
+        (enumerate_from 0 v.core.partitions);
+  };
+}
+
+-- A partition that is given an id keeps the one that it has, and its sequence begins again.
+abbrev pub keeping_ids : Producer
+keeping_ids (event.Reply j) w = option_map (with_ids_of w) (client (event.Reply j) w)
+keeping_ids e w = client e w
+
+-- ---- what comes of it
+
+-- With one partition, one sender and some honest broker such a producer goes through this schedule,
+-- and then the law does not hold.
+pub record Breaks (producer : Producer) (c : Config) (es : List Event) (Law : World → Type 0)
+    : Type 0 where
+  pub may_begin : MayBegin c 1 1
+  pub world : World
+  pub run : RunBy (StepsBy producer) (opening c 1 1) es world
+  pub broken : Law world → ⊥
+
+-- ---- schedules
+
+-- each batch has one record
+abbrev pub one_each : Config
+one_each = record default_config { batch_size = 0 }
+
+-- two records under each producer id
+abbrev pub two_an_id : Config
+two_an_id = record one_each { sequence_limit = 2 }
+
+-- a record of one byte is accepted and taken
+abbrev pub fed : ℕ → List Event
+fed byte = event.Accept 0 0 (byte ∷ []) ∷ event.Take 0 ∷ []
+
+abbrev pub stored : ℕ → List Event
+stored k = event.Send ∷ event.Deliver k Judged ∷ event.Reply k ∷ []
+
+-- Of five batches in flight behind the first the second is answered, and a sixth goes out. All are
+-- stored, and then the lowest comes again, behind which five stand.
+abbrev pub six_on_their_way : List Event
+six_on_their_way =
+    fed 97 ++ fed 98 ++ fed 99 ++ fed 100 ++ fed 101 ++ fed 102 ++ fed 103
+    ++ stored 0 ++ event.Send ∷ event.Deliver 1 Judged ∷ event.Send ∷ event.Deliver 2 Judged
+    ∷ event.Send ∷ event.Deliver 3 Judged ∷ event.Send ∷ event.Deliver 4 Judged ∷ event.Send
+    ∷ event.Deliver 5 Judged ∷ event.Reply 2 ∷ event.Send ∷ event.Deliver 6 Judged
+    ∷ event.Deliver 1 Judged ∷ event.Reply 7 ∷ []
+
+-- The first two batches are on their way, and the second comes first.
+abbrev pub second_comes_first : List Event
+second_comes_first = fed 97 ++ fed 98 ++ event.Send ∷ event.Send ∷ event.Deliver 1 Judged ∷ []
+
+-- The record is stored behind another producer's.
+abbrev pub stored_behind_another : List Event
+stored_behind_another = event.Other 0 1 ∷ fed 97 ++ stored 0
+
+-- The first batch is stored; the reply comes again while the second is on its way.
+abbrev pub answered_again : List Event
+answered_again = fed 97 ++ fed 98 ++ stored 0 ++ event.Send ∷ event.Reply 0 ∷ []
+
+-- No reply comes until the delivery timeout is over.
+abbrev pub late_when_sent : List Event
+late_when_sent = fed 97 ++ event.Send ∷ event.Now 120000 ∷ event.Tick ∷ []
+
+-- The third record, which is as the first was, goes out under the id that was given.
+abbrev pub goes_on_under_an_id : List Event
+goes_on_under_an_id = fed 97 ++ fed 98 ++ fed 97 ++ stored 0 ++ stored 1 ++ stored 2 ++ stored 3
