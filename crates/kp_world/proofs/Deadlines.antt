@@ -3,8 +3,9 @@ use Rattle.std.proofs.Common.{◌≡◌, [], ◌∷◌, ◌++◌, refl}
 use Rattle.std.specs.Prelude.{codes}
 use Rattle.kp_accum.specs.Config.{default_config}
 use Rattle.kp_world.specs.declared.event.Event.TheVariants.{Accept, Take, Now, Tick, Send}
+use Rattle.kp_world.specs.Reaching.{feed}
 use Rattle.kp_world.proofs.Evaluation.{evaluated}
-use Rattle.kp_world.proofs.Schedules.{told, feed}
+use Rattle.kp_world.proofs.Schedules.{told}
 
 -- Two partitions' batches are in one request. At their deadline both partitions are fenced.
 pub what_was_sent_is_unknown :

@@ -4,8 +4,9 @@ use Rattle.std.specs.Prelude.{codes}
 use Rattle.kp_accum.specs.Config.{default_config}
 use Rattle.kp_world.specs.declared.event.Event.TheVariants.{Accept, Send, Deliver, Reply, Close, End}
 use Rattle.kp_world.specs.declared.event.Treatment.TheVariants.{Judged, Refused}
+use Rattle.kp_world.specs.Reaching.{feed}
 use Rattle.kp_world.proofs.Evaluation.{evaluated}
-use Rattle.kp_world.proofs.Schedules.{told, feed}
+use Rattle.kp_world.proofs.Schedules.{told}
 
 -- What was in flight behind it is unknown, and its reply settles nothing.
 pub a_fence_ends_attempts :

@@ -4,8 +4,9 @@ use Rattle.std.specs.Prelude.{codes}
 use Rattle.kp_accum.specs.Config.{default_config}
 use Rattle.kp_world.specs.declared.event.Event.TheVariants.{Accept, Take, Now, Tick, Send, Deliver, Reply}
 use Rattle.kp_world.specs.declared.event.Treatment.TheVariants.{Judged, Refused}
+use Rattle.kp_world.specs.Reaching.{feed}
 use Rattle.kp_world.proofs.Evaluation.{evaluated}
-use Rattle.kp_world.proofs.Schedules.{told, feed}
+use Rattle.kp_world.proofs.Schedules.{told}
 
 pub an_id_is_asked_for_at_the_limit :
     told (record default_config { sequence_limit = 2; batch_size = 0 }) 1 1 (

@@ -3,8 +3,9 @@ use Rattle.std.proofs.Common.{◌≡◌, [], ◌∷◌, ◌++◌, refl}
 use Rattle.std.specs.Prelude.{codes}
 use Rattle.kp_accum.specs.Config.{default_config}
 use Rattle.kp_world.specs.declared.event.Event.TheVariants.{Now, Send}
+use Rattle.kp_world.specs.Reaching.{feed}
 use Rattle.kp_world.proofs.Evaluation.{evaluated}
-use Rattle.kp_world.proofs.Schedules.{told, feed}
+use Rattle.kp_world.proofs.Schedules.{told}
 
 -- It is not ready a millisecond before, and ready then.
 pub a_batch_lingers :

@@ -4,8 +4,9 @@ use Rattle.std.specs.Prelude.{codes, replicate}
 use Rattle.kp_accum.specs.Config.{default_config}
 use Rattle.kp_world.specs.declared.event.Event.TheVariants.{Accept, Take, Now, Send, Deliver, Reply}
 use Rattle.kp_world.specs.declared.event.Treatment.TheVariants.{Judged, Refused}
+use Rattle.kp_world.specs.Reaching.{feed}
 use Rattle.kp_world.proofs.Evaluation.{evaluated}
-use Rattle.kp_world.proofs.Schedules.{told, feed}
+use Rattle.kp_world.proofs.Schedules.{told}
 
 -- Two records of 69 bytes are all; the third is refused, which makes the first two ready though
 -- they linger. They are told, and the third is taken.

@@ -4,8 +4,9 @@ use Rattle.std.specs.Prelude.{codes}
 use Rattle.kp_accum.specs.Config.{default_config}
 use Rattle.kp_world.specs.declared.event.Event.TheVariants.{Send, Deliver, Reply}
 use Rattle.kp_world.specs.declared.event.Treatment.TheVariants.{Judged}
+use Rattle.kp_world.specs.Reaching.{feed}
 use Rattle.kp_world.proofs.Evaluation.{evaluated}
-use Rattle.kp_world.proofs.Schedules.{told, feed}
+use Rattle.kp_world.proofs.Schedules.{told}
 
 -- Eleven batches were stored, and then the first comes again.
 pub an_old_batch_is_not_stored_again :

@@ -4,8 +4,9 @@ use Rattle.std.specs.Prelude.{codes}
 use Rattle.kp_accum.specs.Config.{default_config}
 use Rattle.kp_world.specs.declared.event.Event.TheVariants.{Now, Send, Deliver, Reply, Drop}
 use Rattle.kp_world.specs.declared.event.Treatment.TheVariants.{Judged, Late}
+use Rattle.kp_world.specs.Reaching.{feed}
 use Rattle.kp_world.proofs.Evaluation.{evaluated}
-use Rattle.kp_world.proofs.Schedules.{told, feed}
+use Rattle.kp_world.proofs.Schedules.{told}
 
 -- The batch is stored, and its answer says that the time ran out. It goes out again, and is
 -- answered with its offset.

@@ -1,9 +1,8 @@
 -- Schedules and what they bring about, as text.
-use Rattle.std.proofs.Common.{ℕ, List, [], ◌∷◌}
+use Rattle.std.proofs.Common.{ℕ, List}
 use Rattle.std.specs.Prelude.{Result, Ok, Err, codes}
 use Rattle.kp_accum.specs.declared.config.Config.{Config}
 use Rattle.kp_world.specs.declared.event.Event.{Event}
-use Rattle.kp_world.specs.declared.event.Event.TheVariants.{Accept, Take}
 use Rattle.kp_world.specs.Replay.{replayed}
 use Rattle.kp_world.specs.Text.{Text, text}
 use Rattle.kp_world.specs.World.{World, opening}
@@ -15,7 +14,3 @@ text_of (Err n) = codes "no such thing"
 -- the lines that a schedule brings about
 abbrev pub told : Config → (partitions senders : ℕ) → List Event → Text
 told c partitions senders es = text_of (replayed es (opening c partitions senders))
-
--- a record of one byte goes through sender 0 to partition 0
-abbrev pub feed : ℕ → List Event
-feed byte = Accept 0 0 (byte ∷ []) ∷ Take 0 ∷ []

@@ -14,7 +14,7 @@ use Rattle.kp_core.specs.Partitions.{items_open}
 use Rattle.kp_core.specs.Records.{Partition, Request, Core, Effect}
 use Rattle.kp_core.specs.Requesting.{Requested, requested_unless_ended}
 use Rattle.kp_core.specs.Telling.{told_all, at_each, told_at_each}
-use Rattle.kp_core.specs.Tick.{has_timed_out, is_open_late}
+use Rattle.kp_core.specs.Tick.{has_timed_out, is_open_late, expired_front}
 use Rattle.kp_world.specs.declared.event.Event.{Event}
 use Rattle.kp_world.specs.declared.event.Event.TheVariants as event
 use Rattle.kp_world.specs.declared.event.Treatment.TheVariants.{Judged}
@@ -22,6 +22,7 @@ use Rattle.kp_world.specs.Client.{sending, replying, client}
 use Rattle.kp_world.specs.Line.{Reconnect}
 use Rattle.kp_world.specs.LogLaws.{partition_of}
 use Rattle.kp_world.specs.Noting.{noted}
+use Rattle.kp_world.specs.Reaching.{feed}
 use Rattle.kp_world.specs.Run.{Producer, StepsBy, RunBy, MayBegin}
 use Rattle.kp_world.specs.World.{PartAnswer, ReplyContent, Batches, Reply, World, opening}
 
@@ -97,25 +98,25 @@ to_oldest w r = to_oldest_if (awaited (pos r.correlation) w.core) w.core r
 
 -- ---- what the time does
 
-abbrev pub reconnecting : Bool → ℕ → Core → Core
-reconnecting timed_out now s = if timed_out then dropped now s else s
-
 -- It does this at each partition.
 abbrev pub ticking_by : (Config → ℕ → Partition → Effect) → Producer
 ticking_by rule event.Tick w =
     let timed_out = has_timed_out w.moment w.core in
-    let s = reconnecting timed_out w.moment w.core in
+    let s = if timed_out then dropped w.moment w.core else w.core in
     let at = rule s.config w.moment in
     Some (noted (at_each at s) (if timed_out then Reconnect ∷ [] else []) (told_at_each at s) w)
 ticking_by rule e w = client e w
 
--- An open batch that is late expires.
+abbrev pub without_late : Config → ℕ → Partition → Partition
+without_late c now t =
+    record t { open_batches = filter (λ o. not (is_open_late c now o)) t.open_batches }
+
+-- An open batch that is late expires, as those at the front of the queue do.
 abbrev pub open_expires : Config → ℕ → Partition → Effect
-open_expires c now t = record {
-  after =
-      record t { open_batches = filter (λ o. not (is_open_late c now o)) t.open_batches };
-  told = told_all (Unsent Expired) (items_open (filter (is_open_late c now) t.open_batches));
-}
+open_expires c now t =
+    let late = items_open (filter (is_open_late c now) t.open_batches) in
+    let queue = expired_front c now (without_late c now t) in
+    record { after = queue.after; told = told_all (Unsent Expired) late ++ queue.told }
 
 -- ---- a fresh producer id
 
@@ -153,10 +154,6 @@ one_each = record default_config { batch_size = 0 }
 abbrev pub two_an_id : Config
 two_an_id = record one_each { sequence_limit = 2 }
 
--- a record of one byte is accepted and taken
-abbrev pub fed : ℕ → List Event
-fed byte = event.Accept 0 0 (byte ∷ []) ∷ event.Take 0 ∷ []
-
 abbrev pub stored : ℕ → List Event
 stored k = event.Send ∷ event.Deliver k Judged ∷ event.Reply k ∷ []
 
@@ -164,28 +161,28 @@ stored k = event.Send ∷ event.Deliver k Judged ∷ event.Reply k ∷ []
 -- stored, and then the lowest comes again, behind which five stand.
 abbrev pub six_on_their_way : List Event
 six_on_their_way =
-    fed 97 ++ fed 98 ++ fed 99 ++ fed 100 ++ fed 101 ++ fed 102 ++ fed 103
+    feed 97 ++ feed 98 ++ feed 99 ++ feed 100 ++ feed 101 ++ feed 102 ++ feed 103
     ++ stored 0 ++ event.Send ∷ event.Deliver 1 Judged ∷ event.Send ∷ event.Deliver 2 Judged
     ∷ event.Send ∷ event.Deliver 3 Judged ∷ event.Send ∷ event.Deliver 4 Judged ∷ event.Send
     ∷ event.Deliver 5 Judged ∷ event.Reply 2 ∷ event.Send ∷ event.Deliver 6 Judged
     ∷ event.Deliver 1 Judged ∷ event.Reply 7 ∷ []
 
--- The first two batches are on their way, and the second comes first.
+-- The first two batches are on their way, and the second comes first and is appended.
 abbrev pub second_comes_first : List Event
-second_comes_first = fed 97 ++ fed 98 ++ event.Send ∷ event.Send ∷ event.Deliver 1 Judged ∷ []
+second_comes_first = feed 97 ++ feed 98 ++ event.Send ∷ event.Send ∷ event.Deliver 1 Judged ∷ []
 
 -- The record is stored behind another producer's.
 abbrev pub stored_behind_another : List Event
-stored_behind_another = event.Other 0 1 ∷ fed 97 ++ stored 0
+stored_behind_another = event.Other 0 1 ∷ feed 97 ++ stored 0
 
 -- The first batch is stored; the reply comes again while the second is on its way.
 abbrev pub answered_again : List Event
-answered_again = fed 97 ++ fed 98 ++ stored 0 ++ event.Send ∷ event.Reply 0 ∷ []
+answered_again = feed 97 ++ feed 98 ++ stored 0 ++ event.Send ∷ event.Reply 0 ∷ []
 
--- No reply comes until the delivery timeout is over.
-abbrev pub late_when_sent : List Event
-late_when_sent = fed 97 ++ event.Send ∷ event.Now 120000 ∷ event.Tick ∷ []
+-- The record is stored, but no reply comes until its delivery timeout is over.
+abbrev pub stored_and_late : List Event
+stored_and_late = feed 97 ++ event.Send ∷ event.Deliver 0 Judged ∷ event.Now 120000 ∷ event.Tick ∷ []
 
 -- The third record, which is as the first was, goes out under the id that was given.
 abbrev pub goes_on_under_an_id : List Event
-goes_on_under_an_id = fed 97 ++ fed 98 ++ fed 97 ++ stored 0 ++ stored 1 ++ stored 2 ++ stored 3
+goes_on_under_an_id = feed 97 ++ feed 98 ++ feed 97 ++ stored 0 ++ stored 1 ++ stored 2 ++ stored 3

@@ -1,5 +1,5 @@
 -- Schedules that bring about each outcome: what holds of every run is said of some.
-use Rattle.std.specs.Prelude.{◌≡◌, pos, List, [], ◌∷◌, ◌++◌, map, flat_map}
+use Rattle.std.specs.Prelude.{◌≡◌, ℕ, pos, List, [], ◌∷◌, ◌++◌, map, flat_map}
 use Rattle.kp_accum.specs.Config.{default_config}
 use Rattle.kp_core.specs.declared.outcome.Outcome.{Outcome}
 use Rattle.kp_world.specs.declared.event.Event.{Event}
@@ -20,28 +20,28 @@ pub record Tells (es : List Event) (outcomes : List Outcome) : Type 0 where
 
 -- ---- schedules
 
--- a record is accepted and taken
-abbrev pub one_record : List Event
-one_record = Accept 0 0 (97 ∷ []) ∷ Take 0 ∷ []
+-- a record of one byte goes through sender 0 to partition 0
+abbrev pub feed : ℕ → List Event
+feed byte = Accept 0 0 (byte ∷ []) ∷ Take 0 ∷ []
 
 -- Its batch is stored, the connection is lost before the reply, and another producer's records come; it is sent again,
 -- and the repeat is answered with its offset.
 abbrev pub stored_and_repeated : List Event
 stored_and_repeated =
-    one_record ++ Send ∷ Deliver 0 Judged ∷ Other 0 2 ∷ Drop ∷ Now 100 ∷ Send ∷ Deliver 1 Judged ∷ Reply 1 ∷ Flush ∷ Close ∷ []
+    feed 97 ++ Send ∷ Deliver 0 Judged ∷ Other 0 2 ∷ Drop ∷ Now 100 ∷ Send ∷ Deliver 1 Judged ∷ Reply 1 ∷ Flush ∷ Close ∷ []
 
 -- No reply comes until its delivery timeout is over.
 abbrev pub sent_and_late : List Event
-sent_and_late = one_record ++ Send ∷ Now 120000 ∷ Tick ∷ []
+sent_and_late = feed 97 ++ Send ∷ Now 120000 ∷ Tick ∷ []
 
 -- The broker refuses its batch for good, and then a second record comes.
 abbrev pub refused_and_followed : List Event
-refused_and_followed = one_record ++ Send ∷ Deliver 0 (Refused (pos 10)) ∷ Reply 0 ∷ one_record
+refused_and_followed = feed 97 ++ Send ∷ Deliver 0 (Refused (pos 10)) ∷ Reply 0 ∷ feed 97
 
 -- It is not sent until its delivery timeout is over.
 abbrev pub queued_and_late : List Event
-queued_and_late = one_record ++ Now 120000 ∷ Tick ∷ []
+queued_and_late = feed 97 ++ Now 120000 ∷ Tick ∷ []
 
 -- The producer is ended while it waits.
 abbrev pub queued_and_ended : List Event
-queued_and_ended = one_record ++ End ∷ []
+queued_and_ended = feed 97 ++ End ∷ []

@@ -2,7 +2,7 @@
 
 ghost use Rattle.kp_world.specs.Accounts.{IsNeverSent};
 ghost use Rattle.kp_world.specs.LogLaws.{EachDeliveryHasItsOffset, IsPrefix, ToldOffsetsStand};
-ghost use Rattle.kp_world.specs.OtherRules.{Breaks, sending_by, with_window, counts_open, one_wider, without_waiting, hearing_as, at_sequences, to_oldest, ticking_by, open_expires, keeping_ids, one_each, two_an_id, six_on_their_way, second_comes_first, stored_behind_another, answered_again, late_when_sent, goes_on_under_an_id};
+ghost use Rattle.kp_world.specs.OtherRules.{Breaks, sending_by, with_window, counts_open, one_wider, without_waiting, hearing_as, at_sequences, to_oldest, ticking_by, open_expires, keeping_ids, one_each, two_an_id, six_on_their_way, second_comes_first, stored_behind_another, answered_again, stored_and_late, goes_on_under_an_id};
 
 /// Each of these producers goes by all rules but one, and through a schedule with an honest broker after which a law does
 /// not hold: one whose window counts the open batches, or is of one batch more; one whose second batch does not wait for
@@ -14,6 +14,6 @@ pub fn each_rule_is_needed()
     ensures second_before_first { Breaks (sending_by without_waiting) one_each second_comes_first (IsPrefix 0) }
     ensures sequence_told { Breaks (hearing_as at_sequences) one_each stored_behind_another ToldOffsetsStand }
     ensures stale_settles { Breaks (hearing_as to_oldest) one_each answered_again ToldOffsetsStand }
-    ensures open_expires { Breaks (ticking_by open_expires) one_each late_when_sent (IsNeverSent 0) }
+    ensures open_expires { Breaks (ticking_by open_expires) one_each stored_and_late (IsNeverSent 0) }
     ensures old_id_kept { Breaks keeping_ids two_an_id goes_on_under_an_id ToldOffsetsStand }
 {}

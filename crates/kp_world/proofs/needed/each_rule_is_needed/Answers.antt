@@ -4,7 +4,7 @@ use Rattle.kp_accum.specs.Config.{checked, is_outside}
 use Rattle.kp_log.specs.History.{own}
 use Rattle.kp_world.specs.Accounts.{IsNeverSent}
 use Rattle.kp_world.specs.LogLaws.{EachDeliveryHasItsOffset, IsPrefix, ToldOffsetsStand}
-use Rattle.kp_world.specs.OtherRules.{Breaks, sending_by, with_window, counts_open, one_wider, without_waiting, hearing_as, at_sequences, to_oldest, ticking_by, open_expires, keeping_ids, one_each, two_an_id, six_on_their_way, second_comes_first, stored_behind_another, answered_again, late_when_sent, goes_on_under_an_id}
+use Rattle.kp_world.specs.OtherRules.{Breaks, sending_by, with_window, counts_open, one_wider, without_waiting, hearing_as, at_sequences, to_oldest, ticking_by, open_expires, keeping_ids, one_each, two_an_id, six_on_their_way, second_comes_first, stored_behind_another, answered_again, stored_and_late, goes_on_under_an_id}
 use Rattle.kp_world.proofs.Evaluation.{evaluated}
 use Rattle.kp_world.proofs.ChosenRuns.{Choice, Append, AppendLate, Repeat, Forgotten, GiveId}
 use Rattle.kp_world.proofs.BrokenLaws.{breaks, offset_is_missing, log_is_unlike, offset_is_anothers, offset_is_early, unsent_is_sent}
@@ -45,9 +45,9 @@ stale_settles : Breaks (hearing_as to_oldest) one_each answered_again ToldOffset
 unfolding evaluated
 stale_settles = breaks (hearing_as to_oldest) (Append ∷ []) one_each answered_again ToldOffsetsStand one_each_passes refl (refl, tt) _ offset_is_early refl
 
-expires : Breaks (ticking_by open_expires) one_each late_when_sent (IsNeverSent 0)
+expires : Breaks (ticking_by open_expires) one_each stored_and_late (IsNeverSent 0)
 unfolding evaluated
-expires = breaks (ticking_by open_expires) [] one_each late_when_sent (IsNeverSent 0) one_each_passes refl tt _ unsent_is_sent refl
+expires = breaks (ticking_by open_expires) (Append ∷ []) one_each stored_and_late (IsNeverSent 0) one_each_passes refl (refl, tt) _ unsent_is_sent refl
 
 id_kept : Breaks keeping_ids two_an_id goes_on_under_an_id ToldOffsetsStand
 unfolding evaluated
