@@ -98,8 +98,8 @@ from_map f [] y i = absurd (In-nil y i)
 from_map f (x ∷ xs) y i = ⊎_elim (λ (same : y ≡ f x). (x, In-head x xs, same)) (λ (j : In y (map f xs)). let l = from_map f xs y j in (l.0, In-tail l.0 x xs l.1, l.2)) (In-cons y (f x) (map f xs) i)
 
 -- an open batch in flight in request k is the one that was answered
-pub answered_batch : (p next k : ℕ) (e : Bool) (t : Partition) (handed : List Batch) (h : History) (packets : List Outgoing) (replies : List Reply) (r : Reply) (parts : List PartAnswer) (a : PartAnswer)
-    → Steady p e next t handed h packets replies → In r replies → r.content ≡ Parts parts → k ≡ r.correlation → In a parts → a.partition ≡ p → (o : Open) → In o t.open_batches → o.attempt ≡ InFlight k
+pub answered_batch : {most : ℕ} (p next k : ℕ) (e : Bool) (t : Partition) (handed : List Batch) (h : History) (packets : List Outgoing) (replies : List Reply) (r : Reply) (parts : List PartAnswer) (a : PartAnswer)
+    → Steady most p e next t handed h packets replies → In r replies → r.content ≡ Parts parts → k ≡ r.correlation → In a parts → a.partition ≡ p → (o : Open) → In o t.open_batches → o.attempt ≡ InFlight k
     → (x : PartHolds p (length handed) r.correlation packets h.records a.answer) × (x.batch ≡ o.batch)
 answered_batch p next k e t handed h packets replies r parts a s i is named j at o there flies =
     let x : PartHolds p (length handed) r.correlation packets h.records a.answer = subst (ContentHolds p (length handed) r.correlation packets h.records) is (s.heard r i) a j at in
@@ -107,7 +107,7 @@ answered_batch p next k e t handed h packets replies r parts a s i is named j at
 
 -- a batch that is too old is not in flight
 pub old_not_in_flight : (p next k : ℕ) (e : Bool) (t : Partition) (handed : List Batch) (h : History) (packets : List Outgoing) (replies : List Reply) (r : Reply) (parts : List PartAnswer) (a : PartAnswer)
-    → Steady p e next t handed h packets replies → In r replies → r.content ≡ Parts parts → k ≡ r.correlation → In a parts → a.partition ≡ p → a.answer.code ≡ DUPLICATE_SEQUENCE_NUMBER → (o : Open) → In o t.open_batches → o.attempt ≡ InFlight k → ⊥
+    → Steady 5 p e next t handed h packets replies → In r replies → r.content ≡ Parts parts → k ≡ r.correlation → In a parts → a.partition ≡ p → a.answer.code ≡ DUPLICATE_SEQUENCE_NUMBER → (o : Open) → In o t.open_batches → o.attempt ≡ InFlight k → ⊥
 old_not_in_flight p next k e t handed h packets replies r parts a s i is named j at code o there flies =
     let x = answered_batch p next k e t handed h packets replies r parts a s i is named j at o there flies in
     let near : length handed ≤ o.batch.number + 5 = (s.aloft o there).near in
@@ -115,13 +115,13 @@ old_not_in_flight p next k e t handed h packets replies r parts a s i is named j
     let same : x.0.batch.number ≡ o.batch.number = ap (λ (b : Batch). b.number) x.1 in
     omega (arith, near, old, same)
 
-leaves_part : (p now next k : ℕ) (ids : List ℕ) (e : Bool) (t : Partition) (handed : List Batch) (h : History) (packets : List Outgoing) (replies : List Reply) (r : Reply) (parts : List PartAnswer)
-    → Sound ids t handed h → Steady p e next t handed h packets replies → In r replies → r.content ≡ Parts parts → k ≡ r.correlation
+leaves_part : {most : ℕ} (p now next k : ℕ) (ids : List ℕ) (e : Bool) (t : Partition) (handed : List Batch) (h : History) (packets : List Outgoing) (replies : List Reply) (r : Reply) (parts : List PartAnswer)
+    → Sound ids t handed h → Steady most p e next t handed h packets replies → In r replies → r.content ≡ Parts parts → k ≡ r.correlation
     → Leaves (λ b. IsStored h.records (sent_of b)) e t (answering now k (map part_response parts) p t).after
 leaves_part p now next k ids e t handed h packets replies r parts sound s i is named = at_first (answers_for p (map part_response parts)) refl
   where
     one : (a : PartAnswer) → In a parts → a.partition ≡ p → Leaves (λ b. IsStored h.records (sent_of b)) e t (first_answered now k t (part_response a ∷ [])).after
-    one a j at = leaves_answered (λ b. IsStored h.records (sent_of b)) e now k t (part_response a) only (λ v o there flies. old_not_in_flight p next k e t handed h packets replies r parts a s i is named j at (duplicate_code a.answer.code v) o there flies)
+    one a j at = leaves_answered (λ b. IsStored h.records (sent_of b)) e now k t (part_response a) only kept
       where
         only : verdict_of a.answer.code ≡ Stored → SettlesOnly (λ b. IsStored h.records (sent_of b)) k t
         only v o there flies =
@@ -132,6 +132,11 @@ leaves_part p now next k ids e t handed h packets replies r parts sound s i is n
               base = a.answer.base;
               stands = subst (λ (b : Batch). Stands h.records (sent_of b) a.answer.base) x.1 (x.0.stored (stored_code a.answer.code v));
             }
+
+        kept : verdict_of a.answer.code ≡ Duplicate → SettlesOnly (λ b. IsStored h.records (sent_of b)) k t
+        kept v o there flies =
+            let x = answered_batch p next k e t handed h packets replies r parts a s i is named j at o there flies in
+            subst (λ (b : Batch). IsStored h.records (sent_of b)) x.1 (x.0.kept (duplicate_code a.answer.code v))
 
     at_first : (as' : Answers) → answers_for p (map part_response parts) ≡ as' → Leaves (λ b. IsStored h.records (sent_of b)) e t (first_answered now k t as').after
     at_first [] e' = leaves_same (λ b. IsStored h.records (sent_of b)) e t
@@ -155,28 +160,28 @@ keeps_part now k answers p t = at_first (answers_for p answers)
 abbrev batches_step : ℕ → Request → Core → Answers → Bool → Replies
 batches_step now q s answers b = if b then batches_answered now q answers s else faulty Mismatch s
 
-lawful_parts : (n now : ℕ) (s : Core) (logs : List History) (handed : List (List Batch)) (packets : List Outgoing) (replies : List Reply) (ids : List ℕ) (q : Request) (r : Reply) (parts : List PartAnswer)
-    → Lawful n s logs handed packets replies ids → In r replies → r.content ≡ Parts parts → q.correlation ≡ r.correlation
-    → Lawful n (batches_replied now q s (answers_of s.names.topic ((record { topic = names.topic; partitions = map part_response parts }) ∷ []))).after logs handed packets replies ids
+lawful_parts : {most : ℕ} (n now : ℕ) (s : Core) (logs : List History) (handed : List (List Batch)) (packets : List Outgoing) (replies : List Reply) (ids : List ℕ) (q : Request) (r : Reply) (parts : List PartAnswer)
+    → Lawful most n s logs handed packets replies ids → In r replies → r.content ≡ Parts parts → q.correlation ≡ r.correlation
+    → Lawful most n (batches_replied now q s (answers_of s.names.topic ((record { topic = names.topic; partitions = map part_response parts }) ∷ []))).after logs handed packets replies ids
 unfolding at_these with_partitions
-lawful_parts n now s logs handed packets replies ids q r parts g i is named = at_topic (bytes_eq names.topic s.names.topic)
+lawful_parts {most = most} n now s logs handed packets replies ids q r parts g i is named = at_topic (bytes_eq names.topic s.names.topic)
   where
-    settles : Lawful n (at_these q.partitions (answering now q.correlation (map part_response parts)) s) logs handed packets replies ids
+    settles : Lawful most n (at_these q.partitions (answering now q.correlation (map part_response parts)) s) logs handed packets replies ids
     settles = lawful_core n s (at_these q.partitions (answering now q.correlation (map part_response parts)) s) logs handed packets replies ids g
         (core_at_these q.partitions (answering now q.correlation (map part_response parts)) (keeps_part now q.correlation (map part_response parts)) s)
         (record {
           config = refl;
           ended = λ e. e;
           each = λ p h. at_some (StoredAt logs) s.ended q.partitions (λ p' t. (answering now q.correlation (map part_response parts) p' t).after) s.partitions p h
-              (let both : Agrees n ids s handed logs packets replies p = g.agree p (subst (λ (m : ℕ). p < m) g.count h) in
+              (let both : Agrees most n ids s handed logs packets replies p = g.agree p (subst (λ (m : ℕ). p < m) g.count h) in
               leaves_part p now s.correlation q.correlation ids s.ended (partition_at p s.partitions) (handed_at p handed) (log_at p logs) packets replies r parts both.sound both.steady i is named);
         })
 
-    at_answers : (b : Bool) → Lawful n (batches_step now q s (map part_response parts) b).after logs handed packets replies ids
+    at_answers : (b : Bool) → Lawful most n (batches_step now q s (map part_response parts) b).after logs handed packets replies ids
     at_answers true = settles
     at_answers false = g
 
-    at_topic : (b : Bool) → Lawful n (batches_replied now q s (if b then Some (map part_response parts) else None)).after logs handed packets replies ids
+    at_topic : (b : Bool) → Lawful most n (batches_replied now q s (if b then Some (map part_response parts) else None)).after logs handed packets replies ids
     at_topic true = at_answers (answer_batches q.correlation q.partitions s.partitions (map part_response parts))
     at_topic false = g
 
@@ -191,33 +196,34 @@ is_no true e = absurd cc
 is_no false e = refl
 
 -- The partition goes on under the id, where it wants one still.
-agrees_fresh : (n p id : ℕ) (s : Core) (logs : List History) (handed : List (List Batch)) (packets : List Outgoing) (replies : List Reply) (ids : List ℕ)
-    → Agrees n ids s handed logs packets replies p → s.ended ≡ false → In id ids → (In id (partition_at p s.partitions).ids → ⊥)
+agrees_fresh : {most : ℕ} (n p id : ℕ) (s : Core) (logs : List History) (handed : List (List Batch)) (packets : List Outgoing) (replies : List Reply) (ids : List ℕ)
+    → Agrees most n ids s handed logs packets replies p → s.ended ≡ false → In id ids → (In id (partition_at p s.partitions).ids → ⊥)
     → (Sound ids (under_if_wanted id s p (partition_at p s.partitions)) (handed_at p handed) (log_at p logs))
-    × Steady p s.ended s.correlation (under_if_wanted id s p (partition_at p s.partitions)) (handed_at p handed) (log_at p logs) packets replies
+    × Steady most p s.ended s.correlation (under_if_wanted id s p (partition_at p s.partitions)) (handed_at p handed) (log_at p logs) packets replies
 unfolding wants_id
-agrees_fresh n p id s logs handed packets replies ids a going drawn spare = at_test (wants_id s.config (partition_at p s.partitions)) refl
+agrees_fresh {most = most} n p id s logs handed packets replies ids a going drawn spare = at_test (wants_id s.config (partition_at p s.partitions)) refl
   where
     at_test : (b : Bool) → wants_id s.config (partition_at p s.partitions) ≡ b → (Sound ids (if b then under id (partition_at p s.partitions) else partition_at p s.partitions) (handed_at p handed) (log_at p logs))
-        × Steady p s.ended s.correlation (if b then under id (partition_at p s.partitions) else partition_at p s.partitions) (handed_at p handed) (log_at p logs) packets replies
+        × Steady most p s.ended s.correlation (if b then under id (partition_at p s.partitions) else partition_at p s.partitions) (handed_at p handed) (log_at p logs) packets replies
     at_test false w = (a.sound, a.steady)
     at_test true w =
         let two = and_parts (not (partition_at p s.partitions).fenced && is_empty (partition_at p s.partitions).open_batches) (front_is_past_limit s.config (partition_at p s.partitions) (partition_at p s.partitions).queue) w in
         let one = and_parts (not (partition_at p s.partitions).fenced) (is_empty (partition_at p s.partitions).open_batches) two.0 in
         let sound : Sound ids (under id (partition_at p s.partitions)) (handed_at p handed) (log_at p logs) = sound_fresh ids id (partition_at p s.partitions) (handed_at p handed) (log_at p logs) a.sound drawn spare in (
           sound,
-          subst (λ (e : Bool). Steady p e s.correlation (under id (partition_at p s.partitions)) (handed_at p handed) (log_at p logs) packets replies) (sym going)
+          subst (λ (e : Bool). Steady most p e s.correlation (under id (partition_at p s.partitions)) (handed_at p handed) (log_at p logs) packets replies) (sym going)
               (steady_fresh ids (partition_at p s.partitions) (handed_at p handed) (log_at p logs) p s.correlation id packets replies a.sound sound
-              (subst (λ (e : Bool). Steady p e s.correlation (partition_at p s.partitions) (handed_at p handed) (log_at p logs) packets replies) going a.steady) (is_none (partition_at p s.partitions).open_batches one.1) (is_no (partition_at p s.partitions).fenced one.0)),
+              (subst (λ (e : Bool). Steady most p e s.correlation (partition_at p s.partitions) (handed_at p handed) (log_at p logs) packets replies) going a.steady) (is_none (partition_at p s.partitions).open_batches one.1) (is_no (partition_at p s.partitions).fenced one.0)),
         )
 
-lawful_given : (n id : ℕ) (s : Core) (logs : List History) (handed : List (List Batch)) (packets : List Outgoing) (replies : List Reply) (ids : List ℕ) (q : IdRequest) (r : Reply)
-    → Lawful n s logs handed packets replies ids → s.ended ≡ false → In r replies → r.content ≡ given id → s.id_request ≡ Some q → q.correlation ≡ r.correlation → Lawful n (id_given id q s) logs handed packets replies ids
-lawful_given n id s logs handed packets replies ids q r g going i is asked named = record {
+lawful_given : {most : ℕ} (n id : ℕ) (s : Core) (logs : List History) (handed : List (List Batch)) (packets : List Outgoing) (replies : List Reply) (ids : List ℕ) (q : IdRequest) (r : Reply)
+    → Lawful most n s logs handed packets replies ids → s.ended ≡ false → In r replies → r.content ≡ given id → s.id_request ≡ Some q → q.correlation ≡ r.correlation → Lawful most n (id_given id q s) logs handed packets replies ids
+lawful_given {most = most} n id s logs handed packets replies ids q r g going i is asked named = record {
   count = length-changed_at (q.partition ∷ []) (under_if_wanted id s) s.partitions ∙ g.count;
   handed_count = g.handed_count;
   logs_count = g.logs_count;
   window = g.window;
+  some = g.some;
   agree = λ p h. let both = each p h in record { sound = both.0; steady = both.1 };
   went = λ o j. let w = g.went o j in record { before = w.before; parts = w.parts };
   gave = λ x j. let w = g.gave x j in record { before = w.before; drawn = w.drawn; spare = λ m a b c d p h at. absurd (nobody a c) };
@@ -228,17 +234,17 @@ lawful_given n id s logs handed packets replies ids q r g going i is asked named
     nobody a e = absurd cc
 
     fresh : (p : ℕ) → p < n → (Sound ids (under_if_wanted id s p (partition_at p s.partitions)) (handed_at p handed) (log_at p logs))
-        × Steady p s.ended s.correlation (under_if_wanted id s p (partition_at p s.partitions)) (handed_at p handed) (log_at p logs) packets replies
+        × Steady most p s.ended s.correlation (under_if_wanted id s p (partition_at p s.partitions)) (handed_at p handed) (log_at p logs) packets replies
     fresh p h = agrees_fresh n p id s logs handed packets replies ids (g.agree p h) going ((g.gave r i).drawn id is) (λ at. (g.gave r i).spare id q is asked named p h at)
 
-    each : (p : ℕ) → p < n → (Sound ids (partition_at p (id_given id q s).partitions) (handed_at p handed) (log_at p logs)) × Steady p s.ended s.correlation (partition_at p (id_given id q s).partitions) (handed_at p handed) (log_at p logs) packets replies
+    each : (p : ℕ) → p < n → (Sound ids (partition_at p (id_given id q s).partitions) (handed_at p handed) (log_at p logs)) × Steady most p s.ended s.correlation (partition_at p (id_given id q s).partitions) (handed_at p handed) (log_at p logs) packets replies
     each p h =
-        subst (λ (u : Partition). (Sound ids u (handed_at p handed) (log_at p logs)) × Steady p s.ended s.correlation u (handed_at p handed) (log_at p logs) packets replies)
+        subst (λ (u : Partition). (Sound ids u (handed_at p handed) (log_at p logs)) × Steady most p s.ended s.correlation u (handed_at p handed) (log_at p logs) packets replies)
         (sym (at-changed_at (q.partition ∷ []) (under_if_wanted id s) s.partitions p (subst (λ (m : ℕ). p < m) (sym g.count) h)))
         (at_test (is_in p (q.partition ∷ [])))
       where
         at_test : (b : Bool) → (Sound ids (if b then under_if_wanted id s p (partition_at p s.partitions) else partition_at p s.partitions) (handed_at p handed) (log_at p logs))
-            × Steady p s.ended s.correlation (if b then under_if_wanted id s p (partition_at p s.partitions) else partition_at p s.partitions) (handed_at p handed) (log_at p logs) packets replies
+            × Steady most p s.ended s.correlation (if b then under_if_wanted id s p (partition_at p s.partitions) else partition_at p s.partitions) (handed_at p handed) (log_at p logs) packets replies
         at_test true = fresh p h
         at_test false = ((g.agree p h).sound, (g.agree p h).steady)
 
@@ -248,28 +254,28 @@ answer_of code id = record { throttle_time_ms = pos 0; error_code = code; produc
 abbrev id_step : ℕ → IdRequest → InitProducerIdResponse → Core → Bool → Replies
 id_step now q x s b = if b then known (id_answered now q x s) [] else faulty Mismatch s
 
-lawful_id_reply : (n now : ℕ) (s : Core) (logs : List History) (handed : List (List Batch)) (packets : List Outgoing) (replies : List Reply) (ids : List ℕ) (q : IdRequest) (r : Reply) (code id : ℤ)
-    → Lawful n s logs handed packets replies ids → s.ended ≡ false → In r replies → r.content ≡ GivenId code id → s.id_request ≡ Some q → q.correlation ≡ r.correlation
-    → Lawful n (id_replied now q (answer_of code id) s).after logs handed packets replies ids
+lawful_id_reply : {most : ℕ} (n now : ℕ) (s : Core) (logs : List History) (handed : List (List Batch)) (packets : List Outgoing) (replies : List Reply) (ids : List ℕ) (q : IdRequest) (r : Reply) (code id : ℤ)
+    → Lawful most n s logs handed packets replies ids → s.ended ≡ false → In r replies → r.content ≡ GivenId code id → s.id_request ≡ Some q → q.correlation ≡ r.correlation
+    → Lawful most n (id_replied now q (answer_of code id) s).after logs handed packets replies ids
 unfolding answers_id
-lawful_id_reply n now s logs handed packets replies ids q r code id g going i is asked named = at_valid (answers_id (answer_of code id)) refl
+lawful_id_reply {most = most} n now s logs handed packets replies ids q r code id g going i is asked named = at_valid (answers_id (answer_of code id)) refl
   where
-    refused : Lawful n (id_refused now s) logs handed packets replies ids
+    refused : Lawful most n (id_refused now s) logs handed packets replies ids
     refused = lawful_core n s (id_refused now s) logs handed packets replies ids g
         (record { count = refl; each = λ p h. keeps_same (partition_at p s.partitions); correlation = refl; asked = λ a e. absurd cc })
         (record { config = refl; ended = λ e. e; each = λ p h. leaves_same (StoredAt logs p) s.ended (partition_at p s.partitions) })
 
-    by_id : (z : ℤ) → id ≡ z → code ≡ pos 0 → answers_id (answer_of (pos 0) z) ≡ true → Lawful n (id_given (nat_abs z) q s) logs handed packets replies ids
+    by_id : (z : ℤ) → id ≡ z → code ≡ pos 0 → answers_id (answer_of (pos 0) z) ≡ true → Lawful most n (id_given (nat_abs z) q s) logs handed packets replies ids
     by_id (pos m) at zero v = lawful_given n m s logs handed packets replies ids q r g going i (is ∙ ap (λ (c : ℤ). GivenId c id) zero ∙ ap (GivenId (pos 0)) at) asked named
     by_id (negsuc m) at zero v = absurd cc
 
-    at_given : (b : Bool) → is_given (answer_of code id) ≡ b → answers_id (answer_of code id) ≡ true → Lawful n (if b then id_given (nat_abs id) q s else id_refused now s) logs handed packets replies ids
+    at_given : (b : Bool) → is_given (answer_of code id) ≡ b → answers_id (answer_of code id) ≡ true → Lawful most n (if b then id_given (nat_abs id) q s else id_refused now s) logs handed packets replies ids
     at_given true e v =
         let zero : code ≡ pos 0 = (Decides-int_eq code (pos 0)).0 e in
         by_id id refl zero (subst (λ (c : ℤ). answers_id (answer_of c id) ≡ true) zero v)
     at_given false e v = refused
 
-    at_valid : (b : Bool) → answers_id (answer_of code id) ≡ b → Lawful n (id_step now q (answer_of code id) s b).after logs handed packets replies ids
+    at_valid : (b : Bool) → answers_id (answer_of code id) ≡ b → Lawful most n (id_step now q (answer_of code id) s b).after logs handed packets replies ids
     at_valid true v = at_given (is_given (answer_of code id)) refl v
     at_valid false v = g
 
@@ -278,9 +284,9 @@ lawful_id_reply n now s logs handed packets replies ids q r code id g going i is
 pub same_correlation : (a b : ℕ) → pos a ≡ pos b → a ≡ b
 same_correlation a b e = cc
 
-lawful_body : (n now : ℕ) (s : Core) (logs : List History) (handed : List (List Batch)) (packets : List Outgoing) (replies : List Reply) (ids : List ℕ) (r : Reply)
-    → Lawful n s logs handed packets replies ids → s.ended ≡ false → In r replies → (who : Awaited) → Names (pos r.correlation) s who → (c : ReplyContent) → r.content ≡ c
-    → Lawful n (replied_to now s who (body_of_reply c)).after logs handed packets replies ids
+lawful_body : {most : ℕ} (n now : ℕ) (s : Core) (logs : List History) (handed : List (List Batch)) (packets : List Outgoing) (replies : List Reply) (ids : List ℕ) (r : Reply)
+    → Lawful most n s logs handed packets replies ids → s.ended ≡ false → In r replies → (who : Awaited) → Names (pos r.correlation) s who → (c : ReplyContent) → r.content ≡ c
+    → Lawful most n (replied_to now s who (body_of_reply c)).after logs handed packets replies ids
 lawful_body n now s logs handed packets replies ids r g going i Nothing it c is = g
 lawful_body n now s logs handed packets replies ids r g going i (Batches q) it (Parts parts) is =
     lawful_parts n now s logs handed packets replies ids q r parts g i is (same_correlation q.correlation r.correlation it)
@@ -293,11 +299,11 @@ abbrev reply_step : ℕ → Reply → Core → Bool → Replies
 reply_step now r s b =
     if b then after_end s else replied_to now s (awaited (pos r.correlation) s) (body_of_reply r.content)
 
-pub lawful_reply : (n now : ℕ) (s : Core) (logs : List History) (handed : List (List Batch)) (packets : List Outgoing) (replies : List Reply) (ids : List ℕ) (r : Reply)
-    → Lawful n s logs handed packets replies ids → In r replies → Lawful n (replied now (response_of r) s).after logs handed packets replies ids
+pub lawful_reply : {most : ℕ} (n now : ℕ) (s : Core) (logs : List History) (handed : List (List Batch)) (packets : List Outgoing) (replies : List Reply) (ids : List ℕ) (r : Reply)
+    → Lawful most n s logs handed packets replies ids → In r replies → Lawful most n (replied now (response_of r) s).after logs handed packets replies ids
 unfolding replied
-lawful_reply n now s logs handed packets replies ids r g i = at_end s.ended refl
+lawful_reply {most = most} n now s logs handed packets replies ids r g i = at_end s.ended refl
   where
-    at_end : (b : Bool) → s.ended ≡ b → Lawful n (reply_step now r s b).after logs handed packets replies ids
+    at_end : (b : Bool) → s.ended ≡ b → Lawful most n (reply_step now r s b).after logs handed packets replies ids
     at_end true e = g
     at_end false e = lawful_body n now s logs handed packets replies ids r g e i (awaited (pos r.correlation) s) (names_its (pos r.correlation) s) r.content refl

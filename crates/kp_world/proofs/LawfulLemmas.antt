@@ -35,18 +35,24 @@ use Rattle.kp_world.proofs.ListLemmas.{all_at, all_in, all_weaker, one_more}
 
 -- ---- what holds
 
-pub record Lawful (n : ℕ) (core : Core) (logs : List History) (handed : List (List Batch)) (packets : List Outgoing) (replies : List Reply) (ids : List ℕ) : Type 0 where
+pub record Lawful (most n : ℕ) (core : Core) (logs : List History) (handed : List (List Batch)) (packets : List Outgoing) (replies : List Reply) (ids : List ℕ) : Type 0 where
   pub count : length core.partitions ≡ n
   pub handed_count : length handed ≡ n
   pub logs_count : length logs ≡ n
-  pub window : core.config.max_in_flight_requests_per_connection ≤ 5
-  pub agree : AllAgree n ids core handed logs packets replies
+  pub window : core.config.max_in_flight_requests_per_connection ≤ most
+  pub some : 0 < most
+  pub agree : AllAgree most n ids core handed logs packets replies
   pub went : (o : Outgoing) → In o packets → Went n handed core o
   pub gave : (r : Reply) → In r replies → Given n ids core r
   pub asked : (q : IdRequest) → core.id_request ≡ Some q → q.correlation < core.correlation
 
+-- with at most so many requests in flight
+abbrev pub IsLawfulWithin : ℕ → ℕ → World → Type 0
+IsLawfulWithin most n w = Lawful most n w.core w.logs w.handed w.packets w.replies w.ids
+
+-- with at most five, as a producer's configuration allows
 abbrev pub IsLawful : ℕ → World → Type 0
-IsLawful n w = Lawful n w.core w.logs w.handed w.packets w.replies w.ids
+IsLawful n w = IsLawfulWithin 5 n w
 
 -- the batch is stored in its partition's log
 abbrev pub StoredAt : List History → ℕ → Batch → Type 0
@@ -54,16 +60,17 @@ StoredAt logs p b = IsStored (log_at p logs).records (sent_of b)
 
 -- ---- a call of the core
 
-pub lawful_core : (n : ℕ) (s s' : Core) (logs : List History) (handed : List (List Batch)) (packets : List Outgoing) (replies : List Reply) (ids : List ℕ)
-    → Lawful n s logs handed packets replies ids → CoreKeeps s s' → CoreLeaves (StoredAt logs) s s' → Lawful n s' logs handed packets replies ids
-lawful_core n s s' logs handed packets replies ids g k l = record {
+pub lawful_core : {most : ℕ} (n : ℕ) (s s' : Core) (logs : List History) (handed : List (List Batch)) (packets : List Outgoing) (replies : List Reply) (ids : List ℕ)
+    → Lawful most n s logs handed packets replies ids → CoreKeeps s s' → CoreLeaves (StoredAt logs) s s' → Lawful most n s' logs handed packets replies ids
+lawful_core {most = most} n s s' logs handed packets replies ids g k l = record {
   count = k.count ∙ g.count;
   handed_count = g.handed_count;
   logs_count = g.logs_count;
-  window = subst (λ (c : Config). c.max_in_flight_requests_per_connection ≤ 5) (sym l.config) g.window;
+  window = subst (λ (c : Config). c.max_in_flight_requests_per_connection ≤ most) (sym l.config) g.window;
+  some = g.some;
   agree = λ p h. record {
     sound = sound_kept ids (partition_at p s.partitions) (partition_at p s'.partitions) (handed_at p handed) (log_at p logs) (g.agree p h).sound (k.each p (within p h));
-    steady = subst (λ (next : ℕ). Steady p s'.ended next (partition_at p s'.partitions) (handed_at p handed) (log_at p logs) packets replies) (sym k.correlation)
+    steady = subst (λ (next : ℕ). Steady most p s'.ended next (partition_at p s'.partitions) (handed_at p handed) (log_at p logs) packets replies) (sym k.correlation)
         (steady_kept p s.correlation ids s.ended s'.ended (partition_at p s.partitions) (partition_at p s'.partitions) (handed_at p handed) (log_at p logs) packets replies (g.agree p h).sound (g.agree p h).steady l.ended (l.each p (within p h)));
   };
   went = λ o i. let w = g.went o i in record { before = subst (λ (m : ℕ). o.correlation < m) (sym k.correlation) w.before; parts = w.parts };
@@ -127,15 +134,15 @@ sends_cases c f now k t b e = at_fence t.fenced e
 
 -- ---- a partition once a request has gone out
 
-record Agreed (p : ℕ) (ids : List ℕ) (e : Bool) (next : ℕ) (t t' : Partition) (handed handed' : List Batch) (h : History) (packets : List Outgoing) (replies : List Reply) (o : Outgoing) : Type 0 where
+record Agreed (most p : ℕ) (ids : List ℕ) (e : Bool) (next : ℕ) (t t' : Partition) (handed handed' : List Batch) (h : History) (packets : List Outgoing) (replies : List Reply) (o : Outgoing) : Type 0 where
   pub sound : Sound ids t' handed' h
-  pub steady : Steady p e (next + 1) t' handed' h (packets ++ o ∷ []) replies
+  pub steady : Steady most p e (next + 1) t' handed' h (packets ++ o ∷ []) replies
   pub more : (c : Batch) → In c handed → In c handed'
   pub same_ids : t'.ids ≡ t.ids
 
 -- with the batch that has gone out
-record AgreedWith (p : ℕ) (ids : List ℕ) (e : Bool) (next : ℕ) (t t' : Partition) (handed handed' : List Batch) (h : History) (packets : List Outgoing) (replies : List Reply) (o : Outgoing) (b : Batch) : Type 0 where
-  pub all : Agreed p ids e next t t' handed handed' h packets replies o
+record AgreedWith (most p : ℕ) (ids : List ℕ) (e : Bool) (next : ℕ) (t t' : Partition) (handed handed' : List Batch) (h : History) (packets : List Outgoing) (replies : List Reply) (o : Outgoing) (b : Batch) : Type 0 where
+  pub all : Agreed most p ids e next t t' handed handed' h packets replies o
   pub known : In b handed'
 
 grown_old : (b : Batch) (handed : List Batch) → b.number < length handed → grown_by b handed ≡ handed
@@ -145,12 +152,12 @@ grown_old b handed below = at_test (b.number == length handed) refl
     at_test true is = let same : b.number ≡ length handed = eqb-true b.number (length handed) is in absurd (omega arith)
     at_test false is = refl
 
-agreed_again : (p : ℕ) (ids : List ℕ) (e : Bool) (next : ℕ) (t : Partition) (handed : List Batch) (h : History) (packets : List Outgoing) (replies : List Reply) (o : Outgoing) (b : Batch)
-    → Sound ids t handed h → Steady p e next t handed h packets replies → ((x : Outgoing) → In x packets → x.correlation < next) → o.correlation ≡ next → Says p b o.demand → GoesAgain next t b
-    → AgreedWith p ids e next t (sent_in next t) handed (grown_by b handed) h packets replies o b
-agreed_again p ids e next t handed h packets replies o b s k below named says a =
-    subst (λ (bs : List Batch). AgreedWith p ids e next t (sent_in next t) handed bs h packets replies o b) (sym (grown_old b handed (s.numbers b known)))
-    (subst (λ (u : Partition). AgreedWith p ids e next t u handed handed h packets replies o b) (sym a.after_is) (record {
+agreed_again : {most : ℕ} (p : ℕ) (ids : List ℕ) (e : Bool) (next : ℕ) (t : Partition) (handed : List Batch) (h : History) (packets : List Outgoing) (replies : List Reply) (o : Outgoing) (b : Batch)
+    → Sound ids t handed h → Steady most p e next t handed h packets replies → ((x : Outgoing) → In x packets → x.correlation < next) → o.correlation ≡ next → Says p b o.demand → GoesAgain next t b
+    → AgreedWith most p ids e next t (sent_in next t) handed (grown_by b handed) h packets replies o b
+agreed_again {most = most} p ids e next t handed h packets replies o b s k below named says a =
+    subst (λ (bs : List Batch). AgreedWith most p ids e next t (sent_in next t) handed bs h packets replies o b) (sym (grown_old b handed (s.numbers b known)))
+    (subst (λ (u : Partition). AgreedWith most p ids e next t u handed handed h packets replies o b) (sym a.after_is) (record {
       all = record {
         sound = sound_kept ids t (record t { open_batches = sent_again_in next t.open_batches }) handed h s (record { number = refl; sequence = refl; ids = refl; opens = λ bs all. opens bs all; queue = λ q. q });
         steady = steady_again p next e t handed h packets replies o a.lowest k below named a.waits (subst (λ (c : Batch). Says p c o.demand) (sym a.batch) says);
@@ -166,17 +173,17 @@ agreed_again p ids e next t handed h packets replies o b s k below named says a 
     opens : (bs : List Batch) → OpenIn bs t.open_batches → OpenIn bs (sent_again_in next t.open_batches)
     opens bs all = all_in (λ (x : Open). In x.batch bs) (sent_again_in next t.open_batches) (λ x i. let f = again_from next t.open_batches a.lowest a.waits x i in subst (λ (c : Batch). In c bs) (sym f.batch) (all_at (λ (y : Open). In y.batch bs) t.open_batches f.it all f.there))
 
-agreed_first : (p : ℕ) (ids : List ℕ) (c : Config) (e : Bool) (next : ℕ) (t : Partition) (handed : List Batch) (h : History) (packets : List Outgoing) (replies : List Reply) (o : Outgoing) (b : Batch)
-    → c.max_in_flight_requests_per_connection ≤ 5 → Sound ids t handed h → Steady p e next t handed h packets replies → ((x : Outgoing) → In x packets → x.correlation < next) → o.correlation ≡ next → Says p b o.demand → GoesFirst next c t b
-    → AgreedWith p ids e next t (sent_in next t) handed (grown_by b handed) h packets replies o b
+agreed_first : {most : ℕ} (p : ℕ) (ids : List ℕ) (c : Config) (e : Bool) (next : ℕ) (t : Partition) (handed : List Batch) (h : History) (packets : List Outgoing) (replies : List Reply) (o : Outgoing) (b : Batch)
+    → c.max_in_flight_requests_per_connection ≤ most → 0 < most → Sound ids t handed h → Steady most p e next t handed h packets replies → ((x : Outgoing) → In x packets → x.correlation < next) → o.correlation ≡ next → Says p b o.demand → GoesFirst next c t b
+    → AgreedWith most p ids e next t (sent_in next t) handed (grown_by b handed) h packets replies o b
 unfolding handed_over_in
-agreed_first p ids c e next t handed h packets replies o b five s k below named says a =
-    subst (λ (bs : List Batch). AgreedWith p ids e next t (sent_in next t) handed bs h packets replies o b) (sym grown)
-    (subst (λ (u : Partition). AgreedWith p ids e next t u handed (handed ++ b ∷ []) h packets replies o b) (sym a.after_is) (record {
+agreed_first {most = most} p ids c e next t handed h packets replies o b few some s k below named says a =
+    subst (λ (bs : List Batch). AgreedWith most p ids e next t (sent_in next t) handed bs h packets replies o b) (sym grown)
+    (subst (λ (u : Partition). AgreedWith most p ids e next t u handed (handed ++ b ∷ []) h packets replies o b) (sym a.after_is) (record {
       all = record {
         sound = sound_handed ids t (handed_over_in next t (a.front ∷ a.queue)) b handed h s (record { front = a.front; rest = a.queue; request = next; queue = a.queue_is; batch = a.batch; after_is = refl });
-        steady = subst (λ (x : Batch). Steady p e (next + 1) (handed_over_in next t (a.front ∷ a.queue)) (handed ++ x ∷ []) h (packets ++ o ∷ []) replies) (sym a.batch)
-            (steady_handed p next ids c e t handed h packets replies o a.front a.queue five s k below named a.confirmed a.in_span (subst (λ (x : Batch). Says p x o.demand) a.batch says));
+        steady = subst (λ (x : Batch). Steady most p e (next + 1) (handed_over_in next t (a.front ∷ a.queue)) (handed ++ x ∷ []) h (packets ++ o ∷ []) replies) (sym a.batch)
+            (steady_handed p next ids c e t handed h packets replies o a.front a.queue few some s k below named a.confirmed a.in_span (subst (λ (x : Batch). Says p x o.demand) a.batch says));
         more = λ x i. In-append_left x handed (b ∷ []) i;
         same_ids = refl;
       };
@@ -211,14 +218,15 @@ in_part (y ∷ xs) p e = at_test (y.partition == p) refl e (in_part xs p)
 abbrev packet : Core → Demand → Outgoing
 packet s d = record { correlation = s.correlation; demand = d }
 
-lawful_batches : (n now : ℕ) (s : Core) (logs : List History) (handed : List (List Batch)) (packets : List Outgoing) (replies : List Reply) (ids : List ℕ) (xs : List Sending)
-    → Lawful n s logs handed packets replies ids → AllByRecursion (IsSent now s) xs
-    → Lawful n (sent_out now s (Produce xs)) logs (with_sendings xs handed) (packets ++ packet s (Produce xs) ∷ []) replies ids
-lawful_batches n now s logs handed packets replies ids xs g all = record {
+lawful_batches : {most : ℕ} (n now : ℕ) (s : Core) (logs : List History) (handed : List (List Batch)) (packets : List Outgoing) (replies : List Reply) (ids : List ℕ) (xs : List Sending)
+    → Lawful most n s logs handed packets replies ids → AllByRecursion (IsSent now s) xs
+    → Lawful most n (sent_out now s (Produce xs)) logs (with_sendings xs handed) (packets ++ packet s (Produce xs) ∷ []) replies ids
+lawful_batches {most = most} n now s logs handed packets replies ids xs g all = record {
   count = length-changed_at (partitions_in xs) (λ p t. sent_in s.correlation t) s.partitions ∙ g.count;
   handed_count = length-with_sendings xs handed ∙ g.handed_count;
   logs_count = g.logs_count;
   window = g.window;
+  some = g.some;
   agree = λ p h. record { sound = (at p h).sound; steady = (at p h).steady };
   went = λ o i. ⊎_elim (λ (j : In o packets). earlier o (g.went o j)) (λ (same : o ≡ packet s (Produce xs)). subst (Went n (with_sendings xs handed) (sent_out now s (Produce xs))) (sym same) newest) (one_more packets (packet s (Produce xs)) o i);
   gave = λ r i. let w = g.gave r i in record {
@@ -251,7 +259,7 @@ lawful_batches n now s logs handed packets replies ids xs g all = record {
     changed p h = at-changed_at (partitions_in xs) (λ q u. sent_in s.correlation u) s.partitions p (within p h)
 
     with_it : (x : Sending) → In x xs → (h : x.partition < n)
-        → AgreedWith x.partition ids s.ended s.correlation (partition_at x.partition s.partitions) (partition_at x.partition (sent_out now s (Produce xs)).partitions) (handed_at x.partition handed) (handed_at x.partition (with_sendings xs handed)) (log_at x.partition logs) packets replies (packet s (Produce xs)) x.batch
+        → AgreedWith most x.partition ids s.ended s.correlation (partition_at x.partition s.partitions) (partition_at x.partition (sent_out now s (Produce xs)).partitions) (handed_at x.partition handed) (handed_at x.partition (with_sendings xs handed)) (log_at x.partition logs) packets replies (packet s (Produce xs)) x.batch
     with_it x i h =
         let is : is_in x.partition (partitions_in xs) ≡ true = part_in xs x i in
         let only : AllByRecursion (λ (y : Sending). y.partition ≡ x.partition → y.batch ≡ x.batch) xs = all_in (λ (y : Sending). y.partition ≡ x.partition → y.batch ≡ x.batch) xs (λ y j e. same_batch x y i j e) in
@@ -259,23 +267,23 @@ lawful_batches n now s logs handed packets replies ids xs g all = record {
         let after : partition_at x.partition (sent_out now s (Produce xs)).partitions ≡ sent_in s.correlation (partition_at x.partition s.partitions) = changed x.partition h ∙ ap (λ (b : Bool). if b then sent_in s.correlation (partition_at x.partition s.partitions) else partition_at x.partition s.partitions) is in
         let says : Says x.partition x.batch (Produce xs) = λ y j e. same_batch x y i j e in
         let both = g.agree x.partition h in
-        let it : AgreedWith x.partition ids s.ended s.correlation (partition_at x.partition s.partitions) (sent_in s.correlation (partition_at x.partition s.partitions)) (handed_at x.partition handed) (grown_by x.batch (handed_at x.partition handed)) (log_at x.partition logs) packets replies (packet s (Produce xs)) x.batch =
+        let it : AgreedWith most x.partition ids s.ended s.correlation (partition_at x.partition s.partitions) (sent_in s.correlation (partition_at x.partition s.partitions)) (handed_at x.partition handed) (grown_by x.batch (handed_at x.partition handed)) (log_at x.partition logs) packets replies (packet s (Produce xs)) x.batch =
         ⊎_elim
         (λ (a : GoesAgain s.correlation (partition_at x.partition s.partitions) x.batch). agreed_again x.partition ids s.ended s.correlation (partition_at x.partition s.partitions) (handed_at x.partition handed) (log_at x.partition logs) packets replies (packet s (Produce xs)) x.batch both.sound both.steady below refl says a)
-        (λ (a : GoesFirst s.correlation s.config (partition_at x.partition s.partitions) x.batch). agreed_first x.partition ids s.config s.ended s.correlation (partition_at x.partition s.partitions) (handed_at x.partition handed) (log_at x.partition logs) packets replies (packet s (Produce xs)) x.batch g.window both.sound both.steady below refl says a)
+        (λ (a : GoesFirst s.correlation s.config (partition_at x.partition s.partitions) x.batch). agreed_first x.partition ids s.config s.ended s.correlation (partition_at x.partition s.partitions) (handed_at x.partition handed) (log_at x.partition logs) packets replies (packet s (Produce xs)) x.batch g.window g.some both.sound both.steady below refl says a)
         (sends_cases s.config (flags_of s) now s.correlation (partition_at x.partition s.partitions) x.batch (sent_is x i).sends) in
-        subst (λ (hs : List Batch). AgreedWith x.partition ids s.ended s.correlation (partition_at x.partition s.partitions) (partition_at x.partition (sent_out now s (Produce xs)).partitions) (handed_at x.partition handed) hs (log_at x.partition logs) packets replies (packet s (Produce xs)) x.batch) (sym grown)
-        (subst (λ (u : Partition). AgreedWith x.partition ids s.ended s.correlation (partition_at x.partition s.partitions) u (handed_at x.partition handed) (grown_by x.batch (handed_at x.partition handed)) (log_at x.partition logs) packets replies (packet s (Produce xs)) x.batch) (sym after) it)
+        subst (λ (hs : List Batch). AgreedWith most x.partition ids s.ended s.correlation (partition_at x.partition s.partitions) (partition_at x.partition (sent_out now s (Produce xs)).partitions) (handed_at x.partition handed) hs (log_at x.partition logs) packets replies (packet s (Produce xs)) x.batch) (sym grown)
+        (subst (λ (u : Partition). AgreedWith most x.partition ids s.ended s.correlation (partition_at x.partition s.partitions) u (handed_at x.partition handed) (grown_by x.batch (handed_at x.partition handed)) (log_at x.partition logs) packets replies (packet s (Produce xs)) x.batch) (sym after) it)
 
     without : (p : ℕ) → p < n → is_in p (partitions_in xs) ≡ false
-        → Agreed p ids s.ended s.correlation (partition_at p s.partitions) (partition_at p (sent_out now s (Produce xs)).partitions) (handed_at p handed) (handed_at p (with_sendings xs handed)) (log_at p logs) packets replies (packet s (Produce xs))
+        → Agreed most p ids s.ended s.correlation (partition_at p s.partitions) (partition_at p (sent_out now s (Produce xs)).partitions) (handed_at p handed) (handed_at p (with_sendings xs handed)) (log_at p logs) packets replies (packet s (Produce xs))
     without p h is =
         let b : Batch = record { number = 0; id = 0; sequence = 0; items = [] } in
         let only : AllByRecursion (λ (y : Sending). y.partition ≡ p → y.batch ≡ b) xs = all_in (λ (y : Sending). y.partition ≡ p → y.batch ≡ b) xs (λ y j e. absurd (nothing y j e)) in
         let grown : handed_at p (with_sendings xs handed) ≡ handed_at p handed = at-with_sendings xs handed p b only inside ∙ ap (λ (c : Bool). if c then grown_by b (handed_at p handed) else handed_at p handed) is in
         let after : partition_at p (sent_out now s (Produce xs)).partitions ≡ partition_at p s.partitions = changed p h ∙ ap (λ (c : Bool). if c then sent_in s.correlation (partition_at p s.partitions) else partition_at p s.partitions) is in
-        subst (λ (hs : List Batch). Agreed p ids s.ended s.correlation (partition_at p s.partitions) (partition_at p (sent_out now s (Produce xs)).partitions) (handed_at p handed) hs (log_at p logs) packets replies (packet s (Produce xs))) (sym grown)
-        (subst (λ (u : Partition). Agreed p ids s.ended s.correlation (partition_at p s.partitions) u (handed_at p handed) (handed_at p handed) (log_at p logs) packets replies (packet s (Produce xs))) (sym after)
+        subst (λ (hs : List Batch). Agreed most p ids s.ended s.correlation (partition_at p s.partitions) (partition_at p (sent_out now s (Produce xs)).partitions) (handed_at p handed) hs (log_at p logs) packets replies (packet s (Produce xs))) (sym grown)
+        (subst (λ (u : Partition). Agreed most p ids s.ended s.correlation (partition_at p s.partitions) u (handed_at p handed) (handed_at p handed) (log_at p logs) packets replies (packet s (Produce xs))) (sym after)
         (record {
           sound = (g.agree p h).sound;
           steady = steady_passed_by p s.correlation s.ended (partition_at p s.partitions) (handed_at p handed) (log_at p logs) packets replies (packet s (Produce xs)) (g.agree p h).steady refl;
@@ -287,14 +295,14 @@ lawful_batches n now s logs handed packets replies ids xs g all = record {
         nothing y j e = let there : is_in p (partitions_in xs) ≡ true = subst (λ (m : ℕ). is_in m (partitions_in xs) ≡ true) e (part_in xs y j) in let both : false ≡ true = sym is ∙ there in cc
 
     at : (p : ℕ) → p < n
-        → Agreed p ids s.ended s.correlation (partition_at p s.partitions) (partition_at p (sent_out now s (Produce xs)).partitions) (handed_at p handed) (handed_at p (with_sendings xs handed)) (log_at p logs) packets replies (packet s (Produce xs))
+        → Agreed most p ids s.ended s.correlation (partition_at p s.partitions) (partition_at p (sent_out now s (Produce xs)).partitions) (handed_at p handed) (handed_at p (with_sendings xs handed)) (log_at p logs) packets replies (packet s (Produce xs))
     at p h = at_test (is_in p (partitions_in xs)) refl
       where
         at_test : (b : Bool) → is_in p (partitions_in xs) ≡ b
-            → Agreed p ids s.ended s.correlation (partition_at p s.partitions) (partition_at p (sent_out now s (Produce xs)).partitions) (handed_at p handed) (handed_at p (with_sendings xs handed)) (log_at p logs) packets replies (packet s (Produce xs))
+            → Agreed most p ids s.ended s.correlation (partition_at p s.partitions) (partition_at p (sent_out now s (Produce xs)).partitions) (handed_at p handed) (handed_at p (with_sendings xs handed)) (log_at p logs) packets replies (packet s (Produce xs))
         at_test true is =
             let x = in_part xs p is in
-            subst (λ (q : ℕ). Agreed q ids s.ended s.correlation (partition_at q s.partitions) (partition_at q (sent_out now s (Produce xs)).partitions) (handed_at q handed) (handed_at q (with_sendings xs handed)) (log_at q logs) packets replies (packet s (Produce xs))) x.2
+            subst (λ (q : ℕ). Agreed most q ids s.ended s.correlation (partition_at q s.partitions) (partition_at q (sent_out now s (Produce xs)).partitions) (handed_at q handed) (handed_at q (with_sendings xs handed)) (log_at q logs) packets replies (packet s (Produce xs))) x.2
             (with_it x.0 x.1 (subst (λ (q : ℕ). q < n) (sym x.2) h)).all
         at_test false is = without p h is
 
@@ -311,14 +319,15 @@ lawful_batches n now s logs handed packets replies ids xs g all = record {
       parts = all_in (λ (x : Sending). (x.partition < n) × In x.batch (handed_at x.partition (with_sendings xs handed))) xs (λ x i. let h : x.partition < n = subst (λ (m : ℕ). x.partition < m) g.count (sent_is x i).there in (h, (with_it x i h).known));
     }
 
-lawful_id : (n now : ℕ) (s : Core) (logs : List History) (handed : List (List Batch)) (packets : List Outgoing) (replies : List Reply) (ids : List ℕ) (p : ℕ)
-    → Lawful n s logs handed packets replies ids
-    → Lawful n (sent_out now s (InitProducerId p)) logs handed (packets ++ packet s (InitProducerId p) ∷ []) replies ids
+lawful_id : {most : ℕ} (n now : ℕ) (s : Core) (logs : List History) (handed : List (List Batch)) (packets : List Outgoing) (replies : List Reply) (ids : List ℕ) (p : ℕ)
+    → Lawful most n s logs handed packets replies ids
+    → Lawful most n (sent_out now s (InitProducerId p)) logs handed (packets ++ packet s (InitProducerId p) ∷ []) replies ids
 lawful_id n now s logs handed packets replies ids p g = record {
   count = g.count;
   handed_count = g.handed_count;
   logs_count = g.logs_count;
   window = g.window;
+  some = g.some;
   agree = λ q h. record {
     sound = (g.agree q h).sound;
     steady = steady_passed_by q s.correlation s.ended (partition_at q s.partitions) (handed_at q handed) (log_at q logs) packets replies (packet s (InitProducerId p)) (g.agree q h).steady refl;
@@ -343,20 +352,20 @@ spent_step w d b =
 abbrev end_step : World → Bool → Requested
 end_step w b = if b then nothing_out w.core (Err fault.Ended) else requested_for w.moment w.core (next_demand w.moment w.core)
 
-pub lawful_sending : (n : ℕ) (w : World) → IsLawful n w → IsLawful n (sending w (requested w.moment w.core).after (requested w.moment w.core).answer)
+pub lawful_sending : {most : ℕ} (n : ℕ) (w : World) → IsLawfulWithin most n w → IsLawfulWithin most n (sending w (requested w.moment w.core).after (requested w.moment w.core).answer)
 unfolding requested noted
-lawful_sending n w g = at_end w.core.ended
+lawful_sending {most = most} n w g = at_end w.core.ended
   where
     at_spent : (d : Demand) → next_demand w.moment w.core ≡ Some d → (b : Bool)
-        → IsLawful n (sending w (spent_step w d b).after (spent_step w d b).answer)
+        → IsLawfulWithin most n (sending w (spent_step w d b).after (spent_step w d b).answer)
     at_spent d e true = g
     at_spent (Produce xs) e false = lawful_batches n w.moment w.core w.logs w.handed w.packets w.replies w.ids xs g (demand_is_sent w.moment w.core xs e)
     at_spent (InitProducerId p) e false = lawful_id n w.moment w.core w.logs w.handed w.packets w.replies w.ids p g
 
-    at_demand : (o : Option Demand) → next_demand w.moment w.core ≡ o → IsLawful n (sending w (requested_for w.moment w.core o).after (requested_for w.moment w.core o).answer)
+    at_demand : (o : Option Demand) → next_demand w.moment w.core ≡ o → IsLawfulWithin most n (sending w (requested_for w.moment w.core o).after (requested_for w.moment w.core o).answer)
     at_demand None e = g
     at_demand (Some d) e = at_spent d e (is_spent w.core)
 
-    at_end : (b : Bool) → IsLawful n (sending w (end_step w b).after (end_step w b).answer)
+    at_end : (b : Bool) → IsLawfulWithin most n (sending w (end_step w b).after (end_step w b).answer)
     at_end true = g
     at_end false = at_demand (next_demand w.moment w.core) refl

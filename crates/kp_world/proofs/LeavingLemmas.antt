@@ -293,16 +293,15 @@ leaves_rejected P e k t = record {
   ids = refl;
 }
 
--- An answer to request k. Where it says that a batch is stored, that is of P; that a batch is older than those that the
--- broker knows is not answered to a request in flight.
+-- An answer to request k. Where it says that a batch is stored, or older than those that the broker knows, that is of P.
 pub leaves_answered : (P : Batch → Type 0) (e : Bool) (now k : ℕ) (t : Partition) (a : PartitionProduceResponse) → (verdict_of a.error_code ≡ Stored → SettlesOnly P k t)
-    → (verdict_of a.error_code ≡ Duplicate → (o : Open) → In o t.open_batches → o.attempt ≡ InFlight k → ⊥) → Leaves P e t (answered now k t a).after
+    → (verdict_of a.error_code ≡ Duplicate → SettlesOnly P k t) → Leaves P e t (answered now k t a).after
 unfolding answered
-leaves_answered P e now k t a only never = at_option (awaiting k t) refl
+leaves_answered P e now k t a only kept = at_option (awaiting k t) refl
   where
     at_verdict : (o : Open) → In o t.open_batches → o.attempt ≡ InFlight k → (v : Verdict) → verdict_of a.error_code ≡ v → Leaves P e t (settled now k t o a v).after
     at_verdict o i f Stored is = leaves_acknowledged P e k t (settled now k t o a Stored).after o (only is) i f refl refl refl refl
-    at_verdict o i f Duplicate is = absurd (never is o i f)
+    at_verdict o i f Duplicate is = leaves_acknowledged P e k t (settled now k t o a Duplicate).after o (kept is) i f refl refl refl refl
     at_verdict o i f Retry is = leaves_mapped P e (waiting_since now k) (alike_waiting now k) t (settled now k t o a Retry).after refl refl refl refl
     at_verdict o i f Reject is = leaves_rejected P e k t
 
