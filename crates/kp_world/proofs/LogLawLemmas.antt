@@ -19,9 +19,8 @@ use Rattle.kp_world.specs.Message.{sent_of}
 use Rattle.kp_world.specs.Run.{IsReached}
 use Rattle.kp_world.specs.World.{World}
 use Rattle.kp_world.proofs.BrokerLemmas.{Agrees}
-use Rattle.kp_world.proofs.GoodLemmas.{PartsIn}
 use Rattle.kp_world.proofs.HearingLemmas.{old_not_in_flight}
-use Rattle.kp_world.proofs.LawfulLemmas.{IsLawful}
+use Rattle.kp_world.proofs.LawfulLemmas.{PartsIn, IsLawful}
 use Rattle.kp_world.proofs.LeavingLemmas.{awaits_is, found}
 use Rattle.kp_world.proofs.PrefixLemmas.{lands}
 use Rattle.kp_world.proofs.RunLemmas.{lawful_reached}

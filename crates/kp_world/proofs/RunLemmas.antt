@@ -32,10 +32,9 @@ use Rattle.kp_world.specs.Run.{with_delivery, Steps, IsReached}
 use Rattle.kp_world.specs.World.{PartAnswer, ReplyContent, Batches, Id, Reply, World, opening, FIRST_ID, FIRST_CORRELATION}
 use Rattle.kp_world.proofs.BrokerLemmas.{Agrees, AllAgree, Known, PartsDelivered, parts_delivered}
 use Rattle.kp_world.proofs.FlightLemmas.{Carries, PartHolds, ContentHolds, Steady, steady_new, steady_grown, steady_replied}
-use Rattle.kp_world.proofs.GoodLemmas.{PartsIn, Given}
 use Rattle.kp_world.proofs.HearingLemmas.{lawful_reply}
 use Rattle.kp_world.proofs.KeepingLemmas.{CoreKeeps, core_appended, core_ticked, core_ended, core_flushed, core_disconnected, core_closed}
-use Rattle.kp_world.proofs.LawfulLemmas.{Lawful, IsLawful, StoredAt, lawful_core, lawful_sending, IsLawfulWithin}
+use Rattle.kp_world.proofs.LawfulLemmas.{Lawful, IsLawful, StoredAt, lawful_core, lawful_sending, IsLawfulWithin, PartsIn, Given}
 use Rattle.kp_world.proofs.LeavingLemmas.{CoreLeaves, left_appended, left_ticked, left_ended, left_flushed, left_disconnected, left_closed}
 use Rattle.kp_world.proofs.PrefixLemmas.{grown_others}
 use Rattle.kp_world.proofs.SoundLemmas.{Sound, sents, sound_new, sound_history, sound_drawn}
@@ -73,16 +72,17 @@ reply o content = record { correlation = o.correlation; content = content }
 
 -- ---- batches
 
+-- each of a packet's batches was handed over, and went out with it
+pub parts_known : {most : ℕ} (n : ℕ) (w : World) (o : Outgoing) (xs : List Sending) → IsLawfulWithin most n w → In o w.packets → o.demand ≡ Produce xs → Known n o.correlation w.handed w.packets xs
+parts_known n w o xs g i is x j =
+    let parts : PartsIn n w.handed (Produce xs) = subst (PartsIn n w.handed) is (g.went o i).parts in
+    let one = all_at (λ (y : Sending). (y.partition < n) × In y.batch (handed_at y.partition w.handed)) xs x parts j in
+    (one.0, one.1, record { packet = o; sent = i; named = refl; carries = subst (λ (e : Demand). Carries x.partition x.batch e) (sym is) (x, j, refl, refl) })
+
 pub parts_came : {most : ℕ} (n : ℕ) (w : World) (o : Outgoing) (xs : List Sending) (logs : List History) (answers : List PartAnswer) → IsLawfulWithin most n w → In o w.packets → o.demand ≡ Produce xs → PartsDeliver w.logs xs answers logs
     → PartsDelivered most n o.correlation w.ids w.core w.handed w.logs logs w.packets w.replies answers
 parts_came n w o xs logs answers g i is deliver =
-    parts_delivered n o.correlation w.ids w.core w.handed w.logs logs w.packets w.replies xs answers g.logs_count g.agree known deliver
-  where
-    known : Known n o.correlation w.handed w.packets xs
-    known x j =
-        let parts : PartsIn n w.handed (Produce xs) = subst (PartsIn n w.handed) is (g.went o i).parts in
-        let one = all_at (λ (y : Sending). (y.partition < n) × In y.batch (handed_at y.partition w.handed)) xs x parts j in
-        (one.0, one.1, record { packet = o; sent = i; named = refl; carries = subst (λ (e : Demand). Carries x.partition x.batch e) (sym is) (x, j, refl, refl) })
+    parts_delivered n o.correlation w.ids w.core w.handed w.logs logs w.packets w.replies xs answers g.logs_count g.agree (parts_known n w o xs g i is) deliver
 
 came_parts : {most : ℕ} (n : ℕ) (w : World) (o : Outgoing) (xs : List Sending) (d : Delivery) → IsLawfulWithin most n w → In o w.packets → o.demand ≡ Produce xs → Delivers w (Produce xs) d
     → Lawful most n w.core d.logs w.handed w.packets (w.replies ++ reply o d.content ∷ []) d.ids
