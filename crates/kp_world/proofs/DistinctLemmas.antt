@@ -24,10 +24,6 @@ abbrev Apart : {A : Type 0} (key : A → ℕ) → List A → Type 0
 Apart key [] = Unit {0}
 Apart key (x ∷ xs) = AllByRecursion (Differ key x) xs × Apart key xs
 
-apart_front : {A : Type 0} (key : A → ℕ) (xs ys : List A) → Apart key (xs ++ ys) → Apart key xs
-apart_front key [] ys h = tt
-apart_front key (x ∷ xs) ys h = (all_front (Differ key x) xs ys h.0, apart_front key xs ys h.1)
-
 apart_last : {A : Type 0} (key : A → ℕ) (ys : List A) (x : A) (xs : List A) → AllByRecursion (Differ key x) ys → AllByRecursion (Differ key x) xs → Apart key (ys ++ xs) → Apart key (ys ++ x ∷ xs)
 apart_last key [] x xs a b h = (b, h)
 apart_last key (y ∷ ys) x xs a b h = (

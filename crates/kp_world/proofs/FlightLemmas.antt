@@ -115,7 +115,7 @@ steady_kept {most = most} p next ids e e' t t' handed h packets replies s k ende
 }
   where
     present : present_id t ≡ present_id t'
-    present = rw l.ids refl
+    present = rw l.keeps.ids refl
 
     aloft : (o : Open) → CameFrom t.open_batches o → Aloft most p (present_id t') (length handed) next packets o
     aloft o c =

@@ -29,9 +29,9 @@ use Rattle.kp_world.specs.Delivering.{log_at, given}
 use Rattle.kp_world.specs.Message.{sent_of, part_response, epoch_for, body_of_reply, response_of}
 use Rattle.kp_world.specs.World.{PartAnswer, ReplyContent, Batches as Parts, Id as GivenId, Reply, names}
 use Rattle.kp_world.proofs.FlightLemmas.{PartHolds, ContentHolds, Steady, flies_same, steady_fresh}
-use Rattle.kp_world.proofs.KeepingLemmas.{Keeps, keeps_same, keeps_answered, core_at_these, length-changed_at, at-changed_at}
+use Rattle.kp_world.proofs.KeepingLemmas.{length-changed_at, at-changed_at}
 use Rattle.kp_world.proofs.LawfulLemmas.{Lawful, StoredAt, lawful_core}
-use Rattle.kp_world.proofs.LeavingLemmas.{Leaves, leaves_same, leaves_answered, SettlesOnly, at_some, left_in, found}
+use Rattle.kp_world.proofs.LeavingLemmas.{Leaves, leaves_same, leaves_answered, SettlesOnly, at_some, left_in, found, left_alike}
 use Rattle.kp_world.proofs.BrokerLemmas.{Agrees}
 use Rattle.kp_world.proofs.PrefixLemmas.{follows}
 use Rattle.kp_world.proofs.SoundLemmas.{Sound, sound_fresh}
@@ -150,13 +150,6 @@ leaves_part p now next k ids e t handed h packets replies r parts sound s i is n
 
 -- ---- a reply to a Produce request
 
-keeps_part : (now k : ℕ) (answers : Answers) (p : ℕ) (t : Partition) → Keeps t (answering now k answers p t).after
-keeps_part now k answers p t = at_first (answers_for p answers)
-  where
-    at_first : (xs : Answers) → Keeps t (first_answered now k t xs).after
-    at_first [] = keeps_same t
-    at_first (a ∷ xs) = keeps_answered now k t a
-
 abbrev batches_step : ℕ → Request → Core → Answers → Bool → Replies
 batches_step now q s answers b = if b then batches_answered now q answers s else faulty Mismatch s
 
@@ -168,10 +161,12 @@ lawful_parts {most = most} n now s logs handed packets replies ids q r parts g i
   where
     settles : Lawful most n (at_these q.partitions (answering now q.correlation (map part_response parts)) s) logs handed packets replies ids
     settles = lawful_core n s (at_these q.partitions (answering now q.correlation (map part_response parts)) s) logs handed packets replies ids g
-        (core_at_these q.partitions (answering now q.correlation (map part_response parts)) (keeps_part now q.correlation (map part_response parts)) s)
         (record {
+          count = length-changed_at q.partitions (λ p t. (answering now q.correlation (map part_response parts) p t).after) s.partitions;
           config = refl;
           ended = λ e. e;
+          correlation = refl;
+          asked = λ a e. e;
           each = λ p h. at_some (StoredAt logs) s.ended q.partitions (λ p' t. (answering now q.correlation (map part_response parts) p' t).after) s.partitions p h
               (let both : Agrees most n ids s handed logs packets replies p = g.agree p (subst (λ (m : ℕ). p < m) g.count h) in
               leaves_part p now s.correlation q.correlation ids s.ended (partition_at p s.partitions) (handed_at p handed) (log_at p logs) packets replies r parts both.sound both.steady i is named);
@@ -262,8 +257,7 @@ lawful_id_reply {most = most} n now s logs handed packets replies ids q r code i
   where
     refused : Lawful most n (id_refused now s) logs handed packets replies ids
     refused = lawful_core n s (id_refused now s) logs handed packets replies ids g
-        (record { count = refl; each = λ p h. keeps_same (partition_at p s.partitions); correlation = refl; asked = λ a e. absurd cc })
-        (record { config = refl; ended = λ e. e; each = λ p h. leaves_same (StoredAt logs p) s.ended (partition_at p s.partitions) })
+        (left_alike (StoredAt logs) s (id_refused now s) refl refl refl refl (λ a e. absurd cc))
 
     by_id : (z : ℤ) → id ≡ z → code ≡ pos 0 → answers_id (answer_of (pos 0) z) ≡ true → Lawful most n (id_given (nat_abs z) q s) logs handed packets replies ids
     by_id (pos m) at zero v = lawful_given n m s logs handed packets replies ids q r g going i (is ∙ ap (λ (c : ℤ). GivenId c id) zero ∙ ap (GivenId (pos 0)) at) asked named

@@ -27,7 +27,7 @@ use Rattle.kp_world.proofs.BrokerLemmas.{AllAgree}
 use Rattle.kp_world.proofs.FlightLemmas.{Says, Steady, steady_kept, steady_passed_by, steady_again, steady_handed}
 use Rattle.kp_world.proofs.RequestLemmas.{part_in, in_part, Only, only_this, none_here, grown_known, grown_new, length-with_sendings, at-with_sendings}
 use Rattle.kp_core.proofs.CallLemmas.{at_requested}
-use Rattle.kp_world.proofs.KeepingLemmas.{CoreKeeps, length-changed_at, at-changed_at}
+use Rattle.kp_world.proofs.KeepingLemmas.{length-changed_at, at-changed_at}
 use Rattle.kp_world.proofs.LeavingLemmas.{CoreLeaves}
 use Rattle.kp_world.proofs.SendingLemmas.{find_open, opens_again, IsSent, demand_is_sent}
 use Rattle.kp_world.proofs.SoundLemmas.{Sound, sound_kept, sound_handed}
@@ -80,25 +80,25 @@ StoredAt logs p b = IsStored (log_at p logs).records (sent_of b)
 -- ---- a call of the core
 
 pub lawful_core : {most : ℕ} (n : ℕ) (s s' : Core) (logs : List History) (handed : List (List Batch)) (packets : List Outgoing) (replies : List Reply) (ids : List ℕ)
-    → Lawful most n s logs handed packets replies ids → CoreKeeps s s' → CoreLeaves (StoredAt logs) s s' → Lawful most n s' logs handed packets replies ids
-lawful_core {most = most} n s s' logs handed packets replies ids g k l = record {
-  count = k.count ∙ g.count;
+    → Lawful most n s logs handed packets replies ids → CoreLeaves (StoredAt logs) s s' → Lawful most n s' logs handed packets replies ids
+lawful_core {most = most} n s s' logs handed packets replies ids g l = record {
+  count = l.count ∙ g.count;
   handed_count = g.handed_count;
   logs_count = g.logs_count;
   window = subst (λ (c : Config). c.max_in_flight_requests_per_connection ≤ most) (sym l.config) g.window;
   some = g.some;
   agree = λ p h. record {
-    sound = sound_kept ids (partition_at p s.partitions) (partition_at p s'.partitions) (handed_at p handed) (log_at p logs) (g.agree p h).sound (k.each p (within p h));
-    steady = subst (λ (next : ℕ). Steady most p s'.ended next (partition_at p s'.partitions) (handed_at p handed) (log_at p logs) packets replies) (sym k.correlation)
+    sound = sound_kept ids (partition_at p s.partitions) (partition_at p s'.partitions) (handed_at p handed) (log_at p logs) (g.agree p h).sound (l.each p (within p h)).keeps;
+    steady = subst (λ (next : ℕ). Steady most p s'.ended next (partition_at p s'.partitions) (handed_at p handed) (log_at p logs) packets replies) (sym l.correlation)
         (steady_kept p s.correlation ids s.ended s'.ended (partition_at p s.partitions) (partition_at p s'.partitions) (handed_at p handed) (log_at p logs) packets replies (g.agree p h).sound (g.agree p h).steady l.ended (l.each p (within p h)));
   };
-  went = λ o i. let w = g.went o i in record { before = subst (λ (m : ℕ). o.correlation < m) (sym k.correlation) w.before; parts = w.parts };
+  went = λ o i. let w = g.went o i in record { before = subst (λ (m : ℕ). o.correlation < m) (sym l.correlation) w.before; parts = w.parts };
   gave = λ r i. let w = g.gave r i in record {
-    before = subst (λ (m : ℕ). r.correlation < m) (sym k.correlation) w.before;
+    before = subst (λ (m : ℕ). r.correlation < m) (sym l.correlation) w.before;
     drawn = w.drawn;
-    spare = λ id q e a c p h at. w.spare id q e (k.asked q a) c p h (subst (λ (is : List ℕ). In id is) (k.each p (within p h)).ids at);
+    spare = λ id q e a c p h at. w.spare id q e (l.asked q a) c p h (subst (λ (is : List ℕ). In id is) (l.each p (within p h)).keeps.ids at);
   };
-  asked = λ q e. subst (λ (m : ℕ). q.correlation < m) (sym k.correlation) (g.asked q (k.asked q e));
+  asked = λ q e. subst (λ (m : ℕ). q.correlation < m) (sym l.correlation) (g.asked q (l.asked q e));
 }
   where
     within : (p : ℕ) → p < n → p < length s.partitions

@@ -210,7 +210,7 @@ cut_kept ids t t' handed h e s cut l = record {
   rest = cut.rest;
   split = cut.split;
   appended = cut.appended;
-  owned = subst (λ (is : List ℕ). own is h.records ≡ records_of h.batches) (sym l.ids) cut.owned;
+  owned = subst (λ (is : List ℕ). own is h.records ≡ records_of h.batches) (sym l.keeps.ids) cut.owned;
   places = cut.places;
   current = λ b i. cut.current b i ∙ sym present;
   first = λ n. same (cut.first n);
@@ -218,7 +218,7 @@ cut_kept ids t t' handed h e s cut l = record {
 }
   where
     present : present_id t' ≡ present_id t
-    present = ap (λ (is : List ℕ). unwrap_or (last_or None is) 0) l.ids
+    present = ap (λ (is : List ℕ). unwrap_or (last_or None is) 0) l.keeps.ids
 
     same : 0 < count_of (pos (present_id t)) h.records → 0 < count_of (pos (present_id t')) h.records
     same n = subst (λ (i : ℕ). 0 < count_of (pos i) h.records) (sym present) n

@@ -33,7 +33,6 @@ use Rattle.kp_world.specs.World.{PartAnswer, ReplyContent, Batches, Id, Reply, W
 use Rattle.kp_world.proofs.BrokerLemmas.{Agrees, AllAgree, Known, PartsDelivered, parts_delivered}
 use Rattle.kp_world.proofs.FlightLemmas.{Carries, PartHolds, ContentHolds, Steady, steady_new, steady_grown, steady_replied}
 use Rattle.kp_world.proofs.HearingLemmas.{lawful_reply}
-use Rattle.kp_world.proofs.KeepingLemmas.{CoreKeeps, core_appended, core_ticked, core_ended, core_flushed, core_disconnected, core_closed}
 use Rattle.kp_world.proofs.LawfulLemmas.{Lawful, IsLawful, StoredAt, lawful_core, lawful_sending, IsLawfulWithin, PartsIn, Given}
 use Rattle.kp_world.proofs.LeavingLemmas.{CoreLeaves, left_appended, left_ticked, left_ended, left_flushed, left_disconnected, left_closed}
 use Rattle.kp_world.proofs.PrefixLemmas.{grown_others}
@@ -195,15 +194,15 @@ lawful_others {most = most} n p m core logs handed packets replies ids within g 
 
 -- ---- the producer's events
 
-lawful_called : {most : ℕ} (n : ℕ) (w : World) (s : Core) → IsLawfulWithin most n w → CoreKeeps w.core s → CoreLeaves (StoredAt w.logs) w.core s → Lawful most n s w.logs w.handed w.packets w.replies w.ids
-lawful_called n w s g k l = lawful_core n w.core s w.logs w.handed w.packets w.replies w.ids g k l
+lawful_called : {most : ℕ} (n : ℕ) (w : World) (s : Core) → IsLawfulWithin most n w → CoreLeaves (StoredAt w.logs) w.core s → Lawful most n s w.logs w.handed w.packets w.replies w.ids
+lawful_called n w s g l = lawful_core n w.core s w.logs w.handed w.packets w.replies w.ids g l
 
 lawful_taken : {most : ℕ} (n s : ℕ) (i : Item) (w : World) → IsLawfulWithin most n w → IsLawfulWithin most n (taking s (Some i) w)
 unfolding noted
 lawful_taken {most = most} n s i w g = at_answer (appended i w.core).answer
   where
     after : Lawful most n (appended i w.core).after w.logs w.handed w.packets w.replies w.ids
-    after = lawful_called n w (appended i w.core).after g (core_appended i w.core) (left_appended (StoredAt w.logs) i w.core)
+    after = lawful_called n w (appended i w.core).after g (left_appended (StoredAt w.logs) i w.core)
 
     at_answer : (a : Result (Unit {0}) AppendFault) → IsLawfulWithin most n (taking_of s (appended i w.core).after (appended i w.core).told a w)
     at_answer (Ok y) = after
@@ -217,13 +216,13 @@ lawful_client n w g = record {
   none_taken = λ s. g;
   taken = λ s i there is. lawful_taken n s i w g;
   now = λ moment. g;
-  tick = lawful_called n w (ticked w.moment w.core).after g (core_ticked w.moment w.core) (left_ticked (StoredAt w.logs) w.moment w.core);
+  tick = lawful_called n w (ticked w.moment w.core).after g (left_ticked (StoredAt w.logs) w.moment w.core);
   send = lawful_sending n w g;
   reply = λ j r is. lawful_reply n w.moment w.core w.logs w.handed w.packets w.replies w.ids r g (in_at w.replies j r is);
-  lost = lawful_called n w (disconnected w.moment w.core) g (core_disconnected w.moment w.core) (left_disconnected (StoredAt w.logs) w.moment w.core);
-  close = lawful_called n w (closed w.core) g (core_closed w.core) (left_closed (StoredAt w.logs) w.core);
-  end = lawful_called n w (ended w.core).after g (core_ended w.core) (left_ended (StoredAt w.logs) w.core);
-  flush = lawful_called n w (flushed w.core) g (core_flushed w.core) (left_flushed (StoredAt w.logs) w.core);
+  lost = lawful_called n w (disconnected w.moment w.core) g (left_disconnected (StoredAt w.logs) w.moment w.core);
+  close = lawful_called n w (closed w.core) g (left_closed (StoredAt w.logs) w.core);
+  end = lawful_called n w (ended w.core).after g (left_ended (StoredAt w.logs) w.core);
+  flush = lawful_called n w (flushed w.core) g (left_flushed (StoredAt w.logs) w.core);
 }
 
 -- ---- runs
