@@ -6,7 +6,6 @@ use Rattle.std.specs.Ordering.{int_eq}
 use Rattle.std.specs.Str.{bytes_eq}
 use Rattle.std.proofs.lemmas.Bool.{and_parts}
 use Rattle.std.proofs.lemmas.Bool.Decides.{Decides-int_eq}
-use Rattle.kp_frames.specs.declared.fault.FrameFault.TheVariants.{Mismatch}
 use Rattle.kp_frames.specs.declared.produce.PartitionProduceResponse.{PartitionProduceResponse}
 use Rattle.kp_frames.specs.declared.producer_id.InitProducerIdResponse.{InitProducerIdResponse}
 use Rattle.kp_log.specs.BrokerStep.{Stands, NO_ERROR, DUPLICATE_SEQUENCE_NUMBER}
@@ -18,10 +17,10 @@ use Rattle.kp_core.specs.declared.verdict.Verdict.TheVariants.{Stored, Duplicate
 use Rattle.kp_core.specs.Answered.{verdict_of, retried_codes}
 use Rattle.kp_core.specs.Awaited.{Awaited, Nothing, Batches, Id, id_awaited, or_id, awaited}
 use Rattle.kp_core.specs.MaySend.{wants_id, front_is_past_limit}
-use Rattle.kp_core.specs.Mismatch.{Answers, is_for, answers_for, answers_of, answer_batches, is_given, answers_id}
+use Rattle.kp_core.specs.Mismatch.{Answers, is_for, answers_for, answers_of, is_given, answers_id}
 use Rattle.kp_core.specs.Partitions.{partition_at, is_in, is_empty}
 use Rattle.kp_core.specs.Records.{Batch, Open, Partition, Request, IdRequest, Core}
-use Rattle.kp_core.specs.Replies.{first_answered, answering, batches_answered, batches_replied, under, under_if_wanted, id_given, id_refused, id_answered, id_replied, replied_to, replied, after_end, faulty, known, Replies}
+use Rattle.kp_core.specs.Replies.{first_answered, answering, batches_answered, under, under_if_wanted, id_given, id_refused, id_answered, replied, Replies}
 use Rattle.kp_core.specs.Requesting.{Outgoing}
 use Rattle.kp_core.specs.Telling.{at_these, with_partitions}
 use Rattle.kp_world.specs.Client.{handed_at}
@@ -36,6 +35,9 @@ use Rattle.kp_world.proofs.BrokerLemmas.{Agrees}
 use Rattle.kp_world.proofs.PrefixLemmas.{follows}
 use Rattle.kp_world.proofs.SoundLemmas.{Sound, sound_fresh}
 use Rattle.kp_world.proofs.ListLemmas.{all_at}
+use Rattle.kp_core.proofs.CallLemmas.{OfReply, at_replied_going}
+use Rattle.kp_frames.specs.declared.produce.ProduceResponse.{ProduceResponse}
+use Rattle.kp_frames.specs.declared.response.ResponseBody.TheVariants.{Produce, InitProducerId}
 
 -- ---- which request a reply names
 
@@ -150,35 +152,31 @@ leaves_part p now next k ids e t handed h packets replies r parts sound s i is n
 
 -- ---- a reply to a Produce request
 
-abbrev batches_step : ℕ → Request → Core → Answers → Bool → Replies
-batches_step now q s answers b = if b then batches_answered now q answers s else faulty Mismatch s
+-- the answers that a reply has for this topic are its parts
+pub parts_heard : (topic : List ℕ) (c : ReplyContent) (x : ProduceResponse) (answers : Answers) → body_of_reply c ≡ Produce x → answers_of topic x.topics ≡ Some answers → (parts : List PartAnswer) × (c ≡ Parts parts) × (map part_response parts ≡ answers)
+parts_heard topic (GivenId code id) x answers is e = absurd cc
+parts_heard topic (Parts parts) x answers is e =
+    let same : (record { topics = (record { topic = names.topic; partitions = map part_response parts }) ∷ []; throttle_time_ms = pos 0 }) ≡ x = cc in
+    (parts, refl, at_topic (bytes_eq names.topic topic) (ap (λ (y : ProduceResponse). answers_of topic y.topics) same ∙ e))
+  where
+    at_topic : (b : Bool) → (if b then Some (map part_response parts) else None) ≡ Some answers → map part_response parts ≡ answers
+    at_topic true e' = cc
+    at_topic false e' = absurd cc
 
 lawful_parts : {most : ℕ} (n now : ℕ) (s : Core) (logs : List History) (handed : List (List Batch)) (packets : List Outgoing) (replies : List Reply) (ids : List ℕ) (q : Request) (r : Reply) (parts : List PartAnswer)
     → Lawful most n s logs handed packets replies ids → In r replies → r.content ≡ Parts parts → q.correlation ≡ r.correlation
-    → Lawful most n (batches_replied now q s (answers_of s.names.topic ((record { topic = names.topic; partitions = map part_response parts }) ∷ []))).after logs handed packets replies ids
+    → Lawful most n (batches_answered now q (map part_response parts) s).after logs handed packets replies ids
 unfolding at_these with_partitions
-lawful_parts {most = most} n now s logs handed packets replies ids q r parts g i is named = at_topic (bytes_eq names.topic s.names.topic)
-  where
-    settles : Lawful most n (at_these q.partitions (answering now q.correlation (map part_response parts)) s) logs handed packets replies ids
-    settles = lawful_core n s (at_these q.partitions (answering now q.correlation (map part_response parts)) s) logs handed packets replies ids g
-        (record {
-          count = length-changed_at q.partitions (λ p t. (answering now q.correlation (map part_response parts) p t).after) s.partitions;
-          config = refl;
-          ended = λ e. e;
-          correlation = refl;
-          asked = λ a e. e;
-          each = λ p h. at_some (StoredAt logs) s.ended q.partitions (λ p' t. (answering now q.correlation (map part_response parts) p' t).after) s.partitions p h
-              (let both : Agrees most n ids s handed logs packets replies p = g.agree p (subst (λ (m : ℕ). p < m) g.count h) in
-              leaves_part p now s.correlation q.correlation ids s.ended (partition_at p s.partitions) (handed_at p handed) (log_at p logs) packets replies r parts both.sound both.steady i is named);
-        })
-
-    at_answers : (b : Bool) → Lawful most n (batches_step now q s (map part_response parts) b).after logs handed packets replies ids
-    at_answers true = settles
-    at_answers false = g
-
-    at_topic : (b : Bool) → Lawful most n (batches_replied now q s (if b then Some (map part_response parts) else None)).after logs handed packets replies ids
-    at_topic true = at_answers (answer_batches q.correlation q.partitions s.partitions (map part_response parts))
-    at_topic false = g
+lawful_parts n now s logs handed packets replies ids q r parts g i is named = lawful_core n s (batches_answered now q (map part_response parts) s).after logs handed packets replies ids g (record {
+  count = length-changed_at q.partitions (λ p t. (answering now q.correlation (map part_response parts) p t).after) s.partitions;
+  config = refl;
+  ended = λ e. e;
+  correlation = refl;
+  asked = λ a e. e;
+  each = λ p h. at_some (StoredAt logs) s.ended q.partitions (λ p' t. (answering now q.correlation (map part_response parts) p' t).after) s.partitions p h
+      (let both = g.agree p (subst (λ (m : ℕ). p < m) g.count h) in
+      leaves_part p now s.correlation q.correlation ids s.ended (partition_at p s.partitions) (handed_at p handed) (log_at p logs) packets replies r parts both.sound both.steady i is named);
+})
 
 -- ---- a reply to an InitProducerId request
 
@@ -246,58 +244,48 @@ lawful_given {most = most} n id s logs handed packets replies ids q r g going i 
 abbrev pub answer_of : ℤ → ℤ → InitProducerIdResponse
 answer_of code id = record { throttle_time_ms = pos 0; error_code = code; producer_id = id; producer_epoch = epoch_for code }
 
-abbrev id_step : ℕ → IdRequest → InitProducerIdResponse → Core → Bool → Replies
-id_step now q x s b = if b then known (id_answered now q x s) [] else faulty Mismatch s
+-- the answer to a request for an id is what the reply gives
+pub id_heard : (c : ReplyContent) (x : InitProducerIdResponse) → body_of_reply c ≡ InitProducerId x → (code id : ℤ) × (c ≡ GivenId code id) × (answer_of code id ≡ x)
+id_heard (Parts parts) x is = absurd cc
+id_heard (GivenId code id) x is = (code, id, refl, cc)
 
 lawful_id_reply : {most : ℕ} (n now : ℕ) (s : Core) (logs : List History) (handed : List (List Batch)) (packets : List Outgoing) (replies : List Reply) (ids : List ℕ) (q : IdRequest) (r : Reply) (code id : ℤ)
-    → Lawful most n s logs handed packets replies ids → s.ended ≡ false → In r replies → r.content ≡ GivenId code id → s.id_request ≡ Some q → q.correlation ≡ r.correlation
-    → Lawful most n (id_replied now q (answer_of code id) s).after logs handed packets replies ids
+    → Lawful most n s logs handed packets replies ids → s.ended ≡ false → In r replies → r.content ≡ GivenId code id → s.id_request ≡ Some q → q.correlation ≡ r.correlation → answers_id (answer_of code id) ≡ true
+    → Lawful most n (id_answered now q (answer_of code id) s) logs handed packets replies ids
 unfolding answers_id
-lawful_id_reply {most = most} n now s logs handed packets replies ids q r code id g going i is asked named = at_valid (answers_id (answer_of code id)) refl
+lawful_id_reply {most = most} n now s logs handed packets replies ids q r code id g going i is asked named valid = at_given (is_given (answer_of code id)) refl
   where
-    refused : Lawful most n (id_refused now s) logs handed packets replies ids
-    refused = lawful_core n s (id_refused now s) logs handed packets replies ids g
-        (left_alike (StoredAt logs) s (id_refused now s) refl refl refl refl (λ a e. absurd cc))
-
     by_id : (z : ℤ) → id ≡ z → code ≡ pos 0 → answers_id (answer_of (pos 0) z) ≡ true → Lawful most n (id_given (nat_abs z) q s) logs handed packets replies ids
     by_id (pos m) at zero v = lawful_given n m s logs handed packets replies ids q r g going i (is ∙ ap (λ (c : ℤ). GivenId c id) zero ∙ ap (GivenId (pos 0)) at) asked named
     by_id (negsuc m) at zero v = absurd cc
 
-    at_given : (b : Bool) → is_given (answer_of code id) ≡ b → answers_id (answer_of code id) ≡ true → Lawful most n (if b then id_given (nat_abs id) q s else id_refused now s) logs handed packets replies ids
-    at_given true e v =
+    at_given : (b : Bool) → is_given (answer_of code id) ≡ b → Lawful most n (if b then id_given (nat_abs id) q s else id_refused now s) logs handed packets replies ids
+    at_given true e =
         let zero : code ≡ pos 0 = (Decides-int_eq code (pos 0)).0 e in
-        by_id id refl zero (subst (λ (c : ℤ). answers_id (answer_of c id) ≡ true) zero v)
-    at_given false e v = refused
-
-    at_valid : (b : Bool) → answers_id (answer_of code id) ≡ b → Lawful most n (id_step now q (answer_of code id) s b).after logs handed packets replies ids
-    at_valid true v = at_given (is_given (answer_of code id)) refl v
-    at_valid false v = g
+        by_id id refl zero (subst (λ (c : ℤ). answers_id (answer_of c id) ≡ true) zero valid)
+    at_given false e =
+        lawful_core n s (id_refused now s) logs handed packets replies ids g (left_alike (StoredAt logs) s (id_refused now s) refl refl refl refl (λ a e. absurd cc))
 
 -- ---- any reply
 
 pub same_correlation : (a b : ℕ) → pos a ≡ pos b → a ≡ b
 same_correlation a b e = cc
 
-lawful_body : {most : ℕ} (n now : ℕ) (s : Core) (logs : List History) (handed : List (List Batch)) (packets : List Outgoing) (replies : List Reply) (ids : List ℕ) (r : Reply)
-    → Lawful most n s logs handed packets replies ids → s.ended ≡ false → In r replies → (who : Awaited) → Names (pos r.correlation) s who → (c : ReplyContent) → r.content ≡ c
-    → Lawful most n (replied_to now s who (body_of_reply c)).after logs handed packets replies ids
-lawful_body n now s logs handed packets replies ids r g going i Nothing it c is = g
-lawful_body n now s logs handed packets replies ids r g going i (Batches q) it (Parts parts) is =
-    lawful_parts n now s logs handed packets replies ids q r parts g i is (same_correlation q.correlation r.correlation it)
-lawful_body n now s logs handed packets replies ids r g going i (Batches q) it (GivenId code id) is = g
-lawful_body n now s logs handed packets replies ids r g going i (Id q) it (Parts parts) is = g
-lawful_body n now s logs handed packets replies ids r g going i (Id q) it (GivenId code id) is =
-    lawful_id_reply n now s logs handed packets replies ids q r code id g going i is it.0 (same_correlation q.correlation r.correlation it.1)
-
-abbrev reply_step : ℕ → Reply → Core → Bool → Replies
-reply_step now r s b =
-    if b then after_end s else replied_to now s (awaited (pos r.correlation) s) (body_of_reply r.content)
-
 pub lawful_reply : {most : ℕ} (n now : ℕ) (s : Core) (logs : List History) (handed : List (List Batch)) (packets : List Outgoing) (replies : List Reply) (ids : List ℕ) (r : Reply)
     → Lawful most n s logs handed packets replies ids → In r replies → Lawful most n (replied now (response_of r) s).after logs handed packets replies ids
-unfolding replied
-lawful_reply {most = most} n now s logs handed packets replies ids r g i = at_end s.ended refl
+lawful_reply {most = most} n now s logs handed packets replies ids r g i =
+    at_replied_going (λ (x : Replies). Lawful most n x.after logs handed packets replies ids) now (response_of r) s g heard
   where
-    at_end : (b : Bool) → s.ended ≡ b → Lawful most n (reply_step now r s b).after logs handed packets replies ids
-    at_end true e = g
-    at_end false e = lawful_body n now s logs handed packets replies ids r g e i (awaited (pos r.correlation) s) (names_its (pos r.correlation) s) r.content refl
+    heard : s.ended ≡ false → OfReply (λ (x : Replies). Lawful most n x.after logs handed packets replies ids) now (response_of r) s
+    heard going = record {
+      same = λ answer. g;
+      batches = λ q x answers who is e all.
+          let named : pos q.correlation ≡ pos r.correlation = subst (Names (pos r.correlation) s) who (names_its (pos r.correlation) s) in
+          let it = parts_heard s.names.topic r.content x answers is e in
+          subst (λ (as' : Answers). Lawful most n (batches_answered now q as' s).after logs handed packets replies ids) it.2 (lawful_parts n now s logs handed packets replies ids q r it.0 g i it.1 (same_correlation q.correlation r.correlation named));
+      id = λ q x who is valid.
+          let named : (s.id_request ≡ Some q) × (pos q.correlation ≡ pos r.correlation) = subst (Names (pos r.correlation) s) who (names_its (pos r.correlation) s) in
+          let it = id_heard r.content x is in
+          subst (λ (y : InitProducerIdResponse). Lawful most n (id_answered now q y s) logs handed packets replies ids) it.3 (lawful_id_reply n now s logs handed packets replies ids q r it.0 it.1 g going i it.2 named.0 (same_correlation q.correlation r.correlation named.1)
+          (subst (λ (y : InitProducerIdResponse). answers_id y ≡ true) (sym it.3) valid));
+    }
