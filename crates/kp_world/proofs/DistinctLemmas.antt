@@ -1,8 +1,8 @@
 -- The partitions of a request are distinct.
 use Rattle.std.proofs.Common.{◌≡◌, ℕ, ◌+◌, ◌-◌, ◌≤◌, Bool, true, false, List, [], ◌∷◌, ◌++◌, take, drop, Some, None, refl, sym, ap, ◌∙◌, subst, arith}
-use Rattle.std.specs.Prelude.{Option, if◌then◌else◌, option_map, filter_map, nat_le, ◌==◌, ◌||◌}
+use Rattle.std.specs.Prelude.{Option, if◌then◌else◌, option_map, filter_map, nat_le, ◌||◌}
 use Rattle.std.specs.List.{AllByRecursion, cons_option, enumerate_from}
-use Rattle.std.proofs.lemmas.Bool.{eqb-true}
+use Rattle.std.proofs.lemmas.Bool.{ne_eqb}
 use Rattle.std.proofs.lemmas.List.{take-append-drop}
 use Rattle.kp_accum.specs.Queue.{size_of}
 use Rattle.kp_core.specs.MaySend.{sends}
@@ -97,11 +97,7 @@ fitting_apart room (x ∷ xs) h = at_test (nat_le (size_of x.batch.items) room) 
 
 not_among : (x : Sending) (xs : List Sending) → AllByRecursion (Differ partition_of x) xs → is_in x.partition (partitions_in xs) ≡ false
 not_among x [] h = refl
-not_among x (y ∷ xs) h = ap (λ (b : Bool). b || is_in x.partition (partitions_in xs)) (at_test (y.partition == x.partition) refl) ∙ not_among x xs h.1
-  where
-    at_test : (b : Bool) → (y.partition == x.partition) ≡ b → b ≡ false
-    at_test true is = absurd (h.0 (sym (eqb-true y.partition x.partition is)))
-    at_test false is = refl
+not_among x (y ∷ xs) h = ap (λ (b : Bool). b || is_in x.partition (partitions_in xs)) (ne_eqb y.partition x.partition (λ e. h.0 (sym e))) ∙ not_among x xs h.1
 
 distinct : (xs : List Sending) → Apart partition_of xs → Distinct (partitions_in xs)
 distinct [] h = tt

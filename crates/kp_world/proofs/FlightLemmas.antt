@@ -331,14 +331,12 @@ steady_handed {most = most} p next ids c e t handed h packets replies o front qu
 
 -- ---- the log grows, and an answer is given
 
-content_grown : (p count k : ℕ) (packets : List Outgoing) (records more : List Stored) (c : ReplyContent) → ContentHolds p count k packets records c → ContentHolds p count k packets (records ++ more) c
-content_grown p count k packets records more (Batches parts) h = λ a i e.
-    let x : PartHolds p count k packets records a.answer = h a i e in
-    record { batch = x.batch; carried = x.carried; stored = λ s. stands_still records more (sent_of x.batch) a.answer.base (x.stored s); kept = λ d. stored_still records more (sent_of x.batch) (x.kept d); old = x.old }
-content_grown p count k packets records more (Id code id) h = tt
-
 pub part_grown : (p count k : ℕ) (packets : List Outgoing) (records more : List Stored) (a : Answered) → PartHolds p count k packets records a → PartHolds p count k packets (records ++ more) a
 part_grown p count k packets records more a x = record { batch = x.batch; carried = x.carried; stored = λ s. stands_still records more (sent_of x.batch) a.base (x.stored s); kept = λ d. stored_still records more (sent_of x.batch) (x.kept d); old = x.old }
+
+content_grown : (p count k : ℕ) (packets : List Outgoing) (records more : List Stored) (c : ReplyContent) → ContentHolds p count k packets records c → ContentHolds p count k packets (records ++ more) c
+content_grown p count k packets records more (Batches parts) h = λ a i e. part_grown p count k packets records more a.answer (h a i e)
+content_grown p count k packets records more (Id code id) h = tt
 
 pub steady_grown : {most : ℕ} (p next : ℕ) (e : Bool) (t : Partition) (handed : List Batch) (h h' : History) (packets : List Outgoing) (replies : List Reply) → Steady most p e next t handed h packets replies → Grown t handed h h'
     → Steady most p e next t handed h' packets replies

@@ -4,7 +4,7 @@ use Rattle.std.specs.Prelude.{Option, if◌then◌else◌, ◌&&◌, find, nat_a
 use Rattle.std.specs.List.{list_any}
 use Rattle.std.specs.Ordering.{int_eq}
 use Rattle.std.specs.Str.{bytes_eq}
-use Rattle.std.proofs.lemmas.Bool.{and_parts}
+use Rattle.std.proofs.lemmas.Bool.{and_parts, not-true}
 use Rattle.std.proofs.lemmas.Bool.Decides.{Decides-int_eq}
 use Rattle.kp_frames.specs.declared.produce.PartitionProduceResponse.{PartitionProduceResponse}
 use Rattle.kp_frames.specs.declared.producer_id.InitProducerIdResponse.{InitProducerIdResponse}
@@ -184,10 +184,6 @@ is_none : (os : List Open) → is_empty os ≡ true → os ≡ []
 is_none [] e = refl
 is_none (o ∷ os) e = absurd cc
 
-is_no : (b : Bool) → not b ≡ true → b ≡ false
-is_no true e = absurd cc
-is_no false e = refl
-
 -- The partition goes on under the id, where it wants one still.
 agrees_fresh : {most : ℕ} (n p id : ℕ) (s : Core) (logs : List History) (handed : List (List Batch)) (packets : List Outgoing) (replies : List Reply) (ids : List ℕ)
     → Agrees most n ids s handed logs packets replies p → s.ended ≡ false → In id ids → (In id (partition_at p s.partitions).ids → ⊥)
@@ -206,7 +202,7 @@ agrees_fresh {most = most} n p id s logs handed packets replies ids a going draw
           sound,
           subst (λ (e : Bool). Steady most p e s.correlation (under id (partition_at p s.partitions)) (handed_at p handed) (log_at p logs) packets replies) (sym going)
               (steady_fresh ids (partition_at p s.partitions) (handed_at p handed) (log_at p logs) p s.correlation id packets replies a.sound sound
-              (subst (λ (e : Bool). Steady most p e s.correlation (partition_at p s.partitions) (handed_at p handed) (log_at p logs) packets replies) going a.steady) (is_none (partition_at p s.partitions).open_batches one.1) (is_no (partition_at p s.partitions).fenced one.0)),
+              (subst (λ (e : Bool). Steady most p e s.correlation (partition_at p s.partitions) (handed_at p handed) (log_at p logs) packets replies) going a.steady) (is_none (partition_at p s.partitions).open_batches one.1) (not-true (partition_at p s.partitions).fenced one.0)),
         )
 
 lawful_given : {most : ℕ} (n id : ℕ) (s : Core) (logs : List History) (handed : List (List Batch)) (packets : List Outgoing) (replies : List Reply) (ids : List ℕ) (q : IdRequest) (r : Reply)

@@ -2,7 +2,7 @@
 use Rattle.std.proofs.Common.{◌≡◌, ℕ, ◌<◌, Bool, true, false, List, [], ◌∷◌, ◌++◌, length, Some, refl, sym, ap, ◌∙◌, subst, ⊎_elim, arith, length-append}
 use Rattle.std.specs.Prelude.{Err, if◌then◌else◌, ◌==◌, ◌||◌}
 use Rattle.std.specs.List.{AllByRecursion}
-use Rattle.std.proofs.lemmas.Bool.{eqb-true, eq-eqb}
+use Rattle.std.proofs.lemmas.Bool.{eqb-true, eq-eqb, eqb-false}
 use Rattle.std.proofs.lemmas.List.{length-set, get_or-set_same, get_or-set_other}
 use Rattle.kp_log.proofs.PlaceLemmas.{In, In-nil, In-cons, In-head, In-tail}
 use Rattle.kp_core.specs.MaySend.{sends}
@@ -140,14 +140,8 @@ at-with_sendings (x ∷ xs) handed p b only within =
     at_test true is true e = e ∙ ap (grown_by b) (same (eqb-true x.partition p is))
         ∙ grown_again b (handed_at p handed)
     at_test true is false e = e ∙ same (eqb-true x.partition p is)
-    at_test false is true e = e ∙ ap (grown_by b) (other apart)
-      where
-        apart : x.partition ≡ p → ⊥
-        apart ne = let yes : (x.partition == p) ≡ true = eq-eqb x.partition p ne in absurd cc
-    at_test false is false e = e ∙ other apart
-      where
-        apart : x.partition ≡ p → ⊥
-        apart ne = let yes : (x.partition == p) ≡ true = eq-eqb x.partition p ne in absurd cc
+    at_test false is true e = e ∙ ap (grown_by b) (other (eqb-false x.partition p is))
+    at_test false is false e = e ∙ other (eqb-false x.partition p is)
 
 -- ---- the cases of a request
 

@@ -1,9 +1,9 @@
 -- What holds of every world of a run, whatever comes to an honest broker: from the opening world on,
 -- event by event.
 use Rattle.std.proofs.Common.{◌≡◌, ◌⊎◌, ℕ, ◌<◌, ◌≤◌, Bool, true, false, List, [], ◌∷◌, ◌++◌, length, replicate, pos, Some, refl, sym, ◌∙◌, subst, inl, inr, ⊎_elim, arith}
-use Rattle.std.specs.Prelude.{Result, Ok, Err, if◌then◌else◌, ◌==◌, ◌||◌, nat_lt}
-use Rattle.std.proofs.lemmas.Bool.{eqb-true, eq-eqb, ltb-false}
-use Rattle.std.proofs.lemmas.List.{get_or-replicate, length-replicate, length-set, get_or-set_same, get_or-set_other}
+use Rattle.std.specs.Prelude.{Result, Ok, Err, if◌then◌else◌, ◌||◌, nat_lt}
+use Rattle.std.proofs.lemmas.Bool.{ltb-false}
+use Rattle.std.proofs.lemmas.List.{get_or-replicate, length-replicate, length-set}
 use Rattle.kp_accum.specs.declared.fault.AppendFault.{AppendFault}
 use Rattle.kp_accum.specs.declared.config.Config.{Config}
 use Rattle.kp_accum.specs.declared.fault.ConfigFault.{ConfigFault}
@@ -30,7 +30,7 @@ use Rattle.kp_world.specs.Loopback.{other_record, logs_with_others}
 use Rattle.kp_world.specs.Noting.{noted}
 use Rattle.kp_world.specs.Run.{with_delivery, Steps, IsReached}
 use Rattle.kp_world.specs.World.{PartAnswer, ReplyContent, Batches, Id, Reply, World, opening, FIRST_ID, FIRST_CORRELATION}
-use Rattle.kp_world.proofs.BrokerLemmas.{Agrees, AllAgree, Known, PartsDelivered, parts_delivered}
+use Rattle.kp_world.proofs.BrokerLemmas.{Agrees, AllAgree, Known, PartsDelivered, parts_delivered, agree_set}
 use Rattle.kp_world.proofs.FlightLemmas.{Carries, PartHolds, ContentHolds, Steady, steady_new, steady_grown, steady_replied}
 use Rattle.kp_world.proofs.HearingLemmas.{lawful_reply}
 use Rattle.kp_world.proofs.LawfulLemmas.{Lawful, IsLawful, StoredAt, lawful_core, lawful_sending, IsLawfulWithin, PartsIn, Given}
@@ -168,29 +168,16 @@ lawful_others {most = most} n p m core logs handed packets replies ids within g 
   logs_count = length-set logs p (with_others m other_record (log_at p logs)) ∙ g.logs_count;
   window = g.window;
   some = g.some;
-  agree = λ q h. at_place q h (q == p) refl;
+  agree = agree_set n ids core handed logs packets replies p (with_others m other_record (log_at p logs)) within g.agree
+      (sound_history ids (partition_at p core.partitions) (handed_at p handed) (log_at p logs) (with_others m other_record (log_at p logs)) mine.sound (came_others (sents (handed_at p handed)) (log_at p logs) m other_record mine.sound.came))
+      (steady_grown p core.correlation core.ended (partition_at p core.partitions) (handed_at p handed) (log_at p logs) (with_others m other_record (log_at p logs)) packets replies mine.steady (grown_others (partition_at p core.partitions) (handed_at p handed) (log_at p logs) m other_record mine.steady.cut));
   went = g.went;
   gave = g.gave;
   asked = g.asked;
 }
   where
-    same_log : (q : ℕ) → q ≡ p → log_at q (logs_with_others p m logs) ≡ with_others m other_record (log_at q logs)
-    same_log q same = subst (λ (x : ℕ). log_at x (logs_with_others p m logs) ≡ with_others m other_record (log_at x logs)) (sym same) (get_or-set_same logs p (with_others m other_record (log_at p logs)) empty_history within)
-
-    at_place : (q : ℕ) → q < n → (b : Bool) → (q == p) ≡ b → Agrees most n ids core handed (logs_with_others p m logs) packets replies q
-    at_place q h true is =
-        let log : log_at q (logs_with_others p m logs) ≡ with_others m other_record (log_at q logs) = same_log q (eqb-true q p is) in
-        let a : Agrees most n ids core handed logs packets replies q = g.agree q h in record {
-          sound = subst (Sound ids (partition_at q core.partitions) (handed_at q handed)) (sym log) (sound_history ids (partition_at q core.partitions) (handed_at q handed) (log_at q logs) (with_others m other_record (log_at q logs)) a.sound (came_others (sents (handed_at q handed)) (log_at q logs) m other_record a.sound.came));
-          steady = subst (λ (l : History). Steady most q core.ended core.correlation (partition_at q core.partitions) (handed_at q handed) l packets replies) (sym log)
-              (steady_grown q core.correlation core.ended (partition_at q core.partitions) (handed_at q handed) (log_at q logs) (with_others m other_record (log_at q logs)) packets replies a.steady (grown_others (partition_at q core.partitions) (handed_at q handed) (log_at q logs) m other_record a.steady.cut));
-        }
-    at_place q h false is =
-        let log : log_at q (logs_with_others p m logs) ≡ log_at q logs = get_or-set_other logs p q (with_others m other_record (log_at p logs)) empty_history (λ e. let yes : (q == p) ≡ true = eq-eqb q p e in absurd cc) in
-        let a : Agrees most n ids core handed logs packets replies q = g.agree q h in record {
-          sound = subst (Sound ids (partition_at q core.partitions) (handed_at q handed)) (sym log) a.sound;
-          steady = subst (λ (l : History). Steady most q core.ended core.correlation (partition_at q core.partitions) (handed_at q handed) l packets replies) (sym log) a.steady;
-        }
+    mine : Agrees most n ids core handed logs packets replies p
+    mine = g.agree p (subst (λ (x : ℕ). p < x) g.logs_count within)
 
 -- ---- the producer's events
 

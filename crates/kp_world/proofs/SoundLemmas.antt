@@ -1,8 +1,8 @@
 -- A partition, what was handed over for it, and its log: they agree, whatever happens.
-use Rattle.std.proofs.Common.{◌≡◌, ℕ, ◌+◌, ◌<◌, Bool, true, false, List, [], ◌∷◌, ◌++◌, length, map, pos, Some, None, refl, sym, ap, ◌∙◌, subst, ⊎_elim, arith, length-append}
-use Rattle.std.specs.Prelude.{Option, unwrap_or, ◌==◌}
+use Rattle.std.proofs.Common.{◌≡◌, ℕ, ◌+◌, ◌<◌, List, [], ◌∷◌, ◌++◌, length, map, pos, Some, None, refl, sym, ap, ◌∙◌, subst, ⊎_elim, arith, length-append}
+use Rattle.std.specs.Prelude.{Option, unwrap_or}
 use Rattle.std.specs.List.{AllByRecursion, last_or}
-use Rattle.std.proofs.lemmas.Bool.{eqb-true}
+use Rattle.std.proofs.lemmas.Bool.{ne_eqb}
 use Rattle.std.proofs.lemmas.List.{map-append, length-map}
 use Rattle.std.proofs.lemmas.List.Concat.{flat_map-append}
 use Rattle.kp_accum.specs.Queue.{Pending, body_of}
@@ -186,12 +186,8 @@ count_none id (b ∷ handed) h =
     (records_of (sents handed)) in
     let none : count_of (pos id) (stored_of (sent_of b))
     ≡ 0 = count_of_others (pos id) (pos b.id) (map body_of b.items)
-    (ids_apart b.id id (at_test (b.id == id) refl)) in
+    (ids_apart b.id id (ne_eqb b.id id (h b (In-head b handed)))) in
     omega (arith, rest, parts, none)
-  where
-    at_test : (t : Bool) → (b.id == id) ≡ t → (b.id == id) ≡ false
-    at_test true is = absurd (h b (In-head b handed) (eqb-true b.id id is))
-    at_test false is = is
 
 pub last_is : (o : Option ℕ) (ids : List ℕ) (id : ℕ) → last_or o (ids ++ id ∷ []) ≡ Some id
 last_is o [] id = refl
