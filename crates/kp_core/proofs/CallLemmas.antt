@@ -87,9 +87,8 @@ pub record OfReply (P : Replies → Type 0) (now : ℕ) (response : Response) (s
       → awaited response.correlation s ≡ Id r → response.body ≡ InitProducerId x → answers_id x ≡ true
       → P (known (id_answered now r x s) [])
 
-pub at_replied : (P : Replies → Type 0) (now : ℕ) (response : Response) (s : Core) → OfReply P now response s → P (replied now response s)
-unfolding replied
-at_replied P now response s c = at_end s.ended
+at_body : (P : Replies → Type 0) (now : ℕ) (response : Response) (s : Core) → OfReply P now response s → P (replied_to now s (awaited response.correlation s) response.body)
+at_body P now response s c = at_kind (awaited response.correlation s) refl response.body refl
   where
     mismatch : P (faulty Mismatch s)
     mismatch = c.same (Err (fault.ReplyFault Mismatch))
@@ -108,18 +107,27 @@ at_replied P now response s c = at_end s.ended
         at_test true v = c.batches r produce answers is e t v
         at_test false v = mismatch
 
-    at_body : (who : Awaited) → awaited response.correlation s ≡ who → (content : ResponseBody) → response.body ≡ content → P (replied_to now s who content)
-    at_body Nothing is content e = c.same _
-    at_body (Batches r) is (Produce x) e = at_answers r x is e (answers_of s.names.topic x.topics) refl
-    at_body (Batches r) is (Metadata x) e = mismatch
-    at_body (Batches r) is (InitProducerId x) e = mismatch
-    at_body (Id r) is (Produce x) e = mismatch
-    at_body (Id r) is (Metadata x) e = mismatch
-    at_body (Id r) is (InitProducerId x) e = at_id r x is e (answers_id x) refl
+    at_kind : (who : Awaited) → awaited response.correlation s ≡ who → (content : ResponseBody) → response.body ≡ content → P (replied_to now s who content)
+    at_kind Nothing is content e = c.same _
+    at_kind (Batches r) is (Produce x) e = at_answers r x is e (answers_of s.names.topic x.topics) refl
+    at_kind (Batches r) is (Metadata x) e = mismatch
+    at_kind (Batches r) is (InitProducerId x) e = mismatch
+    at_kind (Id r) is (Produce x) e = mismatch
+    at_kind (Id r) is (Metadata x) e = mismatch
+    at_kind (Id r) is (InitProducerId x) e = at_id r x is e (answers_id x) refl
 
-    at_end : (b : Bool) → P (if b then after_end s else replied_to now s (awaited response.correlation s) response.body)
-    at_end true = c.same (Err fault.Ended)
-    at_end false = at_body (awaited response.correlation s) refl response.body refl
+-- Each case may stand on it that the core has not ended.
+pub at_replied_going : (P : Replies → Type 0) (now : ℕ) (response : Response) (s : Core) → P (after_end s) → (s.ended ≡ false → OfReply P now response s) → P (replied now response s)
+unfolding replied
+at_replied_going P now response s past c = at_end s.ended refl
+  where
+    at_end : (b : Bool) → s.ended ≡ b → P (if b then after_end s else replied_to now s (awaited response.correlation s) response.body)
+    at_end true is = past
+    at_end false is = at_body P now response s (c is)
+
+pub at_replied : (P : Replies → Type 0) (now : ℕ) (response : Response) (s : Core) → OfReply P now response s → P (replied now response s)
+at_replied P now response s c =
+    at_replied_going P now response s (c.same (Err fault.Ended)) (λ going. c)
 
 -- ---- a tick
 

@@ -1,14 +1,13 @@
 -- What any honest broker does with a packet that went out: each partition, what was handed over for
 -- it, and its log agree still, and what is answered is true of them.
-use Rattle.std.proofs.Common.{◌≡◌, ◌⊎◌, ℕ, suc, ◌+◌, ◌<◌, ◌≤◌, Bool, true, false, cond, List, [], ◌∷◌, ◌++◌, length, pos, refl, sym, ap, ◌∙◌, subst, inl, inr, ⊎_elim, arith, length-append, append_assoc}
-use Rattle.std.specs.Prelude.{◌==◌}
-use Rattle.std.specs.List.{filter}
-use Rattle.std.proofs.lemmas.Bool.{eqb-true, eq-eqb}
+use Rattle.std.proofs.Common.{◌≡◌, ℕ, suc, ◌+◌, ◌<◌, ◌≤◌, Bool, true, false, List, [], ◌∷◌, ◌++◌, length, pos, refl, sym, ap, ◌∙◌, subst, ⊎_elim, arith, length-append, append_assoc, not, eqb}
+use Rattle.std.specs.Prelude.{◌==◌, slice_set}
 use Rattle.std.proofs.lemmas.List.{length-set, length-map, get_or-set_same, get_or-set_other, map-append, append-nil}
 use Rattle.std.proofs.lemmas.List.Concat.{flat_map-append}
+use Rattle.std.proofs.lemmas.List.Elements.{All-contains}
 use Rattle.kp_log.specs.declared.stored.Stored.{Stored}
 use Rattle.kp_log.specs.BrokerStep.{Answered, MayAppend, IsOld, BrokerStep}
-use Rattle.kp_log.specs.HandedOver.{Follows, AreInSequence}
+use Rattle.kp_log.specs.HandedOver.{Follows, AreInSequence, IsStored}
 use Rattle.kp_log.specs.History.{Sent, History, stored_of, records_of, of_id, with_batch, empty_history}
 use Rattle.kp_log.specs.Log.{count_of}
 use Rattle.kp_log.proofs.KeepingLemmas.{came_appended}
@@ -26,16 +25,10 @@ use Rattle.kp_world.proofs.FlightLemmas.{Carried, PartHolds, Steady, part_grown,
 use Rattle.kp_world.proofs.PrefixLemmas.{Cut, Grown, lands, lands_at, grown_same, grown_appended}
 use Rattle.kp_world.proofs.SoundLemmas.{Sound, sents, sound_history}
 use Rattle.kp_world.proofs.ListLemmas.{In-map}
+use Rattle.std.proofs.lemmas.List.Filters.{length-filter_both}
+use Rattle.std.proofs.lemmas.Bool.Decides.{eqb_tells}
 
 -- ---- a batch that is old
-
-length_left : (p : Sent → Bool) (xs : List Sent) → length (filter p xs) ≤ length xs
-length_left p [] = omega arith
-length_left p (x ∷ xs) = at_test (p x) (length_left p xs)
-  where
-    at_test : (b : Bool) → length (filter p xs) ≤ length xs → length (cond b (x ∷ filter p xs) (filter p xs)) ≤ suc (length xs)
-    at_test true h = omega arith
-    at_test false h = omega arith
 
 -- of two places of one batch neither is before the other
 not_before : (handed : List Sent) → AreInSequence handed → (b : Sent) (first : List Sent) (first_later : List Sent) (second : List Sent) (second_later : List Sent)
@@ -71,32 +64,35 @@ old_number ids t handed h s cut b i old =
     let long : length (sents handed) ≡ length old.earlier + suc (length (old.later ++ sents cut.rest)) = ap length split ∙ length-append old.earlier (sent_of b ∷ (old.later ++ sents cut.rest)) in
     let behind : length (old.later ++ sents cut.rest) ≡ length old.later + length (sents cut.rest) = length-append old.later (sents cut.rest) in
     let size : length (sents handed) ≡ length handed = length-map handed sent_of in
-    let left : length (of_id b.id old.later) ≤ length old.later = length_left (λ (c : Sent). c.id == b.id) old.later in
+    let left = length-filter_both (λ (c : Sent). c.id == b.id) (λ (c : Sent). not (c.id == b.id)) (λ c. refl) old.later in
     let more : 5 ≤ length (of_id b.id old.later) = old.more in
     omega (arith, before, number, same, long, behind, size, left, more)
 
 -- ---- one part of a packet
 
-pub record Delivered (p k : ℕ) (ids : List ℕ) (e : Bool) (next : ℕ) (t : Partition) (handed : List Batch) (h h' : History) (packets : List Outgoing) (replies : List Reply) (a : Answered) : Type 0 where
+pub record Delivered (most p k : ℕ) (ids : List ℕ) (e : Bool) (next : ℕ) (t : Partition) (handed : List Batch) (h h' : History) (packets : List Outgoing) (replies : List Reply) (a : Answered) : Type 0 where
   pub sound : Sound ids t handed h'
-  pub steady : Steady p e next t handed h' packets replies
+  pub steady : Steady most p e next t handed h' packets replies
   pub part : PartHolds p (length handed) k packets h'.records a
   pub more : List Stored
   pub records : h'.records ≡ h.records ++ more
 
-pub delivered : (p k : ℕ) (ids : List ℕ) (e : Bool) (next : ℕ) (t : Partition) (handed : List Batch) (h h' : History) (packets : List Outgoing) (replies : List Reply) (b : Batch) (a : Answered)
-    → Sound ids t handed h → Steady p e next t handed h packets replies → In b handed → Carried p k packets b → BrokerStep h (sent_of b) a h' → Delivered p k ids e next t handed h h' packets replies a
-delivered p k ids e next t handed h h' packets replies b a s steady i carried step =
+pub delivered : {most : ℕ} (p k : ℕ) (ids : List ℕ) (e : Bool) (next : ℕ) (t : Partition) (handed : List Batch) (h h' : History) (packets : List Outgoing) (replies : List Reply) (b : Batch) (a : Answered)
+    → Sound ids t handed h → Steady most p e next t handed h packets replies → In b handed → Carried p k packets b → BrokerStep h (sent_of b) a h' → Delivered most p k ids e next t handed h h' packets replies a
+delivered {most = most} p k ids e next t handed h h' packets replies b a s steady i carried step =
     let g : (Sound ids t handed h') × Grown t handed h h' = grown in
-    let after : Steady p e next t handed h' packets replies = steady_grown p next e t handed h h' packets replies steady g.1 in
+    let after : Steady most p e next t handed h' packets replies = steady_grown p next e t handed h h' packets replies steady g.1 in
     record {
       sound = g.0;
       steady = after;
-      part = record { batch = b; carried = carried; stored = step.stands; old = λ d. old_number ids t handed h' g.0 g.1.cut b i (step.is_old d) };
+      part = record { batch = b; carried = carried; stored = step.stands; kept = λ d. kept g.0 (step.is_old d); old = λ d. old_number ids t handed h' g.0 g.1.cut b i (step.is_old d) };
       more = g.1.more;
       records = g.1.records;
     }
   where
+    kept : Sound ids t handed h' → IsOld h'.batches (sent_of b) → IsStored h'.records (sent_of b)
+    kept after old = All-contains (IsStored h'.records) h'.batches (sent_of b) after.came.whole (contains_from_In h'.batches (sent_of b) (record { earlier = old.earlier; later = old.later; split = old.split }))
+
     appended : (later : List Batch) → steady.cut.rest ≡ b ∷ later → (Sound ids t handed (with_batch (sent_of b) h)) × Grown t handed h (with_batch (sent_of b) h)
     appended later is = (
       sound_history ids t handed h (with_batch (sent_of b) h) s (came_appended (sents handed) h (sent_of b) s.in_sequence s.came (contains_from_In (sents handed) (sent_of b) (In-map sent_of b handed i)) (lands_at ids t handed h s steady.cut b later is)),
@@ -114,33 +110,52 @@ delivered p k ids e next t handed h h' packets replies b a s steady i carried st
 
 -- ---- all parts of a packet
 
-pub record Agrees (n : ℕ) (ids : List ℕ) (core : Core) (handed : List (List Batch)) (logs : List History) (packets : List Outgoing) (replies : List Reply) (p : ℕ) : Type 0 where
+pub record Agrees (most n : ℕ) (ids : List ℕ) (core : Core) (handed : List (List Batch)) (logs : List History) (packets : List Outgoing) (replies : List Reply) (p : ℕ) : Type 0 where
   pub sound : Sound ids (partition_at p core.partitions) (handed_at p handed) (log_at p logs)
-  pub steady : Steady p core.ended core.correlation (partition_at p core.partitions) (handed_at p handed) (log_at p logs) packets replies
+  pub steady : Steady most p core.ended core.correlation (partition_at p core.partitions) (handed_at p handed) (log_at p logs) packets replies
 
-abbrev pub AllAgree : ℕ → List ℕ → Core → List (List Batch) → List History → List Outgoing → List Reply → Type 0
-AllAgree n ids core handed logs packets replies = (p : ℕ) → p < n → Agrees n ids core handed logs packets replies p
+abbrev pub AllAgree : ℕ → ℕ → List ℕ → Core → List (List Batch) → List History → List Outgoing → List Reply → Type 0
+AllAgree most n ids core handed logs packets replies = (p : ℕ) → p < n → Agrees most n ids core handed logs packets replies p
+
+-- one partition's log is another one now, and agrees
+pub agree_set : {most : ℕ} (n : ℕ) (ids : List ℕ) (core : Core) (handed : List (List Batch)) (logs : List History) (packets : List Outgoing) (replies : List Reply) (p : ℕ) (log : History)
+    → p < length logs → AllAgree most n ids core handed logs packets replies → Sound ids (partition_at p core.partitions) (handed_at p handed) log
+    → Steady most p core.ended core.correlation (partition_at p core.partitions) (handed_at p handed) log packets replies → AllAgree most n ids core handed (slice_set logs p log) packets replies
+agree_set {most = most} n ids core handed logs packets replies p log within all sound steady q h =
+    ⊎_elim
+    (λ (k : (eqb q p ≡ true) × (q ≡ p)). subst (Agrees most n ids core handed (slice_set logs p log) packets replies) (sym k.1) (record {
+      sound = subst (Sound ids (partition_at p core.partitions) (handed_at p handed)) (sym here) sound;
+      steady = subst (λ (l : History). Steady most p core.ended core.correlation (partition_at p core.partitions) (handed_at p handed) l packets replies) (sym here) steady;
+    }))
+    (λ (k : (eqb q p ≡ false) × (q ≡ p → ⊥)). let other : log_at q (slice_set logs p log) ≡ log_at q logs = get_or-set_other logs p q log empty_history k.1 in record {
+      sound = subst (Sound ids (partition_at q core.partitions) (handed_at q handed)) (sym other) (all q h).sound;
+      steady = subst (λ (l : History). Steady most q core.ended core.correlation (partition_at q core.partitions) (handed_at q handed) l packets replies) (sym other) (all q h).steady;
+    })
+    (eqb_tells q p)
+  where
+    here : log_at p (slice_set logs p log) ≡ log
+    here = get_or-set_same logs p log empty_history within
 
 -- each part is there, was handed over, and went out with this correlation id
 abbrev pub Known : ℕ → ℕ → List (List Batch) → List Outgoing → List Sending → Type 0
 Known n k handed packets xs = (x : Sending) → In x xs → (x.partition < n) × In x.batch (handed_at x.partition handed) × Carried x.partition k packets x.batch
 
-pub record PartsDelivered (n k : ℕ) (ids : List ℕ) (core : Core) (handed : List (List Batch)) (logs logs' : List History) (packets : List Outgoing) (replies : List Reply) (answers : List PartAnswer) : Type 0 where
+pub record PartsDelivered (most n k : ℕ) (ids : List ℕ) (core : Core) (handed : List (List Batch)) (logs logs' : List History) (packets : List Outgoing) (replies : List Reply) (answers : List PartAnswer) : Type 0 where
   pub count : length logs' ≡ length logs
-  pub agree : AllAgree n ids core handed logs' packets replies
+  pub agree : AllAgree most n ids core handed logs' packets replies
   pub parts : (a : PartAnswer) → In a answers → (a.partition < n) × PartHolds a.partition (length (handed_at a.partition handed)) k packets (log_at a.partition logs').records a.answer
   pub grown : (p : ℕ) → (more : List Stored) × ((log_at p logs').records ≡ (log_at p logs).records ++ more)
 
-pub parts_delivered : (n k : ℕ) (ids : List ℕ) (core : Core) (handed : List (List Batch)) (logs logs' : List History) (packets : List Outgoing) (replies : List Reply) (xs : List Sending) (answers : List PartAnswer)
-    → length logs ≡ n → AllAgree n ids core handed logs packets replies → Known n k handed packets xs → PartsDeliver logs xs answers logs' → PartsDelivered n k ids core handed logs logs' packets replies answers
+pub parts_delivered : {most : ℕ} (n k : ℕ) (ids : List ℕ) (core : Core) (handed : List (List Batch)) (logs logs' : List History) (packets : List Outgoing) (replies : List Reply) (xs : List Sending) (answers : List PartAnswer)
+    → length logs ≡ n → AllAgree most n ids core handed logs packets replies → Known n k handed packets xs → PartsDeliver logs xs answers logs' → PartsDelivered most n k ids core handed logs logs' packets replies answers
 unfolding PartsDeliver
-parts_delivered n k ids core handed logs logs' packets replies [] [] size all known d =
-    subst (λ (ls : List History). PartsDelivered n k ids core handed logs ls packets replies []) (sym d)
+parts_delivered {most = most} n k ids core handed logs logs' packets replies [] [] size all known d =
+    subst (λ (ls : List History). PartsDelivered most n k ids core handed logs ls packets replies []) (sym d)
     (record { count = refl; agree = all; parts = λ a i. absurd (In-nil a i); grown = λ p. ([], sym (append-nil (log_at p logs).records)) })
 parts_delivered n k ids core handed logs logs' packets replies [] (a ∷ answers) size all known d = absurd d
 parts_delivered n k ids core handed logs logs' packets replies (x ∷ xs) [] size all known d = absurd d
-parts_delivered n k ids core handed logs logs' packets replies (x ∷ xs) (a ∷ answers) size all known d =
-    let rest : PartsDelivered n k ids core handed d.0 logs' packets replies answers =
+parts_delivered {most = most} n k ids core handed logs logs' packets replies (x ∷ xs) (a ∷ answers) size all known d =
+    let rest : PartsDelivered most n k ids core handed d.0 logs' packets replies answers =
     parts_delivered n k ids core handed d.0 logs' packets replies xs answers (one.count ∙ size) one.agree (λ y i. known y (In-tail y x xs i)) d.2 in
     record {
       count = rest.count ∙ one.count;
@@ -158,7 +173,7 @@ parts_delivered n k ids core handed logs logs' packets replies (x ∷ xs) (a ∷
     within : x.partition < length logs
     within = subst (λ (m : ℕ). x.partition < m) (sym size) mine.0
 
-    here : Delivered x.partition k ids core.ended core.correlation (partition_at x.partition core.partitions) (handed_at x.partition handed) (log_at x.partition logs) step.log packets replies a.answer
+    here : Delivered most x.partition k ids core.ended core.correlation (partition_at x.partition core.partitions) (handed_at x.partition handed) (log_at x.partition logs) step.log packets replies a.answer
     here = delivered x.partition k ids core.ended core.correlation (partition_at x.partition core.partitions) (handed_at x.partition handed) (log_at x.partition logs) step.log packets replies x.batch a.answer (all x.partition mine.0).sound (all x.partition mine.0).steady mine.1 mine.2 step.step
 
     here_is : log_at x.partition d.0 ≡ step.log
@@ -170,22 +185,13 @@ parts_delivered n k ids core handed logs logs' packets replies (x ∷ xs) (a ∷
     more : (p : ℕ) → (m : List Stored) × ((log_at p d.0).records ≡ (log_at p logs).records ++ m) → (m : List Stored) × ((log_at p logs').records ≡ (log_at p d.0).records ++ m) → (m : List Stored) × ((log_at p logs').records ≡ (log_at p logs).records ++ m)
     more p u v = (u.0 ++ v.0, v.1 ∙ ap (λ z. z ++ v.0) u.1 ∙ append_assoc (log_at p logs).records u.0 v.0)
 
-    at_place : (p : ℕ) (b : Bool) → (p == x.partition) ≡ b → (p ≡ x.partition) ⊎ (p ≡ x.partition → ⊥)
-    at_place p true is = inl (eqb-true p x.partition is)
-    at_place p false is = inr (λ same. let yes : (p == x.partition) ≡ true = eq-eqb p x.partition same in absurd cc)
-
-    one : PartsDelivered n k ids core handed logs d.0 packets replies []
+    one : PartsDelivered most n k ids core handed logs d.0 packets replies []
     one = record {
       count = ap length step.after_is ∙ length-set logs x.partition step.log;
-      agree = λ p h. ⊎_elim (λ (same : p ≡ x.partition). subst (Agrees n ids core handed d.0 packets replies) (sym same) (record {
-        sound = subst (Sound ids (partition_at x.partition core.partitions) (handed_at x.partition handed)) (sym here_is) here.sound;
-        steady = subst (λ (l : History). Steady x.partition core.ended core.correlation (partition_at x.partition core.partitions) (handed_at x.partition handed) l packets replies) (sym here_is) here.steady;
-      })) (λ (apart : p ≡ x.partition → ⊥). record {
-        sound = subst (Sound ids (partition_at p core.partitions) (handed_at p handed)) (sym (other_is p apart)) (all p h).sound;
-        steady = subst (λ (l : History). Steady p core.ended core.correlation (partition_at p core.partitions) (handed_at p handed) l packets replies) (sym (other_is p apart)) (all p h).steady;
-      }) (at_place p (p == x.partition) refl);
+      agree = subst (λ (ls : List History). AllAgree most n ids core handed ls packets replies) (sym step.after_is) (agree_set n ids core handed logs packets replies x.partition step.log within all here.sound here.steady);
       parts = λ b i. absurd (In-nil b i);
-      grown = λ p. ⊎_elim (λ (same : p ≡ x.partition). subst (λ (q : ℕ). (m : List Stored) × ((log_at q d.0).records ≡ (log_at q logs).records ++ m)) (sym same) (here.more, ap (λ (l : History). l.records) here_is ∙ here.records)) (λ (apart : p ≡ x.partition → ⊥). ([], ap (λ (l : History). l.records) (other_is p apart) ∙ sym (append-nil (log_at p logs).records))) (at_place p (p == x.partition) refl);
+      grown = λ p. ⊎_elim (λ (k : (eqb p x.partition ≡ true) × (p ≡ x.partition)). subst (λ (q : ℕ). (m : List Stored) × ((log_at q d.0).records ≡ (log_at q logs).records ++ m)) (sym k.1) (here.more, ap (λ (l : History). l.records) here_is ∙ here.records))
+          (λ (k : (eqb p x.partition ≡ false) × (p ≡ x.partition → ⊥)). ([], ap (λ (l : History). l.records) (other_is p k.1) ∙ sym (append-nil (log_at p logs).records))) (eqb_tells p x.partition);
     }
 
     first : (m : List Stored) × ((log_at a.partition logs').records ≡ (log_at a.partition d.0).records ++ m) → (a.partition < n) × PartHolds a.partition (length (handed_at a.partition handed)) k packets (log_at a.partition logs').records a.answer

@@ -234,7 +234,7 @@ truly_offsets n p handed logs b base h known are stands t i =
 -- ---- a reply
 
 truly_part : (n p now next k : ℕ) (ids : List ℕ) (e : Bool) (t : Partition) (handed : List (List Batch)) (logs : List History) (packets : List Outgoing) (replies : List Reply) (r : Reply) (parts : List PartAnswer)
-    → p < n → Sound ids t (handed_at p handed) (log_at p logs) → Steady p e next t (handed_at p handed) (log_at p logs) packets replies → HandedOf p (handed_at p handed) → In r replies → r.content ≡ Parts parts → k ≡ r.correlation
+    → p < n → Sound ids t (handed_at p handed) (log_at p logs) → Steady 5 p e next t (handed_at p handed) (log_at p logs) packets replies → HandedOf p (handed_at p handed) → In r replies → r.content ≡ Parts parts → k ≡ r.correlation
     → AllTruly n handed logs (answering now k (map part_response parts) p t).told
 unfolding answered
 truly_part n p now next k ids e t handed logs packets replies r parts h sound s own i is named = at_first (answers_for p (map part_response parts)) refl
@@ -278,7 +278,7 @@ abbrev batches_step : ℕ → Request → Core → Answers → Bool → Replies
 batches_step now q s answers b = if b then batches_answered now q answers s else faulty Mismatch s
 
 truly_parts : (n now : ℕ) (s : Core) (logs : List History) (handed : List (List Batch)) (packets : List Outgoing) (replies : List Reply) (ids : List ℕ) (q : Request) (r : Reply) (parts : List PartAnswer)
-    → Lawful n s logs handed packets replies ids → ((p : ℕ) → p < n → HandedOf p (handed_at p handed)) → In r replies → r.content ≡ Parts parts → q.correlation ≡ r.correlation
+    → Lawful 5 n s logs handed packets replies ids → ((p : ℕ) → p < n → HandedOf p (handed_at p handed)) → In r replies → r.content ≡ Parts parts → q.correlation ≡ r.correlation
     → AllTruly n handed logs (batches_replied now q s (answers_of s.names.topic ((record { topic = names.topic; partitions = map part_response parts }) ∷ []))).told
 unfolding told_at
 truly_parts n now s logs handed packets replies ids q r parts g own i is named = at_topic (bytes_eq names.topic s.names.topic)
@@ -289,7 +289,7 @@ truly_parts n now s logs handed packets replies ids q r parts g own i is named =
     at_place : (p : ℕ) (b : Bool) → nat_lt p n ≡ b → AllTruly n handed logs (answering now q.correlation (map part_response parts) p (partition_at p s.partitions)).told
     at_place p true h =
         let within : p < n = ltb-true p n h in
-        let both : Agrees n ids s handed logs packets replies p = g.agree p within in
+        let both : Agrees 5 n ids s handed logs packets replies p = g.agree p within in
         truly_part n p now s.correlation q.correlation ids s.ended (partition_at p s.partitions) handed logs packets replies r parts within both.sound both.steady (own p within) i is named
     at_place p false h =
         let beyond : n ≤ p = ltb-false p n h in
@@ -315,7 +315,7 @@ abbrev id_step : ℕ → IdRequest → InitProducerIdResponse → Core → Bool 
 id_step now q x s b = if b then known (id_answered now q x s) [] else faulty Mismatch s
 
 truly_body : (n now : ℕ) (s : Core) (logs : List History) (handed : List (List Batch)) (packets : List Outgoing) (replies : List Reply) (ids : List ℕ) (r : Reply)
-    → Lawful n s logs handed packets replies ids → ((p : ℕ) → p < n → HandedOf p (handed_at p handed)) → In r replies → (who : Awaited) → Names (pos r.correlation) s who → (c : ReplyContent) → r.content ≡ c
+    → Lawful 5 n s logs handed packets replies ids → ((p : ℕ) → p < n → HandedOf p (handed_at p handed)) → In r replies → (who : Awaited) → Names (pos r.correlation) s who → (c : ReplyContent) → r.content ≡ c
     → AllTruly n handed logs (replied_to now s who (body_of_reply c)).told
 truly_body n now s logs handed packets replies ids r g own i Nothing it c is = truly_quiet n handed logs [] quiet_none
 truly_body n now s logs handed packets replies ids r g own i (Batches q) it (Parts parts) is =
@@ -333,7 +333,7 @@ reply_step now r s b =
     if b then after_end s else replied_to now s (awaited (pos r.correlation) s) (body_of_reply r.content)
 
 pub truly_replied : (n now : ℕ) (s : Core) (logs : List History) (handed : List (List Batch)) (packets : List Outgoing) (replies : List Reply) (ids : List ℕ) (r : Reply)
-    → Lawful n s logs handed packets replies ids → ((p : ℕ) → p < n → HandedOf p (handed_at p handed)) → In r replies → AllTruly n handed logs (replied now (response_of r) s).told
+    → Lawful 5 n s logs handed packets replies ids → ((p : ℕ) → p < n → HandedOf p (handed_at p handed)) → In r replies → AllTruly n handed logs (replied now (response_of r) s).told
 unfolding replied
 truly_replied n now s logs handed packets replies ids r g own i = at_end s.ended
   where

@@ -1,16 +1,16 @@
 -- The partitions of a request are distinct.
 use Rattle.std.proofs.Common.{◌≡◌, ℕ, ◌+◌, ◌-◌, ◌≤◌, Bool, true, false, List, [], ◌∷◌, ◌++◌, take, drop, Some, None, refl, sym, ap, ◌∙◌, subst, arith}
-use Rattle.std.specs.Prelude.{Option, if◌then◌else◌, option_map, filter_map, nat_le, ◌==◌, ◌||◌}
+use Rattle.std.specs.Prelude.{Option, if◌then◌else◌, option_map, filter_map, nat_le, ◌||◌}
 use Rattle.std.specs.List.{AllByRecursion, cons_option, enumerate_from}
-use Rattle.std.proofs.lemmas.Bool.{eqb-true}
+use Rattle.std.proofs.lemmas.Bool.{ne_eqb}
 use Rattle.std.proofs.lemmas.List.{take-append-drop}
 use Rattle.kp_accum.specs.Queue.{size_of}
-use Rattle.kp_core.specs.Attempts.{has_window}
 use Rattle.kp_core.specs.MaySend.{sends}
-use Rattle.kp_core.specs.Next.{Sending, Produce, flags_of, used_up_to, in_turn, sending_by, fitting, next_batches, next_asking, produce_of, demand_of, next_demand}
+use Rattle.kp_core.specs.Next.{Sending, Produce, flags_of, used_up_to, in_turn, sending_by, fitting, next_batches, next_demand}
 use Rattle.kp_core.specs.Partitions.{is_in}
 use Rattle.kp_core.specs.Records.{Batch, Partition, Core}
 use Rattle.kp_core.specs.Requesting.{partitions_in}
+use Rattle.kp_world.proofs.SendingLemmas.{all_fitting, demand_is_next}
 use Rattle.kp_world.proofs.TellingLemmas.{Distinct}
 use Rattle.kp_core.proofs.ListLemmas.{all_append}
 use Rattle.kp_world.proofs.ListLemmas.{all_back, all_front, all_weaker}
@@ -23,10 +23,6 @@ Differ key x y = key x ≡ key y → ⊥
 abbrev Apart : {A : Type 0} (key : A → ℕ) → List A → Type 0
 Apart key [] = Unit {0}
 Apart key (x ∷ xs) = AllByRecursion (Differ key x) xs × Apart key xs
-
-apart_front : {A : Type 0} (key : A → ℕ) (xs ys : List A) → Apart key (xs ++ ys) → Apart key xs
-apart_front key [] ys h = tt
-apart_front key (x ∷ xs) ys h = (all_front (Differ key x) xs ys h.0, apart_front key xs ys h.1)
 
 apart_last : {A : Type 0} (key : A → ℕ) (ys : List A) (x : A) (xs : List A) → AllByRecursion (Differ key x) ys → AllByRecursion (Differ key x) xs → Apart key (ys ++ xs) → Apart key (ys ++ x ∷ xs)
 apart_last key [] x xs a b h = (b, h)
@@ -89,15 +85,6 @@ sendings_apart now s (y ∷ ys) h = at_option (sending_by sends s now y) refl (s
     at_option None is rest = rest
     at_option (Some x) is rest = (differ_all now s y x (sending_place now s y x is) ys h.0, rest)
 
-all_fitting : (P : Sending → Type 0) (room : ℕ) (xs : List Sending) → AllByRecursion P xs → AllByRecursion P (fitting room xs)
-unfolding fitting
-all_fitting P room [] h = tt
-all_fitting P room (x ∷ xs) h = at_test (nat_le (size_of x.batch.items) room) (all_fitting P (room - size_of x.batch.items) xs h.1)
-  where
-    at_test : (b : Bool) → AllByRecursion P (fitting (room - size_of x.batch.items) xs) → AllByRecursion P (if b then x ∷ fitting (room - size_of x.batch.items) xs else [])
-    at_test true rest = (h.0, rest)
-    at_test false rest = tt
-
 fitting_apart : (room : ℕ) (xs : List Sending) → Apart partition_of xs → Apart partition_of (fitting room xs)
 unfolding fitting
 fitting_apart room [] h = tt
@@ -110,11 +97,7 @@ fitting_apart room (x ∷ xs) h = at_test (nat_le (size_of x.batch.items) room) 
 
 not_among : (x : Sending) (xs : List Sending) → AllByRecursion (Differ partition_of x) xs → is_in x.partition (partitions_in xs) ≡ false
 not_among x [] h = refl
-not_among x (y ∷ xs) h = ap (λ (b : Bool). b || is_in x.partition (partitions_in xs)) (at_test (y.partition == x.partition) refl) ∙ not_among x xs h.1
-  where
-    at_test : (b : Bool) → (y.partition == x.partition) ≡ b → b ≡ false
-    at_test true is = absurd (h.0 (sym (eqb-true y.partition x.partition is)))
-    at_test false is = refl
+not_among x (y ∷ xs) h = ap (λ (b : Bool). b || is_in x.partition (partitions_in xs)) (ne_eqb y.partition x.partition (λ e. h.0 (sym e))) ∙ not_among x xs h.1
 
 distinct : (xs : List Sending) → Apart partition_of xs → Distinct (partitions_in xs)
 distinct [] h = tt
@@ -129,17 +112,4 @@ batches_apart now s =
     fitting_apart s.config.max_request_size (filter_map (sending_by sends s now) (in_turn s)) (sendings_apart now s (in_turn s) (apart_turned place (take n all) (drop n all) whole))
 
 pub demand_is_distinct : (now : ℕ) (s : Core) (xs : List Sending) → next_demand now s ≡ Some (Produce xs) → Distinct (partitions_in xs)
-unfolding next_demand
-demand_is_distinct now s xs e = at_window (has_window s) e
-  where
-    at_batches : (ys : List Sending) → Apart partition_of ys → produce_of ys ≡ Some (Produce xs) → Distinct (partitions_in xs)
-    at_batches [] all e' = absurd cc
-    at_batches (y ∷ ys) all e' = let same : y ∷ ys ≡ xs = cc in distinct xs (subst (Apart partition_of) same all)
-
-    at_asking : (o : Option ℕ) → demand_of (next_batches now s) o ≡ Some (Produce xs) → Distinct (partitions_in xs)
-    at_asking None e' = at_batches (next_batches now s) (batches_apart now s) e'
-    at_asking (Some p) e' = absurd cc
-
-    at_window : (b : Bool) → (if b then demand_of (next_batches now s) (next_asking now s) else None) ≡ Some (Produce xs) → Distinct (partitions_in xs)
-    at_window true e' = at_asking (next_asking now s) e'
-    at_window false e' = absurd cc
+demand_is_distinct now s xs e = distinct xs (subst (Apart partition_of) (demand_is_next now s xs e) (batches_apart now s))

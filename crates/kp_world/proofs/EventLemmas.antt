@@ -40,7 +40,7 @@ pub record OfEvent (P : World → Type 0) (w : World) : Type 0 where
 at_some : (P : World → Type 0) (x v : World) → Some x ≡ Some v → P x → P v
 at_some P x v e h = let same : x ≡ v = cc in subst P same h
 
-at_only_if : (P : World → Type 0) (b : Bool) (x v : World) → only_if b x ≡ Some v → (b ≡ true → P x) → P v
+pub at_only_if : (P : World → Type 0) (b : Bool) (x v : World) → only_if b x ≡ Some v → (b ≡ true → P x) → P v
 at_only_if P true x v e h = at_some P x v e (h refl)
 at_only_if P false x v e h = absurd cc
 

@@ -62,19 +62,21 @@ flies_same p next k packets b c f x =
 
 -- ---- open batches
 
--- an open batch of a partition with this present id, for which so many batches were handed over
-pub record Aloft (p id count next : ℕ) (packets : List Outgoing) (o : Open) : Type 0 where
+-- an open batch of a partition with this present id, for which so many batches were handed over: it is one of the last so
+-- many
+pub record Aloft (most p id count next : ℕ) (packets : List Outgoing) (o : Open) : Type 0 where
   pub current : o.batch.id ≡ id
-  pub near : count ≤ o.batch.number + 5
+  pub near : count ≤ o.batch.number + most
   pub flies : (k : ℕ) → o.attempt ≡ InFlight k → Flies p next k packets o.batch
 
 -- ---- replies
 
--- the batch to which this was answered: it stands where the answer says; or it is too old to be open
+-- the batch to which this was answered: it stands where the answer says; or it stands there, with five later ones
 pub record PartHolds (p count k : ℕ) (packets : List Outgoing) (records : List Stored) (a : Answered) : Type 0 where
   pub batch : Batch
   pub carried : Carried p k packets batch
   pub stored : a.code ≡ NO_ERROR → Stands records (sent_of batch) a.base
+  pub kept : a.code ≡ DUPLICATE_SEQUENCE_NUMBER → IsStored records (sent_of batch)
   pub old : a.code ≡ DUPLICATE_SEQUENCE_NUMBER → batch.number + 6 ≤ count
 
 abbrev pub ContentHolds : ℕ → ℕ → ℕ → List Outgoing → List Stored → ReplyContent → Type 0
@@ -84,14 +86,14 @@ ContentHolds p count k packets records (Id code id) = Unit {0}
 -- ---- all of a partition
 
 -- Of partition p, with the next correlation id, and all packets and replies.
-pub record Steady (p : ℕ) (ended : Bool) (next : ℕ) (t : Partition) (handed : List Batch) (h : History) (packets : List Outgoing) (replies : List Reply) : Type 0 where
+pub record Steady (most p : ℕ) (ended : Bool) (next : ℕ) (t : Partition) (handed : List Batch) (h : History) (packets : List Outgoing) (replies : List Reply) : Type 0 where
   pub cut : Cut t handed h
   pub rising : Rising t.open_batches
-  pub aloft : (o : Open) → In o t.open_batches → Aloft p (present_id t) (length handed) next packets o
+  pub aloft : (o : Open) → In o t.open_batches → Aloft most p (present_id t) (length handed) next packets o
   pub waiting : ended ≡ false → t.fenced ≡ false → (b : Batch) → In b handed → IsStored h.records (sent_of b) ⊎ IsOpen t.open_batches b
   pub heard : (r : Reply) → In r replies → ContentHolds p (length handed) r.correlation packets h.records r.content
 
-pub steady_new : (p next id : ℕ) → Steady p false next (new_partition id) [] empty_history [] []
+pub steady_new : {most : ℕ} (p next id : ℕ) → Steady most p false next (new_partition id) [] empty_history [] []
 steady_new p next id = record {
   cut = cut_empty id;
   rising = tt;
@@ -102,9 +104,9 @@ steady_new p next id = record {
 
 -- ---- a call of the core that acknowledges only what is stored
 
-pub steady_kept : (p next : ℕ) (ids : List ℕ) (e e' : Bool) (t t' : Partition) (handed : List Batch) (h : History) (packets : List Outgoing) (replies : List Reply) → Sound ids t handed h → Steady p e next t handed h packets replies
-    → (e' ≡ false → e ≡ false) → Leaves (λ b. IsStored h.records (sent_of b)) e' t t' → Steady p e' next t' handed h packets replies
-steady_kept p next ids e e' t t' handed h packets replies s k ended l = record {
+pub steady_kept : {most : ℕ} (p next : ℕ) (ids : List ℕ) (e e' : Bool) (t t' : Partition) (handed : List Batch) (h : History) (packets : List Outgoing) (replies : List Reply) → Sound ids t handed h → Steady most p e next t handed h packets replies
+    → (e' ≡ false → e ≡ false) → Leaves (λ b. IsStored h.records (sent_of b)) e' t t' → Steady most p e' next t' handed h packets replies
+steady_kept {most = most} p next ids e e' t t' handed h packets replies s k ended l = record {
   cut = cut_kept ids t t' handed h e' s k.cut l;
   rising = l.rises k.rising;
   aloft = λ o i. aloft o (l.opens o i);
@@ -113,13 +115,13 @@ steady_kept p next ids e e' t t' handed h packets replies s k ended l = record {
 }
   where
     present : present_id t ≡ present_id t'
-    present = rw l.ids refl
+    present = rw l.keeps.ids refl
 
-    aloft : (o : Open) → CameFrom t.open_batches o → Aloft p (present_id t') (length handed) next packets o
+    aloft : (o : Open) → CameFrom t.open_batches o → Aloft most p (present_id t') (length handed) next packets o
     aloft o c =
-        let a : Aloft p (present_id t) (length handed) next packets c.it = k.aloft c.it c.there in record {
+        let a : Aloft most p (present_id t) (length handed) next packets c.it = k.aloft c.it c.there in record {
           current = ap (λ (b : Batch). b.id) c.batch ∙ a.current ∙ present;
-          near = subst (λ (b : Batch). length handed ≤ b.number + 5) (sym c.batch) a.near;
+          near = subst (λ (b : Batch). length handed ≤ b.number + most) (sym c.batch) a.near;
           flies = λ q f. subst (Flies p next q packets) (sym c.batch) (a.flies q (c.flight q f));
         }
 
@@ -148,15 +150,15 @@ flies_newest p next packets o b below named says = record {
 content_more : (p count count' k : ℕ) (packets : List Outgoing) (o : Outgoing) (records : List Stored) (c : ReplyContent) → count ≤ count' → ContentHolds p count k packets records c → ContentHolds p count' k (packets ++ o ∷ []) records c
 content_more p count count' k packets o records (Batches parts) more h = λ a i e.
     let x : PartHolds p count k packets records a.answer = h a i e in
-    record { batch = x.batch; carried = carried_more p k packets o x.batch x.carried; stored = x.stored; old = λ d. let old : x.batch.number + 6 ≤ count = x.old d in omega arith }
+    record { batch = x.batch; carried = carried_more p k packets o x.batch x.carried; stored = x.stored; kept = x.kept; old = λ d. let old : x.batch.number + 6 ≤ count = x.old d in omega arith }
 content_more p count count' k packets o records (Id code id) more h = tt
 
 -- nothing is in it for this partition, or an open batch is
-aloft_more : (p id count count' next : ℕ) (packets : List Outgoing) (o : Outgoing) (x : Open) → o.correlation ≡ next → count' ≤ x.batch.number + 5 → Aloft p id count next packets x → Aloft p id count' (next + 1) (packets ++ o ∷ []) x
+aloft_more : {most : ℕ} (p id count count' next : ℕ) (packets : List Outgoing) (o : Outgoing) (x : Open) → o.correlation ≡ next → count' ≤ x.batch.number + most → Aloft most p id count next packets x → Aloft most p id count' (next + 1) (packets ++ o ∷ []) x
 aloft_more p id count count' next packets o x named near a = record { current = a.current; near = near; flies = λ k f. flies_more p next k packets o x.batch named (a.flies k f) }
 
-pub steady_passed_by : (p next : ℕ) (e : Bool) (t : Partition) (handed : List Batch) (h : History) (packets : List Outgoing) (replies : List Reply) (o : Outgoing) → Steady p e next t handed h packets replies → o.correlation ≡ next
-    → Steady p e (next + 1) t handed h (packets ++ o ∷ []) replies
+pub steady_passed_by : {most : ℕ} (p next : ℕ) (e : Bool) (t : Partition) (handed : List Batch) (h : History) (packets : List Outgoing) (replies : List Reply) (o : Outgoing) → Steady most p e next t handed h packets replies → o.correlation ≡ next
+    → Steady most p e (next + 1) t handed h (packets ++ o ∷ []) replies
 steady_passed_by p next e t handed h packets replies o k named = record {
   cut = k.cut;
   rising = k.rising;
@@ -231,10 +233,10 @@ rising_again k (y ∷ os) r = at_test (is_waiting y) (rising_again k os r.1)
     at_test true rest = r
     at_test false rest = (above_again k y.batch.number os r.0, rest)
 
-pub steady_again : (p next : ℕ) (e : Bool) (t : Partition) (handed : List Batch) (h : History) (packets : List Outgoing) (replies : List Reply) (o : Outgoing) (lowest : Open)
-    → Steady p e next t handed h packets replies → ((x : Outgoing) → In x packets → x.correlation < next) → o.correlation ≡ next → lowest_waiting t ≡ Some lowest → Says p lowest.batch o.demand
-    → Steady p e (next + 1) (record t { open_batches = sent_again_in next t.open_batches }) handed h (packets ++ o ∷ []) replies
-steady_again p next e t handed h packets replies o lowest k below named is says = record {
+pub steady_again : {most : ℕ} (p next : ℕ) (e : Bool) (t : Partition) (handed : List Batch) (h : History) (packets : List Outgoing) (replies : List Reply) (o : Outgoing) (lowest : Open)
+    → Steady most p e next t handed h packets replies → ((x : Outgoing) → In x packets → x.correlation < next) → o.correlation ≡ next → lowest_waiting t ≡ Some lowest → Says p lowest.batch o.demand
+    → Steady most p e (next + 1) (record t { open_batches = sent_again_in next t.open_batches }) handed h (packets ++ o ∷ []) replies
+steady_again {most = most} p next e t handed h packets replies o lowest k below named is says = record {
   cut = record { landed = k.cut.landed; rest = k.cut.rest; split = k.cut.split; appended = k.cut.appended; owned = k.cut.owned; places = k.cut.places; current = k.cut.current; first = k.cut.first; heard = k.cut.heard };
   rising = rising_again next t.open_batches k.rising;
   aloft = λ x i. aloft x (again_from next t.open_batches lowest is x i);
@@ -247,11 +249,11 @@ steady_again p next e t handed h packets replies o lowest k below named is says 
         let same : next ≡ q = cc in
         subst (λ (n : ℕ). Flies p (next + 1) n (packets ++ o ∷ []) x.batch) same (subst (Flies p (next + 1) next (packets ++ o ∷ [])) (sym b) (flies_newest p next packets o lowest.batch below named says))
 
-    aloft : (x : Open) → SentAgain next t.open_batches lowest x → Aloft p (present_id t) (length handed) (next + 1) (packets ++ o ∷ []) x
+    aloft : (x : Open) → SentAgain next t.open_batches lowest x → Aloft most p (present_id t) (length handed) (next + 1) (packets ++ o ∷ []) x
     aloft x s =
-        let a : Aloft p (present_id t) (length handed) next packets s.it = k.aloft s.it s.there in record {
+        let a : Aloft most p (present_id t) (length handed) next packets s.it = k.aloft s.it s.there in record {
           current = ap (λ (b : Batch). b.id) s.batch ∙ a.current;
-          near = subst (λ (b : Batch). length handed ≤ b.number + 5) (sym s.batch) a.near;
+          near = subst (λ (b : Batch). length handed ≤ b.number + most) (sym s.batch) a.near;
           flies = λ q f. ⊎_elim
               (λ (same : x.attempt ≡ s.it.attempt). subst (Flies p (next + 1) q (packets ++ o ∷ [])) (sym s.batch) (flies_more p next q packets o s.it.batch named (a.flies q (sym same ∙ f))))
               (λ (newest : (x.batch ≡ lowest.batch) × (x.attempt ≡ InFlight next)). in_flight x q newest.0 newest.1 f)
@@ -260,14 +262,14 @@ steady_again p next e t handed h packets replies o lowest k below named is says 
 
 -- ---- the front batch is handed over
 
--- what holds of each holds of this
+-- if any is open, the first is one of the last so many
 abbrev LowestIsNear : ℕ → ℕ → List Open → Type 0
 LowestIsNear most count [] = Unit {0}
 LowestIsNear most count (o ∷ os) = count - o.batch.number < most
 
-near_all : (most count : ℕ) (os : List Open) → most ≤ 5 → Rising os → LowestIsNear most count os → (x : Open) → In x os → count + 1 ≤ x.batch.number + 5
-near_all most count [] five r near x i = absurd (In-nil x i)
-near_all most count (o ∷ os) five r near x i =
+near_all : (span most count : ℕ) (os : List Open) → span ≤ most → Rising os → LowestIsNear span count os → (x : Open) → In x os → count + 1 ≤ x.batch.number + most
+near_all span most count [] few r near x i = absurd (In-nil x i)
+near_all span most count (o ∷ os) few r near x i =
     ⊎_elim
     (λ (same : x ≡ o). let n : x.batch.number ≡ o.batch.number = ap (λ (y : Open). y.batch.number) same in omega (arith, near, n))
     (λ (j : In x os). let n : o.batch.number < x.batch.number = all_at (λ (y : Open). o.batch.number < y.batch.number) os x r.0 j in omega (arith, near, n))
@@ -289,15 +291,15 @@ rising_last (y ∷ os) o r below = (above os r.0, rising_last os o r.1 (λ x i. 
 open_more : (os : List Open) (o : Open) (b : Batch) → IsOpen os b → IsOpen (os ++ o ∷ []) b
 open_more os o b x = record { it = x.it; there = In-append_left x.it os (o ∷ []) x.there; batch = x.batch }
 
-pub steady_handed : (p next : ℕ) (ids : List ℕ) (c : Config) (e : Bool) (t : Partition) (handed : List Batch) (h : History) (packets : List Outgoing) (replies : List Reply) (o : Outgoing) (front : Pending) (queue : List Pending)
-    → c.max_in_flight_requests_per_connection ≤ 5 → Sound ids t handed h → Steady p e next t handed h packets replies → ((x : Outgoing) → In x packets → x.correlation < next) → o.correlation ≡ next
+pub steady_handed : {most : ℕ} (p next : ℕ) (ids : List ℕ) (c : Config) (e : Bool) (t : Partition) (handed : List Batch) (h : History) (packets : List Outgoing) (replies : List Reply) (o : Outgoing) (front : Pending) (queue : List Pending)
+    → c.max_in_flight_requests_per_connection ≤ most → 0 < most → Sound ids t handed h → Steady most p e next t handed h packets replies → ((x : Outgoing) → In x packets → x.correlation < next) → o.correlation ≡ next
     → is_confirmed t ≡ true → is_in_span c t.next_number t.open_batches ≡ true → Says p (new_batch t front) o.demand
-    → Steady p e (next + 1) (handed_over_in next t (front ∷ queue)) (handed ++ new_batch t front ∷ []) h (packets ++ o ∷ []) replies
+    → Steady most p e (next + 1) (handed_over_in next t (front ∷ queue)) (handed ++ new_batch t front ∷ []) h (packets ++ o ∷ []) replies
 unfolding handed_over_in
-steady_handed p next ids c e t handed h packets replies o front queue five s k below named first span says = record {
+steady_handed {most = most} p next ids c e t handed h packets replies o front queue few some s k below named first span says = record {
   cut = cut_handed ids t handed h next front queue s k.cut first;
   rising = rising_last t.open_batches new k.rising (λ x i. lower x (all_at (λ (y : Open). In y.batch handed) t.open_batches x s.opens i));
-  aloft = λ x i. ⊎_elim (λ (j : In x t.open_batches). aloft_more p (present_id t) (length handed) (length (handed ++ new_batch t front ∷ [])) next packets o x named (near x j) (k.aloft x j)) (λ (same : x ≡ new). subst (Aloft p (present_id t) (length (handed ++ new_batch t front ∷ [])) (next + 1) (packets ++ o ∷ [])) (sym same) newest) (one_more t.open_batches new x i);
+  aloft = λ x i. ⊎_elim (λ (j : In x t.open_batches). aloft_more p (present_id t) (length handed) (length (handed ++ new_batch t front ∷ [])) next packets o x named (near x j) (k.aloft x j)) (λ (same : x ≡ new). subst (Aloft most p (present_id t) (length (handed ++ new_batch t front ∷ [])) (next + 1) (packets ++ o ∷ [])) (sym same) newest) (one_more t.open_batches new x i);
   waiting = λ g f b i. ⊎_elim (λ (j : In b handed). ⊎_elim (λ (stored : IsStored h.records (sent_of b)). inl stored) (λ (x : IsOpen t.open_batches b). inr (open_more t.open_batches new b x)) (k.waiting g f b j)) (λ (same : b ≡ new_batch t front). inr (record { it = new; there = In-append_right new t.open_batches (new ∷ []) (In-head new []); batch = sym same })) (one_more handed (new_batch t front) b i);
   heard = λ r i. content_more p (length handed) (length (handed ++ new_batch t front ∷ [])) r.correlation packets o h.records r.content (omega (arith, long)) (k.heard r i);
 }
@@ -314,9 +316,9 @@ steady_handed p next ids c e t handed h packets replies o front queue five s k b
     lower : (x : Open) → In x.batch handed → x.batch.number < t.next_number
     lower x i = let n : x.batch.number < length handed = s.numbers x.batch i in omega (arith, n, number)
 
-    near : (x : Open) → In x t.open_batches → length (handed ++ new_batch t front ∷ []) ≤ x.batch.number + 5
+    near : (x : Open) → In x t.open_batches → length (handed ++ new_batch t front ∷ []) ≤ x.batch.number + most
     near x i =
-        let n : t.next_number + 1 ≤ x.batch.number + 5 = near_all c.max_in_flight_requests_per_connection t.next_number t.open_batches five k.rising (lowest_is_near c t.next_number t.open_batches span) x i in
+        let n : t.next_number + 1 ≤ x.batch.number + most = near_all c.max_in_flight_requests_per_connection most t.next_number t.open_batches few k.rising (lowest_is_near c t.next_number t.open_batches span) x i in
         omega (arith, n, number, long)
 
     flying : (q : ℕ) → InFlight next ≡ InFlight q → Flies p (next + 1) q (packets ++ o ∷ []) (new_batch t front)
@@ -324,22 +326,20 @@ steady_handed p next ids c e t handed h packets replies o front queue five s k b
         let same : next ≡ q = cc in
         subst (λ (n : ℕ). Flies p (next + 1) n (packets ++ o ∷ []) (new_batch t front)) same (flies_newest p next packets o (new_batch t front) below named says)
 
-    newest : Aloft p (present_id t) (length (handed ++ new_batch t front ∷ [])) (next + 1) (packets ++ o ∷ []) (opened_in next t front)
-    newest = record { current = refl; near = omega (arith, number, long); flies = flying }
+    newest : Aloft most p (present_id t) (length (handed ++ new_batch t front ∷ [])) (next + 1) (packets ++ o ∷ []) (opened_in next t front)
+    newest = record { current = refl; near = omega (arith, number, long, some); flies = flying }
 
 -- ---- the log grows, and an answer is given
 
+pub part_grown : (p count k : ℕ) (packets : List Outgoing) (records more : List Stored) (a : Answered) → PartHolds p count k packets records a → PartHolds p count k packets (records ++ more) a
+part_grown p count k packets records more a x = record { batch = x.batch; carried = x.carried; stored = λ s. stands_still records more (sent_of x.batch) a.base (x.stored s); kept = λ d. stored_still records more (sent_of x.batch) (x.kept d); old = x.old }
+
 content_grown : (p count k : ℕ) (packets : List Outgoing) (records more : List Stored) (c : ReplyContent) → ContentHolds p count k packets records c → ContentHolds p count k packets (records ++ more) c
-content_grown p count k packets records more (Batches parts) h = λ a i e.
-    let x : PartHolds p count k packets records a.answer = h a i e in
-    record { batch = x.batch; carried = x.carried; stored = λ s. stands_still records more (sent_of x.batch) a.answer.base (x.stored s); old = x.old }
+content_grown p count k packets records more (Batches parts) h = λ a i e. part_grown p count k packets records more a.answer (h a i e)
 content_grown p count k packets records more (Id code id) h = tt
 
-pub part_grown : (p count k : ℕ) (packets : List Outgoing) (records more : List Stored) (a : Answered) → PartHolds p count k packets records a → PartHolds p count k packets (records ++ more) a
-part_grown p count k packets records more a x = record { batch = x.batch; carried = x.carried; stored = λ s. stands_still records more (sent_of x.batch) a.base (x.stored s); old = x.old }
-
-pub steady_grown : (p next : ℕ) (e : Bool) (t : Partition) (handed : List Batch) (h h' : History) (packets : List Outgoing) (replies : List Reply) → Steady p e next t handed h packets replies → Grown t handed h h'
-    → Steady p e next t handed h' packets replies
+pub steady_grown : {most : ℕ} (p next : ℕ) (e : Bool) (t : Partition) (handed : List Batch) (h h' : History) (packets : List Outgoing) (replies : List Reply) → Steady most p e next t handed h packets replies → Grown t handed h h'
+    → Steady most p e next t handed h' packets replies
 steady_grown p next e t handed h h' packets replies k g = record {
   cut = g.cut;
   rising = k.rising;
@@ -348,8 +348,8 @@ steady_grown p next e t handed h h' packets replies k g = record {
   heard = λ r i. subst (λ (rs : List Stored). ContentHolds p (length handed) r.correlation packets rs r.content) (sym g.records) (content_grown p (length handed) r.correlation packets h.records g.more r.content (k.heard r i));
 }
 
-pub steady_replied : (p next : ℕ) (e : Bool) (t : Partition) (handed : List Batch) (h : History) (packets : List Outgoing) (replies : List Reply) (r : Reply) → Steady p e next t handed h packets replies
-    → ContentHolds p (length handed) r.correlation packets h.records r.content → Steady p e next t handed h packets (replies ++ r ∷ [])
+pub steady_replied : {most : ℕ} (p next : ℕ) (e : Bool) (t : Partition) (handed : List Batch) (h : History) (packets : List Outgoing) (replies : List Reply) (r : Reply) → Steady most p e next t handed h packets replies
+    → ContentHolds p (length handed) r.correlation packets h.records r.content → Steady most p e next t handed h packets (replies ++ r ∷ [])
 steady_replied p next e t handed h packets replies r k c = record {
   cut = k.cut;
   rising = k.rising;
@@ -360,7 +360,7 @@ steady_replied p next e t handed h packets replies r k c = record {
 
 -- ---- a fresh id
 
-none_left : (ids : List ℕ) (t : Partition) (handed : List Batch) (h : History) (p next : ℕ) (packets : List Outgoing) (replies : List Reply) → Sound ids t handed h → (k : Steady p false next t handed h packets replies)
+none_left : {most : ℕ} (ids : List ℕ) (t : Partition) (handed : List Batch) (h : History) (p next : ℕ) (packets : List Outgoing) (replies : List Reply) → Sound ids t handed h → (k : Steady most p false next t handed h packets replies)
     → t.open_batches ≡ [] → t.fenced ≡ false → (rest : List Batch) → k.cut.rest ≡ rest → k.cut.rest ≡ []
 none_left ids t handed h p next packets replies s k none free [] e = e
 none_left ids t handed h p next packets replies s k none free (b ∷ rest) e =
@@ -372,8 +372,8 @@ none_left ids t handed h p next packets replies s k none free (b ∷ rest) e =
     there : In b k.cut.rest
     there = subst (λ (bs : List Batch). In b bs) (sym e) (In-head b rest)
 
-pub steady_fresh : (ids : List ℕ) (t : Partition) (handed : List Batch) (h : History) (p next id : ℕ) (packets : List Outgoing) (replies : List Reply) → Sound ids t handed h → Sound ids (under id t) handed h
-    → Steady p false next t handed h packets replies → t.open_batches ≡ [] → t.fenced ≡ false → Steady p false next (under id t) handed h packets replies
+pub steady_fresh : {most : ℕ} (ids : List ℕ) (t : Partition) (handed : List Batch) (h : History) (p next id : ℕ) (packets : List Outgoing) (replies : List Reply) → Sound ids t handed h → Sound ids (under id t) handed h
+    → Steady most p false next t handed h packets replies → t.open_batches ≡ [] → t.fenced ≡ false → Steady most p false next (under id t) handed h packets replies
 steady_fresh ids t handed h p next id packets replies s s' k none free = record {
   cut = cut_fresh ids t handed h id s' k.cut (none_left ids t handed h p next packets replies s k none free k.cut.rest refl);
   rising = k.rising;

@@ -23,7 +23,7 @@ use Rattle.kp_world.specs.Loopback.{other_record, logs_with_others}
 use Rattle.kp_world.specs.Noting.{noted, only_noted}
 use Rattle.kp_world.specs.Run.{with_delivery, with_others_at, Arrives, Steps, Run}
 use Rattle.kp_world.specs.World.{PartAnswer, Reply, World}
-use Rattle.kp_world.proofs.GoodLemmas.{length-with_sendings}
+use Rattle.kp_world.proofs.RequestLemmas.{length-with_sendings}
 
 pub record Follows (w v : World) : Type 0 where
   pub count : length v.handed ≡ length w.handed

@@ -29,9 +29,8 @@ use Rattle.kp_world.proofs.TakingLemmas.{weigh_same}
 use Rattle.kp_world.proofs.WeightLemmas.{weigh, weigh-append}
 use Rattle.kp_world.proofs.DistinctLemmas.{demand_is_distinct}
 use Rattle.kp_world.proofs.FateLemmas.{Fates, fates_handed_over}
-use Rattle.kp_world.proofs.GoodLemmas.{length-with_sendings, at-with_sendings}
 use Rattle.kp_world.proofs.KeepingLemmas.{length-changed_at, at-changed_at}
-use Rattle.kp_world.proofs.RequestLemmas.{in_request, only_this, none_here, grown_known, grown_new, spent_step, end_step}
+use Rattle.kp_world.proofs.RequestLemmas.{length-with_sendings, at-with_sendings, in_request, only_this, none_here, grown_known, grown_new, spent_step, end_step}
 use Rattle.kp_world.proofs.SendingLemmas.{find_open, opens_again, IsSent, demand_is_sent}
 use Rattle.kp_world.proofs.SoundLemmas.{opens_more, opens_last}
 use Rattle.kp_world.proofs.TellingLemmas.{Distinct, home_past, core_nothing}

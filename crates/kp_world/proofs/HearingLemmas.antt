@@ -4,9 +4,8 @@ use Rattle.std.specs.Prelude.{Option, if◌then◌else◌, ◌&&◌, find, nat_a
 use Rattle.std.specs.List.{list_any}
 use Rattle.std.specs.Ordering.{int_eq}
 use Rattle.std.specs.Str.{bytes_eq}
-use Rattle.std.proofs.lemmas.Bool.{and_parts}
+use Rattle.std.proofs.lemmas.Bool.{and_parts, not-true}
 use Rattle.std.proofs.lemmas.Bool.Decides.{Decides-int_eq}
-use Rattle.kp_frames.specs.declared.fault.FrameFault.TheVariants.{Mismatch}
 use Rattle.kp_frames.specs.declared.produce.PartitionProduceResponse.{PartitionProduceResponse}
 use Rattle.kp_frames.specs.declared.producer_id.InitProducerIdResponse.{InitProducerIdResponse}
 use Rattle.kp_log.specs.BrokerStep.{Stands, NO_ERROR, DUPLICATE_SEQUENCE_NUMBER}
@@ -18,10 +17,10 @@ use Rattle.kp_core.specs.declared.verdict.Verdict.TheVariants.{Stored, Duplicate
 use Rattle.kp_core.specs.Answered.{verdict_of, retried_codes}
 use Rattle.kp_core.specs.Awaited.{Awaited, Nothing, Batches, Id, id_awaited, or_id, awaited}
 use Rattle.kp_core.specs.MaySend.{wants_id, front_is_past_limit}
-use Rattle.kp_core.specs.Mismatch.{Answers, is_for, answers_for, answers_of, answer_batches, is_given, answers_id}
+use Rattle.kp_core.specs.Mismatch.{Answers, is_for, answers_for, answers_of, is_given, answers_id}
 use Rattle.kp_core.specs.Partitions.{partition_at, is_in, is_empty}
 use Rattle.kp_core.specs.Records.{Batch, Open, Partition, Request, IdRequest, Core}
-use Rattle.kp_core.specs.Replies.{first_answered, answering, batches_answered, batches_replied, under, under_if_wanted, id_given, id_refused, id_answered, id_replied, replied_to, replied, after_end, faulty, known, Replies}
+use Rattle.kp_core.specs.Replies.{first_answered, answering, batches_answered, under, under_if_wanted, id_given, id_refused, id_answered, replied, Replies}
 use Rattle.kp_core.specs.Requesting.{Outgoing}
 use Rattle.kp_core.specs.Telling.{at_these, with_partitions}
 use Rattle.kp_world.specs.Client.{handed_at}
@@ -29,13 +28,16 @@ use Rattle.kp_world.specs.Delivering.{log_at, given}
 use Rattle.kp_world.specs.Message.{sent_of, part_response, epoch_for, body_of_reply, response_of}
 use Rattle.kp_world.specs.World.{PartAnswer, ReplyContent, Batches as Parts, Id as GivenId, Reply, names}
 use Rattle.kp_world.proofs.FlightLemmas.{PartHolds, ContentHolds, Steady, flies_same, steady_fresh}
-use Rattle.kp_world.proofs.KeepingLemmas.{Keeps, keeps_same, keeps_answered, core_at_these, length-changed_at, at-changed_at}
+use Rattle.kp_world.proofs.KeepingLemmas.{length-changed_at, at-changed_at}
 use Rattle.kp_world.proofs.LawfulLemmas.{Lawful, StoredAt, lawful_core}
-use Rattle.kp_world.proofs.LeavingLemmas.{Leaves, leaves_same, leaves_answered, SettlesOnly, at_some, left_in, found}
+use Rattle.kp_world.proofs.LeavingLemmas.{Leaves, leaves_same, leaves_answered, SettlesOnly, at_some, left_in, found, left_alike}
 use Rattle.kp_world.proofs.BrokerLemmas.{Agrees}
 use Rattle.kp_world.proofs.PrefixLemmas.{follows}
 use Rattle.kp_world.proofs.SoundLemmas.{Sound, sound_fresh}
 use Rattle.kp_world.proofs.ListLemmas.{all_at}
+use Rattle.kp_core.proofs.CallLemmas.{OfReply, at_replied_going}
+use Rattle.kp_frames.specs.declared.produce.ProduceResponse.{ProduceResponse}
+use Rattle.kp_frames.specs.declared.response.ResponseBody.TheVariants.{Produce, InitProducerId}
 
 -- ---- which request a reply names
 
@@ -98,8 +100,8 @@ from_map f [] y i = absurd (In-nil y i)
 from_map f (x ∷ xs) y i = ⊎_elim (λ (same : y ≡ f x). (x, In-head x xs, same)) (λ (j : In y (map f xs)). let l = from_map f xs y j in (l.0, In-tail l.0 x xs l.1, l.2)) (In-cons y (f x) (map f xs) i)
 
 -- an open batch in flight in request k is the one that was answered
-pub answered_batch : (p next k : ℕ) (e : Bool) (t : Partition) (handed : List Batch) (h : History) (packets : List Outgoing) (replies : List Reply) (r : Reply) (parts : List PartAnswer) (a : PartAnswer)
-    → Steady p e next t handed h packets replies → In r replies → r.content ≡ Parts parts → k ≡ r.correlation → In a parts → a.partition ≡ p → (o : Open) → In o t.open_batches → o.attempt ≡ InFlight k
+pub answered_batch : {most : ℕ} (p next k : ℕ) (e : Bool) (t : Partition) (handed : List Batch) (h : History) (packets : List Outgoing) (replies : List Reply) (r : Reply) (parts : List PartAnswer) (a : PartAnswer)
+    → Steady most p e next t handed h packets replies → In r replies → r.content ≡ Parts parts → k ≡ r.correlation → In a parts → a.partition ≡ p → (o : Open) → In o t.open_batches → o.attempt ≡ InFlight k
     → (x : PartHolds p (length handed) r.correlation packets h.records a.answer) × (x.batch ≡ o.batch)
 answered_batch p next k e t handed h packets replies r parts a s i is named j at o there flies =
     let x : PartHolds p (length handed) r.correlation packets h.records a.answer = subst (ContentHolds p (length handed) r.correlation packets h.records) is (s.heard r i) a j at in
@@ -107,7 +109,7 @@ answered_batch p next k e t handed h packets replies r parts a s i is named j at
 
 -- a batch that is too old is not in flight
 pub old_not_in_flight : (p next k : ℕ) (e : Bool) (t : Partition) (handed : List Batch) (h : History) (packets : List Outgoing) (replies : List Reply) (r : Reply) (parts : List PartAnswer) (a : PartAnswer)
-    → Steady p e next t handed h packets replies → In r replies → r.content ≡ Parts parts → k ≡ r.correlation → In a parts → a.partition ≡ p → a.answer.code ≡ DUPLICATE_SEQUENCE_NUMBER → (o : Open) → In o t.open_batches → o.attempt ≡ InFlight k → ⊥
+    → Steady 5 p e next t handed h packets replies → In r replies → r.content ≡ Parts parts → k ≡ r.correlation → In a parts → a.partition ≡ p → a.answer.code ≡ DUPLICATE_SEQUENCE_NUMBER → (o : Open) → In o t.open_batches → o.attempt ≡ InFlight k → ⊥
 old_not_in_flight p next k e t handed h packets replies r parts a s i is named j at code o there flies =
     let x = answered_batch p next k e t handed h packets replies r parts a s i is named j at o there flies in
     let near : length handed ≤ o.batch.number + 5 = (s.aloft o there).near in
@@ -115,13 +117,13 @@ old_not_in_flight p next k e t handed h packets replies r parts a s i is named j
     let same : x.0.batch.number ≡ o.batch.number = ap (λ (b : Batch). b.number) x.1 in
     omega (arith, near, old, same)
 
-leaves_part : (p now next k : ℕ) (ids : List ℕ) (e : Bool) (t : Partition) (handed : List Batch) (h : History) (packets : List Outgoing) (replies : List Reply) (r : Reply) (parts : List PartAnswer)
-    → Sound ids t handed h → Steady p e next t handed h packets replies → In r replies → r.content ≡ Parts parts → k ≡ r.correlation
+leaves_part : {most : ℕ} (p now next k : ℕ) (ids : List ℕ) (e : Bool) (t : Partition) (handed : List Batch) (h : History) (packets : List Outgoing) (replies : List Reply) (r : Reply) (parts : List PartAnswer)
+    → Sound ids t handed h → Steady most p e next t handed h packets replies → In r replies → r.content ≡ Parts parts → k ≡ r.correlation
     → Leaves (λ b. IsStored h.records (sent_of b)) e t (answering now k (map part_response parts) p t).after
 leaves_part p now next k ids e t handed h packets replies r parts sound s i is named = at_first (answers_for p (map part_response parts)) refl
   where
     one : (a : PartAnswer) → In a parts → a.partition ≡ p → Leaves (λ b. IsStored h.records (sent_of b)) e t (first_answered now k t (part_response a ∷ [])).after
-    one a j at = leaves_answered (λ b. IsStored h.records (sent_of b)) e now k t (part_response a) only (λ v o there flies. old_not_in_flight p next k e t handed h packets replies r parts a s i is named j at (duplicate_code a.answer.code v) o there flies)
+    one a j at = leaves_answered (λ b. IsStored h.records (sent_of b)) e now k t (part_response a) only kept
       where
         only : verdict_of a.answer.code ≡ Stored → SettlesOnly (λ b. IsStored h.records (sent_of b)) k t
         only v o there flies =
@@ -132,6 +134,11 @@ leaves_part p now next k ids e t handed h packets replies r parts sound s i is n
               base = a.answer.base;
               stands = subst (λ (b : Batch). Stands h.records (sent_of b) a.answer.base) x.1 (x.0.stored (stored_code a.answer.code v));
             }
+
+        kept : verdict_of a.answer.code ≡ Duplicate → SettlesOnly (λ b. IsStored h.records (sent_of b)) k t
+        kept v o there flies =
+            let x = answered_batch p next k e t handed h packets replies r parts a s i is named j at o there flies in
+            subst (λ (b : Batch). IsStored h.records (sent_of b)) x.1 (x.0.kept (duplicate_code a.answer.code v))
 
     at_first : (as' : Answers) → answers_for p (map part_response parts) ≡ as' → Leaves (λ b. IsStored h.records (sent_of b)) e t (first_answered now k t as').after
     at_first [] e' = leaves_same (λ b. IsStored h.records (sent_of b)) e t
@@ -145,40 +152,31 @@ leaves_part p now next k ids e t handed h packets replies r parts sound s i is n
 
 -- ---- a reply to a Produce request
 
-keeps_part : (now k : ℕ) (answers : Answers) (p : ℕ) (t : Partition) → Keeps t (answering now k answers p t).after
-keeps_part now k answers p t = at_first (answers_for p answers)
+-- the answers that a reply has for this topic are its parts
+pub parts_heard : (topic : List ℕ) (c : ReplyContent) (x : ProduceResponse) (answers : Answers) → body_of_reply c ≡ Produce x → answers_of topic x.topics ≡ Some answers → (parts : List PartAnswer) × (c ≡ Parts parts) × (map part_response parts ≡ answers)
+parts_heard topic (GivenId code id) x answers is e = absurd cc
+parts_heard topic (Parts parts) x answers is e =
+    let same : (record { topics = (record { topic = names.topic; partitions = map part_response parts }) ∷ []; throttle_time_ms = pos 0 }) ≡ x = cc in
+    (parts, refl, at_topic (bytes_eq names.topic topic) (ap (λ (y : ProduceResponse). answers_of topic y.topics) same ∙ e))
   where
-    at_first : (xs : Answers) → Keeps t (first_answered now k t xs).after
-    at_first [] = keeps_same t
-    at_first (a ∷ xs) = keeps_answered now k t a
+    at_topic : (b : Bool) → (if b then Some (map part_response parts) else None) ≡ Some answers → map part_response parts ≡ answers
+    at_topic true e' = cc
+    at_topic false e' = absurd cc
 
-abbrev batches_step : ℕ → Request → Core → Answers → Bool → Replies
-batches_step now q s answers b = if b then batches_answered now q answers s else faulty Mismatch s
-
-lawful_parts : (n now : ℕ) (s : Core) (logs : List History) (handed : List (List Batch)) (packets : List Outgoing) (replies : List Reply) (ids : List ℕ) (q : Request) (r : Reply) (parts : List PartAnswer)
-    → Lawful n s logs handed packets replies ids → In r replies → r.content ≡ Parts parts → q.correlation ≡ r.correlation
-    → Lawful n (batches_replied now q s (answers_of s.names.topic ((record { topic = names.topic; partitions = map part_response parts }) ∷ []))).after logs handed packets replies ids
+lawful_parts : {most : ℕ} (n now : ℕ) (s : Core) (logs : List History) (handed : List (List Batch)) (packets : List Outgoing) (replies : List Reply) (ids : List ℕ) (q : Request) (r : Reply) (parts : List PartAnswer)
+    → Lawful most n s logs handed packets replies ids → In r replies → r.content ≡ Parts parts → q.correlation ≡ r.correlation
+    → Lawful most n (batches_answered now q (map part_response parts) s).after logs handed packets replies ids
 unfolding at_these with_partitions
-lawful_parts n now s logs handed packets replies ids q r parts g i is named = at_topic (bytes_eq names.topic s.names.topic)
-  where
-    settles : Lawful n (at_these q.partitions (answering now q.correlation (map part_response parts)) s) logs handed packets replies ids
-    settles = lawful_core n s (at_these q.partitions (answering now q.correlation (map part_response parts)) s) logs handed packets replies ids g
-        (core_at_these q.partitions (answering now q.correlation (map part_response parts)) (keeps_part now q.correlation (map part_response parts)) s)
-        (record {
-          config = refl;
-          ended = λ e. e;
-          each = λ p h. at_some (StoredAt logs) s.ended q.partitions (λ p' t. (answering now q.correlation (map part_response parts) p' t).after) s.partitions p h
-              (let both : Agrees n ids s handed logs packets replies p = g.agree p (subst (λ (m : ℕ). p < m) g.count h) in
-              leaves_part p now s.correlation q.correlation ids s.ended (partition_at p s.partitions) (handed_at p handed) (log_at p logs) packets replies r parts both.sound both.steady i is named);
-        })
-
-    at_answers : (b : Bool) → Lawful n (batches_step now q s (map part_response parts) b).after logs handed packets replies ids
-    at_answers true = settles
-    at_answers false = g
-
-    at_topic : (b : Bool) → Lawful n (batches_replied now q s (if b then Some (map part_response parts) else None)).after logs handed packets replies ids
-    at_topic true = at_answers (answer_batches q.correlation q.partitions s.partitions (map part_response parts))
-    at_topic false = g
+lawful_parts n now s logs handed packets replies ids q r parts g i is named = lawful_core n s (batches_answered now q (map part_response parts) s).after logs handed packets replies ids g (record {
+  count = length-changed_at q.partitions (λ p t. (answering now q.correlation (map part_response parts) p t).after) s.partitions;
+  config = refl;
+  ended = λ e. e;
+  correlation = refl;
+  asked = λ a e. e;
+  each = λ p h. at_some (StoredAt logs) s.ended q.partitions (λ p' t. (answering now q.correlation (map part_response parts) p' t).after) s.partitions p h
+      (let both = g.agree p (subst (λ (m : ℕ). p < m) g.count h) in
+      leaves_part p now s.correlation q.correlation ids s.ended (partition_at p s.partitions) (handed_at p handed) (log_at p logs) packets replies r parts both.sound both.steady i is named);
+})
 
 -- ---- a reply to an InitProducerId request
 
@@ -186,38 +184,35 @@ is_none : (os : List Open) → is_empty os ≡ true → os ≡ []
 is_none [] e = refl
 is_none (o ∷ os) e = absurd cc
 
-is_no : (b : Bool) → not b ≡ true → b ≡ false
-is_no true e = absurd cc
-is_no false e = refl
-
 -- The partition goes on under the id, where it wants one still.
-agrees_fresh : (n p id : ℕ) (s : Core) (logs : List History) (handed : List (List Batch)) (packets : List Outgoing) (replies : List Reply) (ids : List ℕ)
-    → Agrees n ids s handed logs packets replies p → s.ended ≡ false → In id ids → (In id (partition_at p s.partitions).ids → ⊥)
+agrees_fresh : {most : ℕ} (n p id : ℕ) (s : Core) (logs : List History) (handed : List (List Batch)) (packets : List Outgoing) (replies : List Reply) (ids : List ℕ)
+    → Agrees most n ids s handed logs packets replies p → s.ended ≡ false → In id ids → (In id (partition_at p s.partitions).ids → ⊥)
     → (Sound ids (under_if_wanted id s p (partition_at p s.partitions)) (handed_at p handed) (log_at p logs))
-    × Steady p s.ended s.correlation (under_if_wanted id s p (partition_at p s.partitions)) (handed_at p handed) (log_at p logs) packets replies
+    × Steady most p s.ended s.correlation (under_if_wanted id s p (partition_at p s.partitions)) (handed_at p handed) (log_at p logs) packets replies
 unfolding wants_id
-agrees_fresh n p id s logs handed packets replies ids a going drawn spare = at_test (wants_id s.config (partition_at p s.partitions)) refl
+agrees_fresh {most = most} n p id s logs handed packets replies ids a going drawn spare = at_test (wants_id s.config (partition_at p s.partitions)) refl
   where
     at_test : (b : Bool) → wants_id s.config (partition_at p s.partitions) ≡ b → (Sound ids (if b then under id (partition_at p s.partitions) else partition_at p s.partitions) (handed_at p handed) (log_at p logs))
-        × Steady p s.ended s.correlation (if b then under id (partition_at p s.partitions) else partition_at p s.partitions) (handed_at p handed) (log_at p logs) packets replies
+        × Steady most p s.ended s.correlation (if b then under id (partition_at p s.partitions) else partition_at p s.partitions) (handed_at p handed) (log_at p logs) packets replies
     at_test false w = (a.sound, a.steady)
     at_test true w =
         let two = and_parts (not (partition_at p s.partitions).fenced && is_empty (partition_at p s.partitions).open_batches) (front_is_past_limit s.config (partition_at p s.partitions) (partition_at p s.partitions).queue) w in
         let one = and_parts (not (partition_at p s.partitions).fenced) (is_empty (partition_at p s.partitions).open_batches) two.0 in
         let sound : Sound ids (under id (partition_at p s.partitions)) (handed_at p handed) (log_at p logs) = sound_fresh ids id (partition_at p s.partitions) (handed_at p handed) (log_at p logs) a.sound drawn spare in (
           sound,
-          subst (λ (e : Bool). Steady p e s.correlation (under id (partition_at p s.partitions)) (handed_at p handed) (log_at p logs) packets replies) (sym going)
+          subst (λ (e : Bool). Steady most p e s.correlation (under id (partition_at p s.partitions)) (handed_at p handed) (log_at p logs) packets replies) (sym going)
               (steady_fresh ids (partition_at p s.partitions) (handed_at p handed) (log_at p logs) p s.correlation id packets replies a.sound sound
-              (subst (λ (e : Bool). Steady p e s.correlation (partition_at p s.partitions) (handed_at p handed) (log_at p logs) packets replies) going a.steady) (is_none (partition_at p s.partitions).open_batches one.1) (is_no (partition_at p s.partitions).fenced one.0)),
+              (subst (λ (e : Bool). Steady most p e s.correlation (partition_at p s.partitions) (handed_at p handed) (log_at p logs) packets replies) going a.steady) (is_none (partition_at p s.partitions).open_batches one.1) (not-true (partition_at p s.partitions).fenced one.0)),
         )
 
-lawful_given : (n id : ℕ) (s : Core) (logs : List History) (handed : List (List Batch)) (packets : List Outgoing) (replies : List Reply) (ids : List ℕ) (q : IdRequest) (r : Reply)
-    → Lawful n s logs handed packets replies ids → s.ended ≡ false → In r replies → r.content ≡ given id → s.id_request ≡ Some q → q.correlation ≡ r.correlation → Lawful n (id_given id q s) logs handed packets replies ids
-lawful_given n id s logs handed packets replies ids q r g going i is asked named = record {
+lawful_given : {most : ℕ} (n id : ℕ) (s : Core) (logs : List History) (handed : List (List Batch)) (packets : List Outgoing) (replies : List Reply) (ids : List ℕ) (q : IdRequest) (r : Reply)
+    → Lawful most n s logs handed packets replies ids → s.ended ≡ false → In r replies → r.content ≡ given id → s.id_request ≡ Some q → q.correlation ≡ r.correlation → Lawful most n (id_given id q s) logs handed packets replies ids
+lawful_given {most = most} n id s logs handed packets replies ids q r g going i is asked named = record {
   count = length-changed_at (q.partition ∷ []) (under_if_wanted id s) s.partitions ∙ g.count;
   handed_count = g.handed_count;
   logs_count = g.logs_count;
   window = g.window;
+  some = g.some;
   agree = λ p h. let both = each p h in record { sound = both.0; steady = both.1 };
   went = λ o j. let w = g.went o j in record { before = w.before; parts = w.parts };
   gave = λ x j. let w = g.gave x j in record { before = w.before; drawn = w.drawn; spare = λ m a b c d p h at. absurd (nobody a c) };
@@ -228,76 +223,65 @@ lawful_given n id s logs handed packets replies ids q r g going i is asked named
     nobody a e = absurd cc
 
     fresh : (p : ℕ) → p < n → (Sound ids (under_if_wanted id s p (partition_at p s.partitions)) (handed_at p handed) (log_at p logs))
-        × Steady p s.ended s.correlation (under_if_wanted id s p (partition_at p s.partitions)) (handed_at p handed) (log_at p logs) packets replies
+        × Steady most p s.ended s.correlation (under_if_wanted id s p (partition_at p s.partitions)) (handed_at p handed) (log_at p logs) packets replies
     fresh p h = agrees_fresh n p id s logs handed packets replies ids (g.agree p h) going ((g.gave r i).drawn id is) (λ at. (g.gave r i).spare id q is asked named p h at)
 
-    each : (p : ℕ) → p < n → (Sound ids (partition_at p (id_given id q s).partitions) (handed_at p handed) (log_at p logs)) × Steady p s.ended s.correlation (partition_at p (id_given id q s).partitions) (handed_at p handed) (log_at p logs) packets replies
+    each : (p : ℕ) → p < n → (Sound ids (partition_at p (id_given id q s).partitions) (handed_at p handed) (log_at p logs)) × Steady most p s.ended s.correlation (partition_at p (id_given id q s).partitions) (handed_at p handed) (log_at p logs) packets replies
     each p h =
-        subst (λ (u : Partition). (Sound ids u (handed_at p handed) (log_at p logs)) × Steady p s.ended s.correlation u (handed_at p handed) (log_at p logs) packets replies)
+        subst (λ (u : Partition). (Sound ids u (handed_at p handed) (log_at p logs)) × Steady most p s.ended s.correlation u (handed_at p handed) (log_at p logs) packets replies)
         (sym (at-changed_at (q.partition ∷ []) (under_if_wanted id s) s.partitions p (subst (λ (m : ℕ). p < m) (sym g.count) h)))
         (at_test (is_in p (q.partition ∷ [])))
       where
         at_test : (b : Bool) → (Sound ids (if b then under_if_wanted id s p (partition_at p s.partitions) else partition_at p s.partitions) (handed_at p handed) (log_at p logs))
-            × Steady p s.ended s.correlation (if b then under_if_wanted id s p (partition_at p s.partitions) else partition_at p s.partitions) (handed_at p handed) (log_at p logs) packets replies
+            × Steady most p s.ended s.correlation (if b then under_if_wanted id s p (partition_at p s.partitions) else partition_at p s.partitions) (handed_at p handed) (log_at p logs) packets replies
         at_test true = fresh p h
         at_test false = ((g.agree p h).sound, (g.agree p h).steady)
 
 abbrev pub answer_of : ℤ → ℤ → InitProducerIdResponse
 answer_of code id = record { throttle_time_ms = pos 0; error_code = code; producer_id = id; producer_epoch = epoch_for code }
 
-abbrev id_step : ℕ → IdRequest → InitProducerIdResponse → Core → Bool → Replies
-id_step now q x s b = if b then known (id_answered now q x s) [] else faulty Mismatch s
+-- the answer to a request for an id is what the reply gives
+pub id_heard : (c : ReplyContent) (x : InitProducerIdResponse) → body_of_reply c ≡ InitProducerId x → (code id : ℤ) × (c ≡ GivenId code id) × (answer_of code id ≡ x)
+id_heard (Parts parts) x is = absurd cc
+id_heard (GivenId code id) x is = (code, id, refl, cc)
 
-lawful_id_reply : (n now : ℕ) (s : Core) (logs : List History) (handed : List (List Batch)) (packets : List Outgoing) (replies : List Reply) (ids : List ℕ) (q : IdRequest) (r : Reply) (code id : ℤ)
-    → Lawful n s logs handed packets replies ids → s.ended ≡ false → In r replies → r.content ≡ GivenId code id → s.id_request ≡ Some q → q.correlation ≡ r.correlation
-    → Lawful n (id_replied now q (answer_of code id) s).after logs handed packets replies ids
+lawful_id_reply : {most : ℕ} (n now : ℕ) (s : Core) (logs : List History) (handed : List (List Batch)) (packets : List Outgoing) (replies : List Reply) (ids : List ℕ) (q : IdRequest) (r : Reply) (code id : ℤ)
+    → Lawful most n s logs handed packets replies ids → s.ended ≡ false → In r replies → r.content ≡ GivenId code id → s.id_request ≡ Some q → q.correlation ≡ r.correlation → answers_id (answer_of code id) ≡ true
+    → Lawful most n (id_answered now q (answer_of code id) s) logs handed packets replies ids
 unfolding answers_id
-lawful_id_reply n now s logs handed packets replies ids q r code id g going i is asked named = at_valid (answers_id (answer_of code id)) refl
+lawful_id_reply {most = most} n now s logs handed packets replies ids q r code id g going i is asked named valid = at_given (is_given (answer_of code id)) refl
   where
-    refused : Lawful n (id_refused now s) logs handed packets replies ids
-    refused = lawful_core n s (id_refused now s) logs handed packets replies ids g
-        (record { count = refl; each = λ p h. keeps_same (partition_at p s.partitions); correlation = refl; asked = λ a e. absurd cc })
-        (record { config = refl; ended = λ e. e; each = λ p h. leaves_same (StoredAt logs p) s.ended (partition_at p s.partitions) })
-
-    by_id : (z : ℤ) → id ≡ z → code ≡ pos 0 → answers_id (answer_of (pos 0) z) ≡ true → Lawful n (id_given (nat_abs z) q s) logs handed packets replies ids
+    by_id : (z : ℤ) → id ≡ z → code ≡ pos 0 → answers_id (answer_of (pos 0) z) ≡ true → Lawful most n (id_given (nat_abs z) q s) logs handed packets replies ids
     by_id (pos m) at zero v = lawful_given n m s logs handed packets replies ids q r g going i (is ∙ ap (λ (c : ℤ). GivenId c id) zero ∙ ap (GivenId (pos 0)) at) asked named
     by_id (negsuc m) at zero v = absurd cc
 
-    at_given : (b : Bool) → is_given (answer_of code id) ≡ b → answers_id (answer_of code id) ≡ true → Lawful n (if b then id_given (nat_abs id) q s else id_refused now s) logs handed packets replies ids
-    at_given true e v =
+    at_given : (b : Bool) → is_given (answer_of code id) ≡ b → Lawful most n (if b then id_given (nat_abs id) q s else id_refused now s) logs handed packets replies ids
+    at_given true e =
         let zero : code ≡ pos 0 = (Decides-int_eq code (pos 0)).0 e in
-        by_id id refl zero (subst (λ (c : ℤ). answers_id (answer_of c id) ≡ true) zero v)
-    at_given false e v = refused
-
-    at_valid : (b : Bool) → answers_id (answer_of code id) ≡ b → Lawful n (id_step now q (answer_of code id) s b).after logs handed packets replies ids
-    at_valid true v = at_given (is_given (answer_of code id)) refl v
-    at_valid false v = g
+        by_id id refl zero (subst (λ (c : ℤ). answers_id (answer_of c id) ≡ true) zero valid)
+    at_given false e =
+        lawful_core n s (id_refused now s) logs handed packets replies ids g (left_alike (StoredAt logs) s (id_refused now s) refl refl refl refl (λ a e. absurd cc))
 
 -- ---- any reply
 
 pub same_correlation : (a b : ℕ) → pos a ≡ pos b → a ≡ b
 same_correlation a b e = cc
 
-lawful_body : (n now : ℕ) (s : Core) (logs : List History) (handed : List (List Batch)) (packets : List Outgoing) (replies : List Reply) (ids : List ℕ) (r : Reply)
-    → Lawful n s logs handed packets replies ids → s.ended ≡ false → In r replies → (who : Awaited) → Names (pos r.correlation) s who → (c : ReplyContent) → r.content ≡ c
-    → Lawful n (replied_to now s who (body_of_reply c)).after logs handed packets replies ids
-lawful_body n now s logs handed packets replies ids r g going i Nothing it c is = g
-lawful_body n now s logs handed packets replies ids r g going i (Batches q) it (Parts parts) is =
-    lawful_parts n now s logs handed packets replies ids q r parts g i is (same_correlation q.correlation r.correlation it)
-lawful_body n now s logs handed packets replies ids r g going i (Batches q) it (GivenId code id) is = g
-lawful_body n now s logs handed packets replies ids r g going i (Id q) it (Parts parts) is = g
-lawful_body n now s logs handed packets replies ids r g going i (Id q) it (GivenId code id) is =
-    lawful_id_reply n now s logs handed packets replies ids q r code id g going i is it.0 (same_correlation q.correlation r.correlation it.1)
-
-abbrev reply_step : ℕ → Reply → Core → Bool → Replies
-reply_step now r s b =
-    if b then after_end s else replied_to now s (awaited (pos r.correlation) s) (body_of_reply r.content)
-
-pub lawful_reply : (n now : ℕ) (s : Core) (logs : List History) (handed : List (List Batch)) (packets : List Outgoing) (replies : List Reply) (ids : List ℕ) (r : Reply)
-    → Lawful n s logs handed packets replies ids → In r replies → Lawful n (replied now (response_of r) s).after logs handed packets replies ids
-unfolding replied
-lawful_reply n now s logs handed packets replies ids r g i = at_end s.ended refl
+pub lawful_reply : {most : ℕ} (n now : ℕ) (s : Core) (logs : List History) (handed : List (List Batch)) (packets : List Outgoing) (replies : List Reply) (ids : List ℕ) (r : Reply)
+    → Lawful most n s logs handed packets replies ids → In r replies → Lawful most n (replied now (response_of r) s).after logs handed packets replies ids
+lawful_reply {most = most} n now s logs handed packets replies ids r g i =
+    at_replied_going (λ (x : Replies). Lawful most n x.after logs handed packets replies ids) now (response_of r) s g heard
   where
-    at_end : (b : Bool) → s.ended ≡ b → Lawful n (reply_step now r s b).after logs handed packets replies ids
-    at_end true e = g
-    at_end false e = lawful_body n now s logs handed packets replies ids r g e i (awaited (pos r.correlation) s) (names_its (pos r.correlation) s) r.content refl
+    heard : s.ended ≡ false → OfReply (λ (x : Replies). Lawful most n x.after logs handed packets replies ids) now (response_of r) s
+    heard going = record {
+      same = λ answer. g;
+      batches = λ q x answers who is e all.
+          let named : pos q.correlation ≡ pos r.correlation = subst (Names (pos r.correlation) s) who (names_its (pos r.correlation) s) in
+          let it = parts_heard s.names.topic r.content x answers is e in
+          subst (λ (as' : Answers). Lawful most n (batches_answered now q as' s).after logs handed packets replies ids) it.2 (lawful_parts n now s logs handed packets replies ids q r it.0 g i it.1 (same_correlation q.correlation r.correlation named));
+      id = λ q x who is valid.
+          let named : (s.id_request ≡ Some q) × (pos q.correlation ≡ pos r.correlation) = subst (Names (pos r.correlation) s) who (names_its (pos r.correlation) s) in
+          let it = id_heard r.content x is in
+          subst (λ (y : InitProducerIdResponse). Lawful most n (id_answered now q y s) logs handed packets replies ids) it.3 (lawful_id_reply n now s logs handed packets replies ids q r it.0 it.1 g going i it.2 named.0 (same_correlation q.correlation r.correlation named.1)
+          (subst (λ (y : InitProducerIdResponse). answers_id y ≡ true) (sym it.3) valid));
+    }

@@ -1,9 +1,7 @@
--- What a call on the core leaves as it is in each partition: what was handed over, and that what is
--- open was. Only handing over, and a fresh id, do more.
+-- What a rule leaves as it is in a partition: what was handed over, and that what is open was.
 use Rattle.std.proofs.Common.{◌≡◌, ℕ, suc, zero, ◌+◌, ◌<◌, Bool, true, false, not, cond, List, [], ◌∷◌, length, get_or, map, Some, None, refl, sym, ap, ◌∙◌, subst, arith, length-append}
 use Rattle.std.specs.Prelude.{Option, if◌then◌else◌}
 use Rattle.std.specs.List.{AllByRecursion, filter, enumerate_from, list_any}
-use Rattle.std.proofs.lemmas.List.{get_or-map, length-map}
 use Rattle.kp_accum.specs.declared.config.Config.{Config}
 use Rattle.kp_accum.specs.declared.item.Item.{Item}
 use Rattle.kp_accum.specs.Queue.{Pending, joins, with_item, joined_by, begun_by, marked_by_flush}
@@ -11,19 +9,16 @@ use Rattle.kp_accum.specs.Ready.{is_late}
 use Rattle.kp_frames.specs.declared.produce.PartitionProduceResponse.{PartitionProduceResponse}
 use Rattle.kp_log.proofs.PlaceLemmas.{In}
 use Rattle.kp_core.specs.declared.attempt.Attempt.TheVariants.{Waiting}
-use Rattle.kp_core.specs.declared.outcome.Reason.{Reason}
-use Rattle.kp_core.specs.declared.outcome.Reason.TheVariants.{Fenced, Ended}
 use Rattle.kp_core.specs.declared.verdict.Verdict.{Verdict}
 use Rattle.kp_core.specs.declared.verdict.Verdict.TheVariants.{Stored, Duplicate, Retry, Reject}
 use Rattle.kp_core.specs.Answered.{without_attempt, waiting_since, settled, answered_if, answered, verdict_of}
-use Rattle.kp_core.specs.Appending.{turned_away, refused, queued, with_queued, would_exhaust, appended}
-use Rattle.kp_core.specs.Attempts.{awaits, awaiting, dropped_batch, without_attempts, dropped}
-use Rattle.kp_core.specs.Fence.{fenced, given_up, end_of, ended}
-use Rattle.kp_core.specs.Flush.{marked_open, with_marks, flushed}
+use Rattle.kp_core.specs.Appending.{with_queued}
+use Rattle.kp_core.specs.Attempts.{awaits, awaiting, dropped_batch, without_attempts}
+use Rattle.kp_core.specs.Fence.{fenced, given_up}
+use Rattle.kp_core.specs.Flush.{marked_open, with_marks}
 use Rattle.kp_core.specs.Partitions.{partition_at, changed_at, new_partition, is_in}
-use Rattle.kp_core.specs.Records.{Batch, Open, Partition, IdRequest, Core, Effect, Step}
-use Rattle.kp_core.specs.Telling.{with_partitions, at_each, told_at_each, at_these}
-use Rattle.kp_core.specs.Tick.{behind_late, expired_front, is_open_late, passed, has_timed_out, ticked_now, ticked_from, not_ticked, ticked, disconnected, closed}
+use Rattle.kp_core.specs.Records.{Batch, Open, Partition}
+use Rattle.kp_core.specs.Tick.{behind_late, expired_front, is_open_late, passed}
 
 -- ---- one partition
 
@@ -99,7 +94,7 @@ queue_behind_late c now (b ∷ q) h = at_test (is_late c now b) (queue_behind_la
     at_test true rest = rest
     at_test false rest = h
 
-keeps_expired : (c : Config) (now : ℕ) (t : Partition) → Keeps t (expired_front c now t).after
+pub keeps_expired : (c : Config) (now : ℕ) (t : Partition) → Keeps t (expired_front c now t).after
 keeps_expired c now t = record {
   number = refl;
   sequence = refl;
@@ -123,7 +118,7 @@ same_waiting now k o = at_test (awaits k o)
     at_test true = refl
     at_test false = refl
 
-keeps_without : (k : ℕ) (t : Partition) → Keeps t (without_attempt k t)
+pub keeps_without : (k : ℕ) (t : Partition) → Keeps t (without_attempt k t)
 keeps_without k t = record {
   number = refl;
   sequence = refl;
@@ -132,7 +127,7 @@ keeps_without k t = record {
   queue = λ h. h;
 }
 
-keeps_settled : (now k : ℕ) (t : Partition) (o : Open) (a : PartitionProduceResponse) (v : Verdict)
+pub keeps_settled : (now k : ℕ) (t : Partition) (o : Open) (a : PartitionProduceResponse) (v : Verdict)
     → Keeps t (settled now k t o a v).after
 keeps_settled now k t o a Stored = record {
   number = refl;
@@ -230,178 +225,3 @@ at-changed_at ps f ts p h =
     by_place (λ (x : ℕ × Partition). if is_in x.0 ps then f x.0 x.1 else x.1) ts 0 p
     (new_partition 0) (new_partition 0) h
     ∙ ap (λ (n : ℕ). if is_in n ps then f n (partition_at p ts) else partition_at p ts) same
-
-pub keeps_changed : (ps : List ℕ) (f : ℕ → Partition → Partition) → ((p : ℕ) (t : Partition) → Keeps t (f p t))
-    → (ts : List Partition) (p : ℕ) → p < length ts → Keeps (partition_at p ts) (partition_at p (changed_at ps f ts))
-keeps_changed ps f k ts p h =
-    subst (Keeps (partition_at p ts)) (sym (at-changed_at ps f ts p h)) (at_test (is_in p ps))
-  where
-    at_test : (b : Bool) → Keeps (partition_at p ts) (if b then f p (partition_at p ts) else partition_at p ts)
-    at_test true = k p (partition_at p ts)
-    at_test false = keeps_same (partition_at p ts)
-
--- ---- the core
-
-pub record CoreKeeps (s s' : Core) : Type 0 where
-  pub count : length s'.partitions ≡ length s.partitions
-  pub each : (p : ℕ) → p < length s.partitions → Keeps (partition_at p s.partitions) (partition_at p s'.partitions)
-  pub correlation : s'.correlation ≡ s.correlation
-  pub asked : (q : IdRequest) → s'.id_request ≡ Some q → s.id_request ≡ Some q
-
-pub core_same : (s : Core) → CoreKeeps s s
-core_same s = record {
-  count = refl;
-  each = λ p h. keeps_same
-      (partition_at p s.partitions);
-  correlation = refl;
-  asked = λ q e. e;
-}
-
-pub core_more : (s u v : Core) → CoreKeeps s u → CoreKeeps u v → CoreKeeps s v
-core_more s u v k l = record {
-  count = l.count ∙ k.count;
-  each = λ p h. keeps_more (partition_at p s.partitions) (partition_at p u.partitions)
-      (partition_at p v.partitions) (k.each p h)
-      (l.each p (subst (λ (n : ℕ). p < n) (sym k.count) h));
-  correlation = l.correlation ∙ k.correlation;
-  asked = λ q e. k.asked q (l.asked q e);
-}
-
-pub core_at_each : (rule : Partition → Effect) → ((t : Partition) → Keeps t (rule t).after)
-    → (s : Core) → CoreKeeps s (at_each rule s)
-unfolding at_each with_partitions
-core_at_each rule k s = record {
-  count = length-map s.partitions (λ t. (rule t).after);
-  each = λ p h. subst (Keeps (partition_at p s.partitions))
-      (sym (get_or-map (λ t. (rule t).after) s.partitions p (new_partition 0) (new_partition 0) h))
-      (k (partition_at p s.partitions));
-  correlation = refl;
-  asked = λ q e. e;
-}
-
-pub core_at_these : (ps : List ℕ) (rule : ℕ → Partition → Effect)
-    → ((p : ℕ) (t : Partition) → Keeps t (rule p t).after) → (s : Core)
-    → CoreKeeps s (at_these ps rule s)
-unfolding at_these with_partitions
-core_at_these ps rule k s = record {
-  count = length-changed_at ps (λ p t. (rule p t).after) s.partitions;
-  each = λ p h. keeps_changed ps (λ p t. (rule p t).after) k s.partitions p h;
-  correlation = refl;
-  asked = λ q e. e;
-}
-
-pub core_dropped : (now : ℕ) (s : Core) → CoreKeeps s (dropped now s)
-unfolding dropped
-core_dropped now s = record {
-  count = length-map s.partitions (without_attempts now);
-  each = λ p h. subst (Keeps (partition_at p s.partitions))
-      (sym (get_or-map (without_attempts now) s.partitions p (new_partition 0) (new_partition 0) h))
-      (keeps_dropped now (partition_at p s.partitions));
-  correlation = refl;
-  asked = λ q e. absurd cc;
-}
-
-pub core_ticked : (now : ℕ) (s : Core) → CoreKeeps s (ticked now s).after
-unfolding ticked
-core_ticked now s = at_end s.ended
-  where
-    at_test : (b : Bool) → CoreKeeps s
-        (if b then ticked_from now true (dropped now s) else ticked_from now false s).after
-    at_test true = core_more s (dropped now s)
-        (at_each (passed (dropped now s).config now) (dropped now s)) (core_dropped now s)
-        (core_at_each (passed (dropped now s).config now) (keeps_passed (dropped now s).config now)
-        (dropped now s))
-    at_test false = core_at_each (passed s.config now) (keeps_passed s.config now) s
-
-    at_end : (b : Bool) → CoreKeeps s (if b then not_ticked s else ticked_now now s).after
-    at_end true = core_same s
-    at_end false = at_test (has_timed_out now s)
-
-abbrev end_step : Core → Bool → Step (Unit {0})
-end_step s b = if b then record { after = s; told = []; answer = tt } else record
-    { after = end_of s; told = told_at_each given_up s; answer = tt }
-
-pub core_ended : (s : Core) → CoreKeeps s (ended s).after
-unfolding ended
-core_ended s = at_end s.ended
-  where
-    k : CoreKeeps s (at_each given_up s)
-    k = core_at_each given_up keeps_given_up s
-
-    at_end : (b : Bool) → CoreKeeps s (end_step s b).after
-    at_end true = core_same s
-    at_end false = record { count = k.count; each = k.each; correlation = k.correlation; asked = λ q e. absurd cc }
-
-pub core_flushed : (s : Core) → CoreKeeps s (flushed s)
-unfolding flushed
-core_flushed s = record {
-  count = length-map s.partitions with_marks;
-  each = λ p h. subst (Keeps (partition_at p s.partitions))
-      (sym (get_or-map with_marks s.partitions p (new_partition 0) (new_partition 0) h))
-      (keeps_marked (partition_at p s.partitions));
-  correlation = refl;
-  asked = λ q e. e;
-}
-
-pub core_disconnected : (now : ℕ) (s : Core) → CoreKeeps s (disconnected now s)
-unfolding disconnected
-core_disconnected now s = at_end s.ended
-  where
-    at_end : (b : Bool) → CoreKeeps s (if b then s else dropped now s)
-    at_end true = core_same s
-    at_end false = core_dropped now s
-
-pub core_closed : (s : Core) → CoreKeeps s (closed s)
-unfolding closed
-core_closed s = at_end s.ended
-  where
-    at_end : (b : Bool) → CoreKeeps s (if b then s else record s { closing = true })
-    at_end true = core_same s
-    at_end false = record {
-      count = refl;
-      each = λ p h. keeps_same
-          (partition_at p s.partitions);
-      correlation = refl;
-      asked = λ q e. e;
-    }
-
-pub core_appended : (i : Item) (s : Core) → CoreKeeps s (appended i s).after
-unfolding appended
-core_appended i s = at_end s.ended
-  where
-    turned : (why : Reason) → CoreKeeps s (turned_away why i s).after
-    turned why = record {
-      count = refl;
-      each = λ p h. keeps_same
-          (partition_at p s.partitions);
-      correlation = refl;
-      asked = λ q e. e;
-    }
-
-    at_room : (b : Bool) → CoreKeeps s (if b then refused s else queued i s).after
-    at_room true = record {
-      count = refl;
-      each = λ p h. keeps_same
-          (partition_at p s.partitions);
-      correlation = refl;
-      asked = λ q e. e;
-    }
-    at_room false = record {
-      count = length-changed_at (i.partition ∷ []) (λ p t. with_queued s.config i t) s.partitions;
-      each = λ p h. keeps_changed (i.partition ∷ []) (λ p t. with_queued s.config i t)
-          (λ p t. keeps_queued s.config i t) s.partitions p h;
-      correlation = refl;
-      asked = λ q e. e;
-    }
-
-    at_fence : (b : Bool) → CoreKeeps s
-        (if b then turned_away Fenced i s else if would_exhaust i s then refused s else queued i
-        s).after
-    at_fence true = turned Fenced
-    at_fence false = at_room (would_exhaust i s)
-
-    at_end : (b : Bool) → CoreKeeps s
-        (if b then turned_away Ended i s else if (partition_at i.partition s.partitions).fenced then
-        turned_away Fenced i s else if would_exhaust i s then refused s else queued i s).after
-    at_end true = turned Ended
-    at_end false = at_fence (partition_at i.partition s.partitions).fenced

@@ -1,52 +1,77 @@
 -- What holds of every world of a run, for any honest broker; and that it holds still when the core was
 -- called, and when a request has gone out.
 use Rattle.std.proofs.Common.{◌≡◌, ◌⊎◌, ℕ, ◌+◌, ◌<◌, ◌≤◌, Bool, true, false, List, [], ◌∷◌, ◌++◌, length, Some, None, refl, sym, ap, ◌∙◌, subst, inl, inr, ⊎_elim, arith}
-use Rattle.std.specs.Prelude.{Option, Err, if◌then◌else◌, ◌==◌, ◌||◌, ◌&&◌}
+use Rattle.std.specs.Prelude.{Option, if◌then◌else◌, ◌&&◌}
 use Rattle.std.specs.List.{AllByRecursion}
-use Rattle.std.proofs.lemmas.Bool.{eqb-true, eq-eqb, and_parts}
+use Rattle.std.proofs.lemmas.Bool.{and_parts}
 use Rattle.kp_accum.specs.declared.config.Config.{Config}
 use Rattle.kp_accum.specs.declared.flags.Flags.{Flags}
 use Rattle.kp_accum.specs.Queue.{Pending}
 use Rattle.kp_accum.specs.Ready.{is_ready}
 use Rattle.kp_log.specs.HandedOver.{IsStored}
 use Rattle.kp_log.specs.History.{History}
-use Rattle.kp_log.proofs.PlaceLemmas.{In, In-nil, In-cons, In-head, In-tail, In-append_left, In-append_right}
-use Rattle.kp_core.specs.Attempts.{is_waiting, lowest_waiting}
+use Rattle.kp_log.proofs.PlaceLemmas.{In, In-head, In-append_left, In-append_right}
+use Rattle.kp_core.specs.Attempts.{lowest_waiting}
 use Rattle.kp_core.specs.HandingOver.{handed_over_in, sent_again_in, sent_first_in, sent_in}
 use Rattle.kp_core.specs.MaySend.{is_rested, is_confirmed, is_in_span, is_within_limit, may_hand_over, new_batch, sends_new, sends_first, sends}
 use Rattle.kp_core.specs.Next.{Sending, Demand, Produce, InitProducerId, flags_of, next_demand}
 use Rattle.kp_core.specs.Partitions.{partition_at, is_in}
 use Rattle.kp_core.specs.Records.{Batch, Open, Partition, IdRequest, Core}
-use Rattle.kp_core.specs.Requesting.{Outgoing, Requested, nothing_out, goes_out, requested_for, requested, partitions_in, sent_out, is_spent}
-use Rattle.kp_core.specs.declared.fault.CoreFault.TheVariants as fault
+use Rattle.kp_core.specs.Requesting.{Outgoing, Requested, goes_out, requested, partitions_in, sent_out}
 use Rattle.kp_world.specs.Client.{grown_by, handed_at, with_sendings, sending}
-use Rattle.kp_world.specs.Delivering.{log_at}
+use Rattle.kp_world.specs.Delivering.{log_at, given}
 use Rattle.kp_world.specs.Message.{sent_of}
 use Rattle.kp_world.specs.Noting.{noted}
 use Rattle.kp_world.specs.World.{Reply, World}
 use Rattle.kp_world.proofs.BrokerLemmas.{AllAgree}
-use Rattle.kp_world.proofs.FlightLemmas.{Says, Steady, again_from, steady_kept, steady_passed_by, steady_again, steady_handed}
-use Rattle.kp_world.proofs.GoodLemmas.{PartsIn, Went, Given, length-with_sendings, at-with_sendings}
-use Rattle.kp_world.proofs.KeepingLemmas.{CoreKeeps, OpenIn, length-changed_at, at-changed_at}
-use Rattle.kp_world.proofs.LeavingLemmas.{CoreLeaves, found}
-use Rattle.kp_world.proofs.SendingLemmas.{IsSent, demand_is_sent}
+use Rattle.kp_world.proofs.FlightLemmas.{Says, Steady, steady_kept, steady_passed_by, steady_again, steady_handed}
+use Rattle.kp_world.proofs.RequestLemmas.{part_in, in_part, Only, only_this, none_here, grown_known, grown_new, length-with_sendings, at-with_sendings}
+use Rattle.kp_core.proofs.CallLemmas.{at_requested}
+use Rattle.kp_world.proofs.KeepingLemmas.{length-changed_at, at-changed_at}
+use Rattle.kp_world.proofs.LeavingLemmas.{CoreLeaves}
+use Rattle.kp_world.proofs.SendingLemmas.{find_open, opens_again, IsSent, demand_is_sent}
 use Rattle.kp_world.proofs.SoundLemmas.{Sound, sound_kept, sound_handed}
 use Rattle.kp_world.proofs.ListLemmas.{all_at, all_in, all_weaker, one_more}
 
+-- ---- packets and replies
+
+-- each of the packet's batches was handed over for its partition
+abbrev pub PartsIn : ℕ → List (List Batch) → Demand → Type 0
+PartsIn n handed (Produce xs) = AllByRecursion (λ (x : Sending). (x.partition < n)
+    × In x.batch (handed_at x.partition handed)) xs
+PartsIn n handed (InitProducerId p) = Unit {0}
+
+pub record Went (n : ℕ) (handed : List (List Batch)) (core : Core) (o : Outgoing) : Type 0 where
+  pub before : o.correlation < core.correlation
+  pub parts : PartsIn n handed o.demand
+
+pub record Given (n : ℕ) (ids : List ℕ) (core : Core) (r : Reply) : Type 0 where
+  pub before : r.correlation < core.correlation
+  pub drawn : (id : ℕ) → r.content ≡ given id → In id ids
+  pub spare : (id : ℕ) (q : IdRequest) → r.content ≡ given id → core.id_request ≡ Some q
+      → q.correlation ≡ r.correlation
+      → (p : ℕ) → p < n → In id (partition_at p core.partitions).ids → ⊥
+
 -- ---- what holds
 
-pub record Lawful (n : ℕ) (core : Core) (logs : List History) (handed : List (List Batch)) (packets : List Outgoing) (replies : List Reply) (ids : List ℕ) : Type 0 where
+pub record Lawful (most n : ℕ) (core : Core) (logs : List History) (handed : List (List Batch)) (packets : List Outgoing) (replies : List Reply) (ids : List ℕ) : Type 0 where
   pub count : length core.partitions ≡ n
   pub handed_count : length handed ≡ n
   pub logs_count : length logs ≡ n
-  pub window : core.config.max_in_flight_requests_per_connection ≤ 5
-  pub agree : AllAgree n ids core handed logs packets replies
+  pub window : core.config.max_in_flight_requests_per_connection ≤ most
+  pub some : 0 < most
+  pub agree : AllAgree most n ids core handed logs packets replies
   pub went : (o : Outgoing) → In o packets → Went n handed core o
   pub gave : (r : Reply) → In r replies → Given n ids core r
   pub asked : (q : IdRequest) → core.id_request ≡ Some q → q.correlation < core.correlation
 
+-- with at most so many requests in flight
+abbrev pub IsLawfulWithin : ℕ → ℕ → World → Type 0
+IsLawfulWithin most n w = Lawful most n w.core w.logs w.handed w.packets w.replies w.ids
+
+-- with at most five, as a producer's configuration allows
 abbrev pub IsLawful : ℕ → World → Type 0
-IsLawful n w = Lawful n w.core w.logs w.handed w.packets w.replies w.ids
+IsLawful n w = IsLawfulWithin 5 n w
 
 -- the batch is stored in its partition's log
 abbrev pub StoredAt : List History → ℕ → Batch → Type 0
@@ -54,25 +79,26 @@ StoredAt logs p b = IsStored (log_at p logs).records (sent_of b)
 
 -- ---- a call of the core
 
-pub lawful_core : (n : ℕ) (s s' : Core) (logs : List History) (handed : List (List Batch)) (packets : List Outgoing) (replies : List Reply) (ids : List ℕ)
-    → Lawful n s logs handed packets replies ids → CoreKeeps s s' → CoreLeaves (StoredAt logs) s s' → Lawful n s' logs handed packets replies ids
-lawful_core n s s' logs handed packets replies ids g k l = record {
-  count = k.count ∙ g.count;
+pub lawful_core : {most : ℕ} (n : ℕ) (s s' : Core) (logs : List History) (handed : List (List Batch)) (packets : List Outgoing) (replies : List Reply) (ids : List ℕ)
+    → Lawful most n s logs handed packets replies ids → CoreLeaves (StoredAt logs) s s' → Lawful most n s' logs handed packets replies ids
+lawful_core {most = most} n s s' logs handed packets replies ids g l = record {
+  count = l.count ∙ g.count;
   handed_count = g.handed_count;
   logs_count = g.logs_count;
-  window = subst (λ (c : Config). c.max_in_flight_requests_per_connection ≤ 5) (sym l.config) g.window;
+  window = subst (λ (c : Config). c.max_in_flight_requests_per_connection ≤ most) (sym l.config) g.window;
+  some = g.some;
   agree = λ p h. record {
-    sound = sound_kept ids (partition_at p s.partitions) (partition_at p s'.partitions) (handed_at p handed) (log_at p logs) (g.agree p h).sound (k.each p (within p h));
-    steady = subst (λ (next : ℕ). Steady p s'.ended next (partition_at p s'.partitions) (handed_at p handed) (log_at p logs) packets replies) (sym k.correlation)
+    sound = sound_kept ids (partition_at p s.partitions) (partition_at p s'.partitions) (handed_at p handed) (log_at p logs) (g.agree p h).sound (l.each p (within p h)).keeps;
+    steady = subst (λ (next : ℕ). Steady most p s'.ended next (partition_at p s'.partitions) (handed_at p handed) (log_at p logs) packets replies) (sym l.correlation)
         (steady_kept p s.correlation ids s.ended s'.ended (partition_at p s.partitions) (partition_at p s'.partitions) (handed_at p handed) (log_at p logs) packets replies (g.agree p h).sound (g.agree p h).steady l.ended (l.each p (within p h)));
   };
-  went = λ o i. let w = g.went o i in record { before = subst (λ (m : ℕ). o.correlation < m) (sym k.correlation) w.before; parts = w.parts };
+  went = λ o i. let w = g.went o i in record { before = subst (λ (m : ℕ). o.correlation < m) (sym l.correlation) w.before; parts = w.parts };
   gave = λ r i. let w = g.gave r i in record {
-    before = subst (λ (m : ℕ). r.correlation < m) (sym k.correlation) w.before;
+    before = subst (λ (m : ℕ). r.correlation < m) (sym l.correlation) w.before;
     drawn = w.drawn;
-    spare = λ id q e a c p h at. w.spare id q e (k.asked q a) c p h (subst (λ (is : List ℕ). In id is) (k.each p (within p h)).ids at);
+    spare = λ id q e a c p h at. w.spare id q e (l.asked q a) c p h (subst (λ (is : List ℕ). In id is) (l.each p (within p h)).keeps.ids at);
   };
-  asked = λ q e. subst (λ (m : ℕ). q.correlation < m) (sym k.correlation) (g.asked q (k.asked q e));
+  asked = λ q e. subst (λ (m : ℕ). q.correlation < m) (sym l.correlation) (g.asked q (l.asked q e));
 }
   where
     within : (p : ℕ) → p < n → p < length s.partitions
@@ -127,32 +153,25 @@ sends_cases c f now k t b e = at_fence t.fenced e
 
 -- ---- a partition once a request has gone out
 
-record Agreed (p : ℕ) (ids : List ℕ) (e : Bool) (next : ℕ) (t t' : Partition) (handed handed' : List Batch) (h : History) (packets : List Outgoing) (replies : List Reply) (o : Outgoing) : Type 0 where
+record Agreed (most p : ℕ) (ids : List ℕ) (e : Bool) (next : ℕ) (t t' : Partition) (handed handed' : List Batch) (h : History) (packets : List Outgoing) (replies : List Reply) (o : Outgoing) : Type 0 where
   pub sound : Sound ids t' handed' h
-  pub steady : Steady p e (next + 1) t' handed' h (packets ++ o ∷ []) replies
+  pub steady : Steady most p e (next + 1) t' handed' h (packets ++ o ∷ []) replies
   pub more : (c : Batch) → In c handed → In c handed'
   pub same_ids : t'.ids ≡ t.ids
 
 -- with the batch that has gone out
-record AgreedWith (p : ℕ) (ids : List ℕ) (e : Bool) (next : ℕ) (t t' : Partition) (handed handed' : List Batch) (h : History) (packets : List Outgoing) (replies : List Reply) (o : Outgoing) (b : Batch) : Type 0 where
-  pub all : Agreed p ids e next t t' handed handed' h packets replies o
+record AgreedWith (most p : ℕ) (ids : List ℕ) (e : Bool) (next : ℕ) (t t' : Partition) (handed handed' : List Batch) (h : History) (packets : List Outgoing) (replies : List Reply) (o : Outgoing) (b : Batch) : Type 0 where
+  pub all : Agreed most p ids e next t t' handed handed' h packets replies o
   pub known : In b handed'
 
-grown_old : (b : Batch) (handed : List Batch) → b.number < length handed → grown_by b handed ≡ handed
-grown_old b handed below = at_test (b.number == length handed) refl
-  where
-    at_test : (t : Bool) → (b.number == length handed) ≡ t → (if t then handed ++ b ∷ [] else handed) ≡ handed
-    at_test true is = let same : b.number ≡ length handed = eqb-true b.number (length handed) is in absurd (omega arith)
-    at_test false is = refl
-
-agreed_again : (p : ℕ) (ids : List ℕ) (e : Bool) (next : ℕ) (t : Partition) (handed : List Batch) (h : History) (packets : List Outgoing) (replies : List Reply) (o : Outgoing) (b : Batch)
-    → Sound ids t handed h → Steady p e next t handed h packets replies → ((x : Outgoing) → In x packets → x.correlation < next) → o.correlation ≡ next → Says p b o.demand → GoesAgain next t b
-    → AgreedWith p ids e next t (sent_in next t) handed (grown_by b handed) h packets replies o b
-agreed_again p ids e next t handed h packets replies o b s k below named says a =
-    subst (λ (bs : List Batch). AgreedWith p ids e next t (sent_in next t) handed bs h packets replies o b) (sym (grown_old b handed (s.numbers b known)))
-    (subst (λ (u : Partition). AgreedWith p ids e next t u handed handed h packets replies o b) (sym a.after_is) (record {
+agreed_again : {most : ℕ} (p : ℕ) (ids : List ℕ) (e : Bool) (next : ℕ) (t : Partition) (handed : List Batch) (h : History) (packets : List Outgoing) (replies : List Reply) (o : Outgoing) (b : Batch)
+    → Sound ids t handed h → Steady most p e next t handed h packets replies → ((x : Outgoing) → In x packets → x.correlation < next) → o.correlation ≡ next → Says p b o.demand → GoesAgain next t b
+    → AgreedWith most p ids e next t (sent_in next t) handed (grown_by b handed) h packets replies o b
+agreed_again {most = most} p ids e next t handed h packets replies o b s k below named says a =
+    subst (λ (bs : List Batch). AgreedWith most p ids e next t (sent_in next t) handed bs h packets replies o b) (sym (grown_known b handed (s.numbers b known)))
+    (subst (λ (u : Partition). AgreedWith most p ids e next t u handed handed h packets replies o b) (sym a.after_is) (record {
       all = record {
-        sound = sound_kept ids t (record t { open_batches = sent_again_in next t.open_batches }) handed h s (record { number = refl; sequence = refl; ids = refl; opens = λ bs all. opens bs all; queue = λ q. q });
+        sound = sound_kept ids t (record t { open_batches = sent_again_in next t.open_batches }) handed h s (record { number = refl; sequence = refl; ids = refl; opens = λ bs all. opens_again next bs t.open_batches all; queue = λ q. q });
         steady = steady_again p next e t handed h packets replies o a.lowest k below named a.waits (subst (λ (c : Batch). Says p c o.demand) (sym a.batch) says);
         more = λ c i. i;
         same_ids = refl;
@@ -161,22 +180,19 @@ agreed_again p ids e next t handed h packets replies o b s k below named says a 
     }))
   where
     known : In b handed
-    known = subst (λ (c : Batch). In c handed) a.batch (all_at (λ (x : Open). In x.batch handed) t.open_batches a.lowest s.opens (found is_waiting t.open_batches a.lowest a.waits).0)
+    known = subst (λ (c : Batch). In c handed) a.batch (find_open handed t.open_batches a.lowest a.waits s.opens)
 
-    opens : (bs : List Batch) → OpenIn bs t.open_batches → OpenIn bs (sent_again_in next t.open_batches)
-    opens bs all = all_in (λ (x : Open). In x.batch bs) (sent_again_in next t.open_batches) (λ x i. let f = again_from next t.open_batches a.lowest a.waits x i in subst (λ (c : Batch). In c bs) (sym f.batch) (all_at (λ (y : Open). In y.batch bs) t.open_batches f.it all f.there))
-
-agreed_first : (p : ℕ) (ids : List ℕ) (c : Config) (e : Bool) (next : ℕ) (t : Partition) (handed : List Batch) (h : History) (packets : List Outgoing) (replies : List Reply) (o : Outgoing) (b : Batch)
-    → c.max_in_flight_requests_per_connection ≤ 5 → Sound ids t handed h → Steady p e next t handed h packets replies → ((x : Outgoing) → In x packets → x.correlation < next) → o.correlation ≡ next → Says p b o.demand → GoesFirst next c t b
-    → AgreedWith p ids e next t (sent_in next t) handed (grown_by b handed) h packets replies o b
+agreed_first : {most : ℕ} (p : ℕ) (ids : List ℕ) (c : Config) (e : Bool) (next : ℕ) (t : Partition) (handed : List Batch) (h : History) (packets : List Outgoing) (replies : List Reply) (o : Outgoing) (b : Batch)
+    → c.max_in_flight_requests_per_connection ≤ most → 0 < most → Sound ids t handed h → Steady most p e next t handed h packets replies → ((x : Outgoing) → In x packets → x.correlation < next) → o.correlation ≡ next → Says p b o.demand → GoesFirst next c t b
+    → AgreedWith most p ids e next t (sent_in next t) handed (grown_by b handed) h packets replies o b
 unfolding handed_over_in
-agreed_first p ids c e next t handed h packets replies o b five s k below named says a =
-    subst (λ (bs : List Batch). AgreedWith p ids e next t (sent_in next t) handed bs h packets replies o b) (sym grown)
-    (subst (λ (u : Partition). AgreedWith p ids e next t u handed (handed ++ b ∷ []) h packets replies o b) (sym a.after_is) (record {
+agreed_first {most = most} p ids c e next t handed h packets replies o b few some s k below named says a =
+    subst (λ (bs : List Batch). AgreedWith most p ids e next t (sent_in next t) handed bs h packets replies o b) (sym grown)
+    (subst (λ (u : Partition). AgreedWith most p ids e next t u handed (handed ++ b ∷ []) h packets replies o b) (sym a.after_is) (record {
       all = record {
-        sound = sound_handed ids t (handed_over_in next t (a.front ∷ a.queue)) b handed h s (record { front = a.front; rest = a.queue; request = next; queue = a.queue_is; batch = a.batch; after_is = refl });
-        steady = subst (λ (x : Batch). Steady p e (next + 1) (handed_over_in next t (a.front ∷ a.queue)) (handed ++ x ∷ []) h (packets ++ o ∷ []) replies) (sym a.batch)
-            (steady_handed p next ids c e t handed h packets replies o a.front a.queue five s k below named a.confirmed a.in_span (subst (λ (x : Batch). Says p x o.demand) a.batch says));
+        sound = subst (λ (x : Batch). Sound ids (handed_over_in next t (a.front ∷ a.queue)) (handed ++ x ∷ []) h) (sym a.batch) (sound_handed ids t handed h next a.front a.queue s a.queue_is);
+        steady = subst (λ (x : Batch). Steady most p e (next + 1) (handed_over_in next t (a.front ∷ a.queue)) (handed ++ x ∷ []) h (packets ++ o ∷ []) replies) (sym a.batch)
+            (steady_handed p next ids c e t handed h packets replies o a.front a.queue few some s k below named a.confirmed a.in_span (subst (λ (x : Batch). Says p x o.demand) a.batch says));
         more = λ x i. In-append_left x handed (b ∷ []) i;
         same_ids = refl;
       };
@@ -184,41 +200,22 @@ agreed_first p ids c e next t handed h packets replies o b five s k below named 
     }))
   where
     grown : grown_by b handed ≡ handed ++ b ∷ []
-    grown = ap (λ (x : Bool). if x then handed ++ b ∷ [] else handed) (eq-eqb b.number (length handed) (ap (λ (x : Batch). x.number) a.batch ∙ s.number))
+    grown = grown_new b handed (ap (λ (x : Batch). x.number) a.batch ∙ s.number)
 
 -- ---- all partitions
-
-part_in : (xs : List Sending) (x : Sending) → In x xs → is_in x.partition (partitions_in xs) ≡ true
-part_in [] x i = absurd (In-nil x i)
-part_in (y ∷ xs) x i =
-    ⊎_elim
-    (λ (same : x ≡ y). ap (λ (b : Bool). b || is_in x.partition (partitions_in xs)) (eq-eqb y.partition x.partition (ap (λ (z : Sending). z.partition) (sym same))))
-    (λ (j : In x xs). at_test (y.partition == x.partition) (part_in xs x j))
-    (In-cons x y xs i)
-  where
-    at_test : (b : Bool) → is_in x.partition (partitions_in xs) ≡ true → b || is_in x.partition (partitions_in xs) ≡ true
-    at_test true e = refl
-    at_test false e = e
-
-in_part : (xs : List Sending) (p : ℕ) → is_in p (partitions_in xs) ≡ true → (x : Sending) × In x xs × (x.partition ≡ p)
-in_part [] p e = absurd cc
-in_part (y ∷ xs) p e = at_test (y.partition == p) refl e (in_part xs p)
-  where
-    at_test : (b : Bool) → (y.partition == p) ≡ b → b || is_in p (partitions_in xs) ≡ true → (is_in p (partitions_in xs) ≡ true → (x : Sending) × In x xs × (x.partition ≡ p)) → (x : Sending) × In x (y ∷ xs) × (x.partition ≡ p)
-    at_test true is e' later = (y, In-head y xs, eqb-true y.partition p is)
-    at_test false is e' later = let l = later e' in (l.0, In-tail l.0 y xs l.1, l.2)
 
 abbrev packet : Core → Demand → Outgoing
 packet s d = record { correlation = s.correlation; demand = d }
 
-lawful_batches : (n now : ℕ) (s : Core) (logs : List History) (handed : List (List Batch)) (packets : List Outgoing) (replies : List Reply) (ids : List ℕ) (xs : List Sending)
-    → Lawful n s logs handed packets replies ids → AllByRecursion (IsSent now s) xs
-    → Lawful n (sent_out now s (Produce xs)) logs (with_sendings xs handed) (packets ++ packet s (Produce xs) ∷ []) replies ids
-lawful_batches n now s logs handed packets replies ids xs g all = record {
+lawful_batches : {most : ℕ} (n now : ℕ) (s : Core) (logs : List History) (handed : List (List Batch)) (packets : List Outgoing) (replies : List Reply) (ids : List ℕ) (xs : List Sending)
+    → Lawful most n s logs handed packets replies ids → AllByRecursion (IsSent now s) xs
+    → Lawful most n (sent_out now s (Produce xs)) logs (with_sendings xs handed) (packets ++ packet s (Produce xs) ∷ []) replies ids
+lawful_batches {most = most} n now s logs handed packets replies ids xs g all = record {
   count = length-changed_at (partitions_in xs) (λ p t. sent_in s.correlation t) s.partitions ∙ g.count;
   handed_count = length-with_sendings xs handed ∙ g.handed_count;
   logs_count = g.logs_count;
   window = g.window;
+  some = g.some;
   agree = λ p h. record { sound = (at p h).sound; steady = (at p h).steady };
   went = λ o i. ⊎_elim (λ (j : In o packets). earlier o (g.went o j)) (λ (same : o ≡ packet s (Produce xs)). subst (Went n (with_sendings xs handed) (sent_out now s (Produce xs))) (sym same) newest) (one_more packets (packet s (Produce xs)) o i);
   gave = λ r i. let w = g.gave r i in record {
@@ -241,60 +238,51 @@ lawful_batches n now s logs handed packets replies ids xs g all = record {
     sent_is : (x : Sending) → In x xs → IsSent now s x
     sent_is x i = all_at (IsSent now s) xs x all i
 
-    same_batch : (x y : Sending) → In x xs → In y xs → y.partition ≡ x.partition → y.batch ≡ x.batch
-    same_batch x y i j e =
-        let mine : sends s.config (flags_of s) now (partition_at x.partition s.partitions) ≡ Some y.batch = subst (λ (m : ℕ). sends s.config (flags_of s) now (partition_at m s.partitions) ≡ Some y.batch) e (sent_is y j).sends in
-        let both : Some y.batch ≡ Some x.batch = sym mine ∙ (sent_is x i).sends in
-        cc
-
     changed : (p : ℕ) → p < n → partition_at p (sent_out now s (Produce xs)).partitions ≡ (if is_in p (partitions_in xs) then sent_in s.correlation (partition_at p s.partitions) else partition_at p s.partitions)
     changed p h = at-changed_at (partitions_in xs) (λ q u. sent_in s.correlation u) s.partitions p (within p h)
 
     with_it : (x : Sending) → In x xs → (h : x.partition < n)
-        → AgreedWith x.partition ids s.ended s.correlation (partition_at x.partition s.partitions) (partition_at x.partition (sent_out now s (Produce xs)).partitions) (handed_at x.partition handed) (handed_at x.partition (with_sendings xs handed)) (log_at x.partition logs) packets replies (packet s (Produce xs)) x.batch
+        → AgreedWith most x.partition ids s.ended s.correlation (partition_at x.partition s.partitions) (partition_at x.partition (sent_out now s (Produce xs)).partitions) (handed_at x.partition handed) (handed_at x.partition (with_sendings xs handed)) (log_at x.partition logs) packets replies (packet s (Produce xs)) x.batch
     with_it x i h =
         let is : is_in x.partition (partitions_in xs) ≡ true = part_in xs x i in
-        let only : AllByRecursion (λ (y : Sending). y.partition ≡ x.partition → y.batch ≡ x.batch) xs = all_in (λ (y : Sending). y.partition ≡ x.partition → y.batch ≡ x.batch) xs (λ y j e. same_batch x y i j e) in
+        let only : Only x.partition x.batch xs = only_this now s xs x all (sent_is x i) in
         let grown : handed_at x.partition (with_sendings xs handed) ≡ grown_by x.batch (handed_at x.partition handed) = at-with_sendings xs handed x.partition x.batch only inside ∙ ap (λ (b : Bool). if b then grown_by x.batch (handed_at x.partition handed) else handed_at x.partition handed) is in
         let after : partition_at x.partition (sent_out now s (Produce xs)).partitions ≡ sent_in s.correlation (partition_at x.partition s.partitions) = changed x.partition h ∙ ap (λ (b : Bool). if b then sent_in s.correlation (partition_at x.partition s.partitions) else partition_at x.partition s.partitions) is in
-        let says : Says x.partition x.batch (Produce xs) = λ y j e. same_batch x y i j e in
+        let says : Says x.partition x.batch (Produce xs) = λ y j e. all_at (λ (z : Sending). z.partition ≡ x.partition → z.batch ≡ x.batch) xs y only j e in
         let both = g.agree x.partition h in
-        let it : AgreedWith x.partition ids s.ended s.correlation (partition_at x.partition s.partitions) (sent_in s.correlation (partition_at x.partition s.partitions)) (handed_at x.partition handed) (grown_by x.batch (handed_at x.partition handed)) (log_at x.partition logs) packets replies (packet s (Produce xs)) x.batch =
+        let it : AgreedWith most x.partition ids s.ended s.correlation (partition_at x.partition s.partitions) (sent_in s.correlation (partition_at x.partition s.partitions)) (handed_at x.partition handed) (grown_by x.batch (handed_at x.partition handed)) (log_at x.partition logs) packets replies (packet s (Produce xs)) x.batch =
         ⊎_elim
         (λ (a : GoesAgain s.correlation (partition_at x.partition s.partitions) x.batch). agreed_again x.partition ids s.ended s.correlation (partition_at x.partition s.partitions) (handed_at x.partition handed) (log_at x.partition logs) packets replies (packet s (Produce xs)) x.batch both.sound both.steady below refl says a)
-        (λ (a : GoesFirst s.correlation s.config (partition_at x.partition s.partitions) x.batch). agreed_first x.partition ids s.config s.ended s.correlation (partition_at x.partition s.partitions) (handed_at x.partition handed) (log_at x.partition logs) packets replies (packet s (Produce xs)) x.batch g.window both.sound both.steady below refl says a)
+        (λ (a : GoesFirst s.correlation s.config (partition_at x.partition s.partitions) x.batch). agreed_first x.partition ids s.config s.ended s.correlation (partition_at x.partition s.partitions) (handed_at x.partition handed) (log_at x.partition logs) packets replies (packet s (Produce xs)) x.batch g.window g.some both.sound both.steady below refl says a)
         (sends_cases s.config (flags_of s) now s.correlation (partition_at x.partition s.partitions) x.batch (sent_is x i).sends) in
-        subst (λ (hs : List Batch). AgreedWith x.partition ids s.ended s.correlation (partition_at x.partition s.partitions) (partition_at x.partition (sent_out now s (Produce xs)).partitions) (handed_at x.partition handed) hs (log_at x.partition logs) packets replies (packet s (Produce xs)) x.batch) (sym grown)
-        (subst (λ (u : Partition). AgreedWith x.partition ids s.ended s.correlation (partition_at x.partition s.partitions) u (handed_at x.partition handed) (grown_by x.batch (handed_at x.partition handed)) (log_at x.partition logs) packets replies (packet s (Produce xs)) x.batch) (sym after) it)
+        subst (λ (hs : List Batch). AgreedWith most x.partition ids s.ended s.correlation (partition_at x.partition s.partitions) (partition_at x.partition (sent_out now s (Produce xs)).partitions) (handed_at x.partition handed) hs (log_at x.partition logs) packets replies (packet s (Produce xs)) x.batch) (sym grown)
+        (subst (λ (u : Partition). AgreedWith most x.partition ids s.ended s.correlation (partition_at x.partition s.partitions) u (handed_at x.partition handed) (grown_by x.batch (handed_at x.partition handed)) (log_at x.partition logs) packets replies (packet s (Produce xs)) x.batch) (sym after) it)
 
     without : (p : ℕ) → p < n → is_in p (partitions_in xs) ≡ false
-        → Agreed p ids s.ended s.correlation (partition_at p s.partitions) (partition_at p (sent_out now s (Produce xs)).partitions) (handed_at p handed) (handed_at p (with_sendings xs handed)) (log_at p logs) packets replies (packet s (Produce xs))
+        → Agreed most p ids s.ended s.correlation (partition_at p s.partitions) (partition_at p (sent_out now s (Produce xs)).partitions) (handed_at p handed) (handed_at p (with_sendings xs handed)) (log_at p logs) packets replies (packet s (Produce xs))
     without p h is =
         let b : Batch = record { number = 0; id = 0; sequence = 0; items = [] } in
-        let only : AllByRecursion (λ (y : Sending). y.partition ≡ p → y.batch ≡ b) xs = all_in (λ (y : Sending). y.partition ≡ p → y.batch ≡ b) xs (λ y j e. absurd (nothing y j e)) in
+        let only : Only p b xs = none_here now s p b xs is in
         let grown : handed_at p (with_sendings xs handed) ≡ handed_at p handed = at-with_sendings xs handed p b only inside ∙ ap (λ (c : Bool). if c then grown_by b (handed_at p handed) else handed_at p handed) is in
         let after : partition_at p (sent_out now s (Produce xs)).partitions ≡ partition_at p s.partitions = changed p h ∙ ap (λ (c : Bool). if c then sent_in s.correlation (partition_at p s.partitions) else partition_at p s.partitions) is in
-        subst (λ (hs : List Batch). Agreed p ids s.ended s.correlation (partition_at p s.partitions) (partition_at p (sent_out now s (Produce xs)).partitions) (handed_at p handed) hs (log_at p logs) packets replies (packet s (Produce xs))) (sym grown)
-        (subst (λ (u : Partition). Agreed p ids s.ended s.correlation (partition_at p s.partitions) u (handed_at p handed) (handed_at p handed) (log_at p logs) packets replies (packet s (Produce xs))) (sym after)
+        subst (λ (hs : List Batch). Agreed most p ids s.ended s.correlation (partition_at p s.partitions) (partition_at p (sent_out now s (Produce xs)).partitions) (handed_at p handed) hs (log_at p logs) packets replies (packet s (Produce xs))) (sym grown)
+        (subst (λ (u : Partition). Agreed most p ids s.ended s.correlation (partition_at p s.partitions) u (handed_at p handed) (handed_at p handed) (log_at p logs) packets replies (packet s (Produce xs))) (sym after)
         (record {
           sound = (g.agree p h).sound;
           steady = steady_passed_by p s.correlation s.ended (partition_at p s.partitions) (handed_at p handed) (log_at p logs) packets replies (packet s (Produce xs)) (g.agree p h).steady refl;
           more = λ c i. i;
           same_ids = refl;
         }))
-      where
-        nothing : (y : Sending) → In y xs → y.partition ≡ p → ⊥
-        nothing y j e = let there : is_in p (partitions_in xs) ≡ true = subst (λ (m : ℕ). is_in m (partitions_in xs) ≡ true) e (part_in xs y j) in let both : false ≡ true = sym is ∙ there in cc
 
     at : (p : ℕ) → p < n
-        → Agreed p ids s.ended s.correlation (partition_at p s.partitions) (partition_at p (sent_out now s (Produce xs)).partitions) (handed_at p handed) (handed_at p (with_sendings xs handed)) (log_at p logs) packets replies (packet s (Produce xs))
+        → Agreed most p ids s.ended s.correlation (partition_at p s.partitions) (partition_at p (sent_out now s (Produce xs)).partitions) (handed_at p handed) (handed_at p (with_sendings xs handed)) (log_at p logs) packets replies (packet s (Produce xs))
     at p h = at_test (is_in p (partitions_in xs)) refl
       where
         at_test : (b : Bool) → is_in p (partitions_in xs) ≡ b
-            → Agreed p ids s.ended s.correlation (partition_at p s.partitions) (partition_at p (sent_out now s (Produce xs)).partitions) (handed_at p handed) (handed_at p (with_sendings xs handed)) (log_at p logs) packets replies (packet s (Produce xs))
+            → Agreed most p ids s.ended s.correlation (partition_at p s.partitions) (partition_at p (sent_out now s (Produce xs)).partitions) (handed_at p handed) (handed_at p (with_sendings xs handed)) (log_at p logs) packets replies (packet s (Produce xs))
         at_test true is =
             let x = in_part xs p is in
-            subst (λ (q : ℕ). Agreed q ids s.ended s.correlation (partition_at q s.partitions) (partition_at q (sent_out now s (Produce xs)).partitions) (handed_at q handed) (handed_at q (with_sendings xs handed)) (log_at q logs) packets replies (packet s (Produce xs))) x.2
+            subst (λ (q : ℕ). Agreed most q ids s.ended s.correlation (partition_at q s.partitions) (partition_at q (sent_out now s (Produce xs)).partitions) (handed_at q handed) (handed_at q (with_sendings xs handed)) (log_at q logs) packets replies (packet s (Produce xs))) x.2
             (with_it x.0 x.1 (subst (λ (q : ℕ). q < n) (sym x.2) h)).all
         at_test false is = without p h is
 
@@ -311,14 +299,15 @@ lawful_batches n now s logs handed packets replies ids xs g all = record {
       parts = all_in (λ (x : Sending). (x.partition < n) × In x.batch (handed_at x.partition (with_sendings xs handed))) xs (λ x i. let h : x.partition < n = subst (λ (m : ℕ). x.partition < m) g.count (sent_is x i).there in (h, (with_it x i h).known));
     }
 
-lawful_id : (n now : ℕ) (s : Core) (logs : List History) (handed : List (List Batch)) (packets : List Outgoing) (replies : List Reply) (ids : List ℕ) (p : ℕ)
-    → Lawful n s logs handed packets replies ids
-    → Lawful n (sent_out now s (InitProducerId p)) logs handed (packets ++ packet s (InitProducerId p) ∷ []) replies ids
+lawful_id : {most : ℕ} (n now : ℕ) (s : Core) (logs : List History) (handed : List (List Batch)) (packets : List Outgoing) (replies : List Reply) (ids : List ℕ) (p : ℕ)
+    → Lawful most n s logs handed packets replies ids
+    → Lawful most n (sent_out now s (InitProducerId p)) logs handed (packets ++ packet s (InitProducerId p) ∷ []) replies ids
 lawful_id n now s logs handed packets replies ids p g = record {
   count = g.count;
   handed_count = g.handed_count;
   logs_count = g.logs_count;
   window = g.window;
+  some = g.some;
   agree = λ q h. record {
     sound = (g.agree q h).sound;
     steady = steady_passed_by q s.correlation s.ended (partition_at q s.partitions) (handed_at q handed) (log_at q logs) packets replies (packet s (InitProducerId p)) (g.agree q h).steady refl;
@@ -336,27 +325,11 @@ lawful_id n now s logs handed packets replies ids p g = record {
   asked = λ q e. let asked : (record { correlation = s.correlation; sent = now; partition = p }) ≡ q = cc in let same : s.correlation ≡ q.correlation = ap (λ (x : IdRequest). x.correlation) asked in omega arith;
 }
 
-abbrev spent_step : World → Demand → Bool → Requested
-spent_step w d b =
-    if b then nothing_out w.core (Err fault.CorrelationSpent) else goes_out w.moment w.core d
-
-abbrev end_step : World → Bool → Requested
-end_step w b = if b then nothing_out w.core (Err fault.Ended) else requested_for w.moment w.core (next_demand w.moment w.core)
-
-pub lawful_sending : (n : ℕ) (w : World) → IsLawful n w → IsLawful n (sending w (requested w.moment w.core).after (requested w.moment w.core).answer)
-unfolding requested noted
-lawful_sending n w g = at_end w.core.ended
+pub lawful_sending : {most : ℕ} (n : ℕ) (w : World) → IsLawfulWithin most n w → IsLawfulWithin most n (sending w (requested w.moment w.core).after (requested w.moment w.core).answer)
+unfolding noted
+lawful_sending {most = most} n w g =
+    at_requested (λ (r : Requested). IsLawfulWithin most n (sending w r.after r.answer)) w.moment w.core (record { ended = g; idle = g; spent = g; out = out })
   where
-    at_spent : (d : Demand) → next_demand w.moment w.core ≡ Some d → (b : Bool)
-        → IsLawful n (sending w (spent_step w d b).after (spent_step w d b).answer)
-    at_spent d e true = g
-    at_spent (Produce xs) e false = lawful_batches n w.moment w.core w.logs w.handed w.packets w.replies w.ids xs g (demand_is_sent w.moment w.core xs e)
-    at_spent (InitProducerId p) e false = lawful_id n w.moment w.core w.logs w.handed w.packets w.replies w.ids p g
-
-    at_demand : (o : Option Demand) → next_demand w.moment w.core ≡ o → IsLawful n (sending w (requested_for w.moment w.core o).after (requested_for w.moment w.core o).answer)
-    at_demand None e = g
-    at_demand (Some d) e = at_spent d e (is_spent w.core)
-
-    at_end : (b : Bool) → IsLawful n (sending w (end_step w b).after (end_step w b).answer)
-    at_end true = g
-    at_end false = at_demand (next_demand w.moment w.core) refl
+    out : (d : Demand) → next_demand w.moment w.core ≡ Some d → IsLawfulWithin most n (sending w (goes_out w.moment w.core d).after (goes_out w.moment w.core d).answer)
+    out (Produce xs) e = lawful_batches n w.moment w.core w.logs w.handed w.packets w.replies w.ids xs g (demand_is_sent w.moment w.core xs e)
+    out (InitProducerId p) e = lawful_id n w.moment w.core w.logs w.handed w.packets w.replies w.ids p g

@@ -1,6 +1,6 @@
--- What a call on the core leaves of each partition's open batches, where it acknowledges only batches
--- that are stored: the others stay open unless the partition is fenced, in their order, and none is in
--- flight that was not.
+-- What a call on the core leaves of each partition, where it acknowledges only batches that are stored: the other batches
+-- stay open unless the partition is fenced, in their order, and none is in flight that was not. Only handing over, and a
+-- fresh id, do more.
 use Rattle.std.proofs.Common.{◌≡◌, ◌⊎◌, ℕ, ◌<◌, Bool, true, false, not, cond, List, [], ◌∷◌, length, map, Some, None, refl, sym, ap, ◌∙◌, subst, inl, inr, ⊎_elim}
 use Rattle.std.specs.Prelude.{Option, find, if◌then◌else◌, ◌==◌, ◌||◌}
 use Rattle.std.specs.List.{AllByRecursion, filter, list_any}
@@ -12,20 +12,20 @@ use Rattle.kp_frames.specs.declared.produce.PartitionProduceResponse.{PartitionP
 use Rattle.kp_log.proofs.PlaceLemmas.{In, In-nil, In-cons, In-head, In-tail, In-filter}
 use Rattle.kp_core.specs.declared.attempt.Attempt.{Attempt}
 use Rattle.kp_core.specs.declared.attempt.Attempt.TheVariants.{InFlight, Waiting}
-use Rattle.kp_core.specs.declared.outcome.Reason.{Reason}
 use Rattle.kp_core.specs.declared.outcome.Reason.TheVariants.{Fenced, Ended}
 use Rattle.kp_core.specs.declared.verdict.Verdict.{Verdict}
 use Rattle.kp_core.specs.declared.verdict.Verdict.TheVariants.{Stored, Duplicate, Retry, Reject}
 use Rattle.kp_core.specs.Answered.{without_attempt, waiting_since, is_acknowledged_by, is_first_under_id, settled, answered_if, answered, verdict_of}
-use Rattle.kp_core.specs.Appending.{turned_away, refused, queued, with_queued, would_exhaust, appended}
+use Rattle.kp_core.specs.Appending.{Appends, turned_away, refused, with_queued, appended}
 use Rattle.kp_core.specs.Attempts.{is_attempt_in, awaits, awaiting, dropped_attempt, dropped_batch, without_attempts, dropped}
 use Rattle.kp_core.specs.Fence.{fenced, given_up, end_of, ended}
 use Rattle.kp_core.specs.Flush.{marked_open, with_marks, flushed}
 use Rattle.kp_core.specs.Partitions.{partition_at, changed_at, new_partition, is_in, present_id}
-use Rattle.kp_core.specs.Records.{Batch, Open, Partition, Core, Step}
+use Rattle.kp_core.specs.Records.{Batch, Open, Partition, IdRequest, Core, Step}
 use Rattle.kp_core.specs.Telling.{with_partitions, at_each, told_at_each}
-use Rattle.kp_core.specs.Tick.{expired_front, is_open_late, passed, has_timed_out, ticked_now, ticked_from, not_ticked, ticked, disconnected, closed}
-use Rattle.kp_world.proofs.KeepingLemmas.{at-changed_at}
+use Rattle.kp_core.specs.Tick.{Ticks, expired_front, is_open_late, passed, ticked_from, ticked, disconnected, closed}
+use Rattle.kp_world.proofs.KeepingLemmas.{Keeps, keeps_same, keeps_more, keeps_dropped, keeps_marked, keeps_queued, keeps_fenced, keeps_given_up, keeps_expired, keeps_without, keeps_settled, length-changed_at, at-changed_at}
+use Rattle.kp_core.proofs.CallLemmas.{at_appended, at_ticked}
 
 -- ---- open batches
 
@@ -56,7 +56,7 @@ pub record Leaves (P : Batch → Type 0) (gave_up : Bool) (t t' : Partition) : T
   pub stays : gave_up ≡ false → t'.fenced ≡ false → (o : Open) → In o t.open_batches → P o.batch ⊎ IsOpen t'.open_batches o.batch
   pub fence : t'.fenced ≡ false → t.fenced ≡ false
   pub acknowledged : t'.acknowledged ≡ true → (t.acknowledged ≡ true) ⊎ ((o : Open) × In o t.open_batches × P o.batch × (o.batch.id ≡ present_id t))
-  pub ids : t'.ids ≡ t.ids
+  pub keeps : Keeps t t'
 
 came_same : (os : List Open) (o : Open) → In o os → CameFrom os o
 came_same os o i = record { it = o; there = i; batch = refl; flight = λ k e. e }
@@ -71,7 +71,7 @@ leaves_same P e t = record {
   stays = λ g f o i. inr (is_open t.open_batches o i);
   fence = λ f. f;
   acknowledged = λ a. inl a;
-  ids = refl;
+  keeps = keeps_same t;
 }
 
 pub leaves_more : (P : Batch → Type 0) (e : Bool) (t u v : Partition) → Leaves P e t u → Leaves P e u v → Leaves P e t v
@@ -82,7 +82,7 @@ leaves_more P e t u v k l = record {
   stays = λ g f o i. ⊎_elim (λ (p : P o.batch). inl p) (λ (x : IsOpen u.open_batches o.batch). still g f o x) (k.stays g (l.fence f) o i);
   fence = λ f. k.fence (l.fence f);
   acknowledged = λ a. ⊎_elim (λ (b : u.acknowledged ≡ true). k.acknowledged b) (λ (x : (o : Open) × In o u.open_batches × P o.batch × (o.batch.id ≡ present_id u)). inr (before x.0 x.1 x.2 x.3)) (l.acknowledged a);
-  ids = l.ids ∙ k.ids;
+  keeps = keeps_more t u v k.keeps l.keeps;
 }
   where
     still : e ≡ false → v.fenced ≡ false → (o : Open) → IsOpen u.open_batches o.batch → P o.batch ⊎ IsOpen v.open_batches o.batch
@@ -91,7 +91,7 @@ leaves_more P e t u v k l = record {
     before : (o : Open) → In o u.open_batches → P o.batch → o.batch.id ≡ present_id u → (x : Open) × In x t.open_batches × P x.batch × (x.batch.id ≡ present_id t)
     before o i p s =
         let m = k.opens o i in
-        (m.it, m.there, subst P m.batch p, sym (ap (λ (b : Batch). b.id) m.batch) ∙ s ∙ same_present k.ids)
+        (m.it, m.there, subst P m.batch p, sym (ap (λ (b : Batch). b.id) m.batch) ∙ s ∙ same_present k.keeps.ids)
       where
         same_present : u.ids ≡ t.ids → present_id u ≡ present_id t
         same_present q = rw q refl
@@ -124,14 +124,14 @@ rising_mapped : (f : Open → Open) → Alike f → (os : List Open) → Rising 
 rising_mapped f a [] h = tt
 rising_mapped f a (x ∷ os) h = (subst (λ (b : Batch). AllByRecursion (λ (y : Open). b.number < y.batch.number) (map f os)) (sym (a.batch x)) (above_mapped f a x.batch.number os h.0), rising_mapped f a os h.1)
 
-leaves_mapped : (P : Batch → Type 0) (e : Bool) (f : Open → Open) → Alike f → (t t' : Partition) → t'.open_batches ≡ map f t.open_batches → t'.fenced ≡ t.fenced → t'.acknowledged ≡ t.acknowledged → t'.ids ≡ t.ids → Leaves P e t t'
-leaves_mapped P e f a t t' opens fence acked ids = record {
+leaves_mapped : (P : Batch → Type 0) (e : Bool) (f : Open → Open) → Alike f → (t t' : Partition) → t'.open_batches ≡ map f t.open_batches → t'.fenced ≡ t.fenced → t'.acknowledged ≡ t.acknowledged → Keeps t t' → Leaves P e t t'
+leaves_mapped P e f a t t' opens fence acked keeps = record {
   opens = λ o i. mapped_from f a t.open_batches o (subst (λ (os : List Open). In o os) opens i);
   rises = λ r. subst Rising (sym opens) (rising_mapped f a t.open_batches r);
   stays = λ g h o i. inr (subst (λ (os : List Open). IsOpen os o.batch) (sym opens) (mapped_open f a t.open_batches o i));
   fence = λ h. sym fence ∙ h;
   acknowledged = λ h. inl (sym acked ∙ h);
-  ids = ids;
+  keeps = keeps;
 }
 
 -- what a filter leaves
@@ -186,10 +186,10 @@ alike_dropped now = record { batch = λ o. refl; flight = λ o k e. at_attempt o
     at_attempt (Waiting since) k e = absurd cc
 
 pub leaves_dropped : (P : Batch → Type 0) (e : Bool) (now : ℕ) (t : Partition) → Leaves P e t (without_attempts now t)
-leaves_dropped P e now t = leaves_mapped P e (dropped_batch now) (alike_dropped now) t (without_attempts now t) refl refl refl refl
+leaves_dropped P e now t = leaves_mapped P e (dropped_batch now) (alike_dropped now) t (without_attempts now t) refl refl refl (keeps_dropped now t)
 
 pub leaves_marked : (P : Batch → Type 0) (e : Bool) (t : Partition) → Leaves P e t (with_marks t)
-leaves_marked P e t = leaves_mapped P e marked_open (record { batch = λ o. refl; flight = λ o k a. a }) t (with_marks t) refl refl refl refl
+leaves_marked P e t = leaves_mapped P e marked_open (record { batch = λ o. refl; flight = λ o k a. a }) t (with_marks t) refl refl refl (keeps_marked t)
 
 pub leaves_queued : (P : Batch → Type 0) (e : Bool) (c : Config) (i : Item) (t : Partition) → Leaves P e t (with_queued c i t)
 leaves_queued P e c i t = record {
@@ -198,7 +198,7 @@ leaves_queued P e c i t = record {
   stays = (leaves_same P e t).stays;
   fence = λ f. f;
   acknowledged = λ a. inl a;
-  ids = refl;
+  keeps = keeps_queued c i t;
 }
 
 pub leaves_fenced : (P : Batch → Type 0) (e : Bool) (t : Partition) → Leaves P e t (fenced t).after
@@ -209,7 +209,7 @@ leaves_fenced P e t = record {
   stays = λ g f o i. absurd cc;
   fence = λ f. absurd cc;
   acknowledged = λ a. inl a;
-  ids = refl;
+  keeps = keeps_fenced t;
 }
 
 pub leaves_given_up : (P : Batch → Type 0) (t : Partition) → Leaves P true t (given_up t).after
@@ -220,7 +220,7 @@ leaves_given_up P t = record {
   stays = λ g f o i. absurd cc;
   fence = λ f. f;
   acknowledged = λ a. inl a;
-  ids = refl;
+  keeps = keeps_given_up t;
 }
 
 pub leaves_passed : (P : Batch → Type 0) (e : Bool) (c : Config) (now : ℕ) (t : Partition) → Leaves P e t (passed c now t).after
@@ -234,7 +234,7 @@ leaves_passed P e c now t = at_test (list_any (is_open_late c now) t.open_batche
       stays = (leaves_same P e t).stays;
       fence = λ f. f;
       acknowledged = λ a. inl a;
-      ids = refl;
+      keeps = keeps_expired c now t;
     }
 
     at_test : (late : Bool) → Leaves P e t (if late then fenced t else expired_front c now t).after
@@ -255,14 +255,14 @@ without_left k t o i = at_test (awaits k o) refl
     at_test false is = inl (In-filter (λ (x : Open). not (awaits k x)) o t.open_batches (ap not is) i)
 
 leaves_acknowledged : (P : Batch → Type 0) (e : Bool) (k : ℕ) (t t' : Partition) (o : Open) → SettlesOnly P k t → In o t.open_batches → o.attempt ≡ InFlight k
-    → t'.open_batches ≡ (without_attempt k t).open_batches → t'.fenced ≡ t.fenced → t'.acknowledged ≡ is_acknowledged_by o.batch t → t'.ids ≡ t.ids → Leaves P e t t'
-leaves_acknowledged P e k t t' o only i flies opens fence acked ids = record {
+    → t'.open_batches ≡ (without_attempt k t).open_batches → t'.fenced ≡ t.fenced → t'.acknowledged ≡ is_acknowledged_by o.batch t → Keeps t t' → Leaves P e t t'
+leaves_acknowledged P e k t t' o only i flies opens fence acked keeps = record {
   opens = λ x j. came_same t.open_batches x (left_in (λ (y : Open). not (awaits k y)) t.open_batches x (subst (λ (os : List Open). In x os) opens j)).0;
   rises = λ r. subst Rising (sym opens) (rising_left (λ (y : Open). not (awaits k y)) t.open_batches r);
   stays = λ g f x j. ⊎_elim (λ (h : In x (without_attempt k t).open_batches). inr (is_open t'.open_batches x (subst (λ (os : List Open). In x os) (sym opens) h))) (λ (h : x.attempt ≡ InFlight k). inl (only x j h)) (without_left k t x j);
   fence = λ f. sym fence ∙ f;
   acknowledged = λ a. by_first t.acknowledged refl (sym acked ∙ a);
-  ids = ids;
+  keeps = keeps;
 }
   where
     by_first : (b : Bool) → t.acknowledged ≡ b → b || is_first_under_id t o.batch ≡ true → (t.acknowledged ≡ true) ⊎ ((x : Open) × In x t.open_batches × P x.batch × (x.batch.id ≡ present_id t))
@@ -290,20 +290,19 @@ leaves_rejected P e k t = record {
   stays = λ g f o i. absurd cc;
   fence = λ f. absurd cc;
   acknowledged = λ a. inl a;
-  ids = refl;
+  keeps = keeps_more t (without_attempt k t) (fenced (without_attempt k t)).after (keeps_without k t) (keeps_fenced (without_attempt k t));
 }
 
--- An answer to request k. Where it says that a batch is stored, that is of P; that a batch is older than those that the
--- broker knows is not answered to a request in flight.
+-- An answer to request k. Where it says that a batch is stored, or older than those that the broker knows, that is of P.
 pub leaves_answered : (P : Batch → Type 0) (e : Bool) (now k : ℕ) (t : Partition) (a : PartitionProduceResponse) → (verdict_of a.error_code ≡ Stored → SettlesOnly P k t)
-    → (verdict_of a.error_code ≡ Duplicate → (o : Open) → In o t.open_batches → o.attempt ≡ InFlight k → ⊥) → Leaves P e t (answered now k t a).after
+    → (verdict_of a.error_code ≡ Duplicate → SettlesOnly P k t) → Leaves P e t (answered now k t a).after
 unfolding answered
-leaves_answered P e now k t a only never = at_option (awaiting k t) refl
+leaves_answered P e now k t a only kept = at_option (awaiting k t) refl
   where
     at_verdict : (o : Open) → In o t.open_batches → o.attempt ≡ InFlight k → (v : Verdict) → verdict_of a.error_code ≡ v → Leaves P e t (settled now k t o a v).after
-    at_verdict o i f Stored is = leaves_acknowledged P e k t (settled now k t o a Stored).after o (only is) i f refl refl refl refl
-    at_verdict o i f Duplicate is = absurd (never is o i f)
-    at_verdict o i f Retry is = leaves_mapped P e (waiting_since now k) (alike_waiting now k) t (settled now k t o a Retry).after refl refl refl refl
+    at_verdict o i f Stored is = leaves_acknowledged P e k t (settled now k t o a Stored).after o (only is) i f refl refl refl (keeps_settled now k t o a Stored)
+    at_verdict o i f Duplicate is = leaves_acknowledged P e k t (settled now k t o a Duplicate).after o (kept is) i f refl refl refl (keeps_settled now k t o a Duplicate)
+    at_verdict o i f Retry is = leaves_mapped P e (waiting_since now k) (alike_waiting now k) t (settled now k t o a Retry).after refl refl refl (keeps_settled now k t o a Retry)
     at_verdict o i f Reject is = leaves_rejected P e k t
 
     at_option : (o : Option Open) → awaiting k t ≡ o → Leaves P e t (answered_if now k t a o).after
@@ -314,15 +313,29 @@ leaves_answered P e now k t a only never = at_option (awaiting k t) refl
 
 -- The same of each partition's, by its place.
 pub record CoreLeaves (P : ℕ → Batch → Type 0) (s s' : Core) : Type 0 where
+  pub count : length s'.partitions ≡ length s.partitions
   pub config : s'.config ≡ s.config
   pub ended : s'.ended ≡ false → s.ended ≡ false
+  pub correlation : s'.correlation ≡ s.correlation
+  pub asked : (q : IdRequest) → s'.id_request ≡ Some q → s.id_request ≡ Some q
   pub each : (p : ℕ) → p < length s.partitions → Leaves (P p) s'.ended (partition_at p s.partitions) (partition_at p s'.partitions)
 
-pub left_same : (P : ℕ → Batch → Type 0) (s : Core) → CoreLeaves P s s
-left_same P s = record { config = refl; ended = λ e. e; each = λ p h. leaves_same (P p) s.ended (partition_at p s.partitions) }
+-- a call that changes no partition
+pub left_alike : (P : ℕ → Batch → Type 0) (s s' : Core) → s'.partitions ≡ s.partitions → s'.config ≡ s.config → s'.ended ≡ s.ended → s'.correlation ≡ s.correlation → ((q : IdRequest) → s'.id_request ≡ Some q → s.id_request ≡ Some q) → CoreLeaves P s s'
+left_alike P s s' partitions config ended correlation asked = record {
+  count = ap length partitions;
+  config = config;
+  ended = λ e. sym ended ∙ e;
+  correlation = correlation;
+  asked = asked;
+  each = λ p h. subst (λ (ts : List Partition). Leaves (P p) s'.ended (partition_at p s.partitions) (partition_at p ts)) (sym partitions) (leaves_same (P p) s'.ended (partition_at p s.partitions));
+}
+
+left_same : (P : ℕ → Batch → Type 0) (s : Core) → CoreLeaves P s s
+left_same P s = left_alike P s s refl refl refl refl (λ q e. e)
 
 -- a rule at each partition
-pub at_all : (P : ℕ → Batch → Type 0) (e : Bool) (f : Partition → Partition) → ((Q : Batch → Type 0) (t : Partition) → Leaves Q e t (f t)) → (ts : List Partition) (p : ℕ) → p < length ts
+at_all : (P : ℕ → Batch → Type 0) (e : Bool) (f : Partition → Partition) → ((Q : Batch → Type 0) (t : Partition) → Leaves Q e t (f t)) → (ts : List Partition) (p : ℕ) → p < length ts
     → Leaves (P p) e (partition_at p ts) (partition_at p (map f ts))
 at_all P e f k ts p h = subst (Leaves (P p) e (partition_at p ts)) (sym (get_or-map f ts p (new_partition 0) (new_partition 0) h)) (k (P p) (partition_at p ts))
 
@@ -337,45 +350,70 @@ at_some P e ps f ts p h k = subst (Leaves (P p) e (partition_at p ts)) (sym (at-
 
 left_dropped : (P : ℕ → Batch → Type 0) (now : ℕ) (s : Core) → CoreLeaves P s (dropped now s)
 unfolding dropped
-left_dropped P now s = record { config = refl; ended = λ e. e; each = λ p h. at_all P s.ended (without_attempts now) (λ Q t. leaves_dropped Q s.ended now t) s.partitions p h }
+left_dropped P now s = record {
+  count = length-map s.partitions (without_attempts now);
+  config = refl;
+  ended = λ e. e;
+  correlation = refl;
+  asked = λ q e. absurd cc;
+  each = λ p h. at_all P s.ended (without_attempts now) (λ Q t. leaves_dropped Q s.ended now t) s.partitions p h;
+}
+
+left_passed : (P : ℕ → Batch → Type 0) (now : ℕ) (late : Bool) (s : Core) → CoreLeaves P s (ticked_from now late s).after
+unfolding at_each with_partitions
+left_passed P now late s = record {
+  count = length-map s.partitions (λ t. (passed s.config now t).after);
+  config = refl;
+  ended = λ e. e;
+  correlation = refl;
+  asked = λ q e. e;
+  each = λ p h. at_all P s.ended (λ t. (passed s.config now t).after) (λ Q t. leaves_passed Q s.ended s.config now t) s.partitions p h;
+}
 
 pub left_ticked : (P : ℕ → Batch → Type 0) (now : ℕ) (s : Core) → CoreLeaves P s (ticked now s).after
-unfolding ticked dropped at_each with_partitions
-left_ticked P now s = at_end s.ended
+unfolding dropped at_each with_partitions
+left_ticked P now s =
+    at_ticked (λ (x : Ticks). CoreLeaves P s x.after) now s (record { ended = left_same P s; timed_out = timed_out; on_time = left_passed P now false s })
   where
-    each : (c : Config) (ts : List Partition) (p : ℕ) → p < length ts → Leaves (P p) s.ended (partition_at p ts) (partition_at p (map (λ t. (passed c now t).after) ts))
-    each c ts p h = at_all P s.ended (λ t. (passed c now t).after) (λ Q t. leaves_passed Q s.ended c now t) ts p h
-
-    long : (p : ℕ) → p < length s.partitions → p < length (map (without_attempts now) s.partitions)
-    long p h = subst (λ (n : ℕ). p < n) (sym (length-map s.partitions (without_attempts now))) h
-
-    at_test : (b : Bool) → CoreLeaves P s (if b then ticked_from now true (dropped now s) else ticked_from now false s).after
-    at_test true = record {
-      config = refl;
-      ended = λ e. e;
-      each = λ p h. leaves_more (P p) s.ended (partition_at p s.partitions) (partition_at p (map (without_attempts now) s.partitions)) (partition_at p (map (λ t. (passed s.config now t).after) (map (without_attempts now) s.partitions)))
-          ((left_dropped P now s).each p h) (each s.config (map (without_attempts now) s.partitions) p (long p h));
-    }
-    at_test false = record { config = refl; ended = λ e. e; each = λ p h. each s.config s.partitions p h }
-
-    at_end : (b : Bool) → CoreLeaves P s (if b then not_ticked s else ticked_now now s).after
-    at_end true = left_same P s
-    at_end false = at_test (has_timed_out now s)
-
-abbrev end_step : Core → Bool → Step (Unit {0})
-end_step s b = if b then record { after = s; told = []; answer = tt } else record { after = end_of s; told = told_at_each given_up s; answer = tt }
+    timed_out : CoreLeaves P s (ticked_from now true (dropped now s)).after
+    timed_out =
+        let first = left_dropped P now s in
+        let second = left_passed P now true (dropped now s) in
+        record {
+          count = second.count ∙ first.count;
+          config = refl;
+          ended = λ e. e;
+          correlation = refl;
+          asked = λ q e. first.asked q (second.asked q e);
+          each = λ p h. leaves_more (P p) s.ended (partition_at p s.partitions) (partition_at p (dropped now s).partitions) (partition_at p (ticked_from now true (dropped now s)).after.partitions)
+              (first.each p h) (second.each p (subst (λ (n : ℕ). p < n) (sym first.count) h));
+        }
 
 pub left_ended : (P : ℕ → Batch → Type 0) (s : Core) → CoreLeaves P s (ended s).after
 unfolding ended at_each with_partitions
 left_ended P s = at_end s.ended
   where
-    at_end : (b : Bool) → CoreLeaves P s (end_step s b).after
+    at_end : (b : Bool) → let step : Step (Unit {0}) = if b then (record { after = s; told = []; answer = tt }) else record { after = end_of s; told = told_at_each given_up s; answer = tt } in CoreLeaves P s step.after
     at_end true = left_same P s
-    at_end false = record { config = refl; ended = λ e. absurd cc; each = λ p h. at_all P true (λ t. (given_up t).after) leaves_given_up s.partitions p h }
+    at_end false = record {
+      count = length-map s.partitions (λ t. (given_up t).after);
+      config = refl;
+      ended = λ e. absurd cc;
+      correlation = refl;
+      asked = λ q e. absurd cc;
+      each = λ p h. at_all P true (λ t. (given_up t).after) leaves_given_up s.partitions p h;
+    }
 
 pub left_flushed : (P : ℕ → Batch → Type 0) (s : Core) → CoreLeaves P s (flushed s)
 unfolding flushed
-left_flushed P s = record { config = refl; ended = λ e. e; each = λ p h. at_all P s.ended with_marks (λ Q t. leaves_marked Q s.ended t) s.partitions p h }
+left_flushed P s = record {
+  count = length-map s.partitions with_marks;
+  config = refl;
+  ended = λ e. e;
+  correlation = refl;
+  asked = λ q e. e;
+  each = λ p h. at_all P s.ended with_marks (λ Q t. leaves_marked Q s.ended t) s.partitions p h;
+}
 
 pub left_disconnected : (P : ℕ → Batch → Type 0) (now : ℕ) (s : Core) → CoreLeaves P s (disconnected now s)
 unfolding disconnected
@@ -391,27 +429,19 @@ left_closed P s = at_end s.ended
   where
     at_end : (b : Bool) → CoreLeaves P s (if b then s else record s { closing = true })
     at_end true = left_same P s
-    at_end false = record { config = refl; ended = λ e. e; each = λ p h. leaves_same (P p) s.ended (partition_at p s.partitions) }
+    at_end false = left_alike P s (record s { closing = true }) refl refl refl refl (λ q e. e)
 
 pub left_appended : (P : ℕ → Batch → Type 0) (i : Item) (s : Core) → CoreLeaves P s (appended i s).after
-unfolding appended
-left_appended P i s = at_end s.ended
-  where
-    as_is : (why : Reason) → CoreLeaves P s (turned_away why i s).after
-    as_is why = record { config = refl; ended = λ e. e; each = λ p h. leaves_same (P p) s.ended (partition_at p s.partitions) }
-
-    at_room : (b : Bool) → CoreLeaves P s (if b then refused s else queued i s).after
-    at_room true = record { config = refl; ended = λ e. e; each = λ p h. leaves_same (P p) s.ended (partition_at p s.partitions) }
-    at_room false = record {
-      config = refl;
-      ended = λ e. e;
-      each = λ p h. at_some P s.ended (i.partition ∷ []) (λ q t. with_queued s.config i t) s.partitions p h (leaves_queued (P p) s.ended s.config i (partition_at p s.partitions));
-    }
-
-    at_fence : (b : Bool) → CoreLeaves P s (if b then turned_away Fenced i s else if would_exhaust i s then refused s else queued i s).after
-    at_fence true = as_is Fenced
-    at_fence false = at_room (would_exhaust i s)
-
-    at_end : (b : Bool) → CoreLeaves P s (if b then turned_away Ended i s else if (partition_at i.partition s.partitions).fenced then turned_away Fenced i s else if would_exhaust i s then refused s else queued i s).after
-    at_end true = as_is Ended
-    at_end false = at_fence (partition_at i.partition s.partitions).fenced
+left_appended P i s = at_appended (λ (x : Appends). CoreLeaves P s x.after) i s (record {
+  past_end = λ e. left_alike P s (turned_away Ended i s).after refl refl refl refl (λ q e. e);
+  by_fence = λ e f. left_alike P s (turned_away Fenced i s).after refl refl refl refl (λ q e. e);
+  full = left_alike P s (refused s).after refl refl refl refl (λ q e. e);
+  room = λ e f fits. record {
+    count = length-changed_at (i.partition ∷ []) (λ q t. with_queued s.config i t) s.partitions;
+    config = refl;
+    ended = λ e. e;
+    correlation = refl;
+    asked = λ q e. e;
+    each = λ p h. at_some P s.ended (i.partition ∷ []) (λ q t. with_queued s.config i t) s.partitions p h (leaves_queued (P p) s.ended s.config i (partition_at p s.partitions));
+  };
+})

@@ -18,11 +18,7 @@ pub mod EventLemmas
 pub mod KeepingLemmas
 pub mod SendingLemmas
 pub mod SoundLemmas
-pub mod ReplyLemmas
-pub mod GoodLemmas
 pub mod RequestLemmas
-pub mod DeliveryLemmas
-pub mod ReplayLemmas
 pub mod WeightLemmas
 pub mod FateLemmas
 pub mod ConservationLemmas
@@ -43,6 +39,7 @@ pub mod BrokerLemmas
 pub mod LawfulLemmas
 pub mod HearingLemmas
 pub mod RunLemmas
+pub mod ReplayLemmas
 pub mod LogLawLemmas
 pub mod ItemLemmas
 pub mod DeliveredLemmas

@@ -19,9 +19,8 @@ use Rattle.kp_world.specs.Message.{sent_of}
 use Rattle.kp_world.specs.Run.{IsReached}
 use Rattle.kp_world.specs.World.{World}
 use Rattle.kp_world.proofs.BrokerLemmas.{Agrees}
-use Rattle.kp_world.proofs.GoodLemmas.{PartsIn}
 use Rattle.kp_world.proofs.HearingLemmas.{old_not_in_flight}
-use Rattle.kp_world.proofs.LawfulLemmas.{IsLawful}
+use Rattle.kp_world.proofs.LawfulLemmas.{PartsIn, IsLawful}
 use Rattle.kp_world.proofs.LeavingLemmas.{awaits_is, found}
 use Rattle.kp_world.proofs.PrefixLemmas.{lands}
 use Rattle.kp_world.proofs.RunLemmas.{lawful_reached}
@@ -79,7 +78,7 @@ silent n w g p b x other answer after step =
 
     current : MayAppend (log_at p w.logs) (sent_of b) → b.id ≡ present_id (partition_of p w)
     current may =
-        let both : Agrees n w.ids w.core w.handed w.logs w.packets w.replies p = g.agree p known.0 in
+        let both : Agrees 5 n w.ids w.core w.handed w.logs w.packets w.replies p = g.agree p known.0 in
         let head = lands w.ids (partition_of p w) (handed_at p w.handed) (log_at p w.logs) both.sound both.steady.cut b known.1 may in
         both.steady.cut.current b (record { earlier = []; later = head.0; split = head.1 })
 

@@ -1,7 +1,7 @@
 -- What a partition's log has of the batches that were handed over for it: the first so many, in order.
 -- Whatever comes to an honest broker, only the first of the others can be appended.
 use Rattle.std.proofs.Common.{◌≡◌, ◌⊎◌, ℕ, suc, ◌+◌, ◌<◌, Bool, true, false, cond, List, [], ◌∷◌, ◌++◌, length, map, replicate, ℤ, pos, negsuc, refl, sym, ap, ◌∙◌, subst, inl, inr, ⊎_elim, arith, length-append, append_assoc}
-use Rattle.std.specs.Prelude.{Option, Some, None, unwrap_or, ◌==◌, ◌||◌}
+use Rattle.std.specs.Prelude.{Option, None, unwrap_or, ◌==◌, ◌||◌}
 use Rattle.std.specs.List.{filter, list_any, last_or}
 use Rattle.std.specs.Ordering.{int_eq}
 use Rattle.std.proofs.lemmas.Bool.{eqb-true}
@@ -17,7 +17,7 @@ use Rattle.kp_log.specs.HandedOver.{Follows, IsStored}
 use Rattle.kp_log.specs.History.{History, stored_of, records_of, with_batch, with_others, empty_history, is_under, own, NO_ID}
 use Rattle.kp_log.specs.Log.{count_of, stored_as}
 use Rattle.kp_log.proofs.LogLemmas.{count_of-append, count_of_own, int_eq_same}
-use Rattle.kp_log.proofs.PlaceLemmas.{In, In-nil, In-cons, In-append_right, In-append_cases, cut_cases}
+use Rattle.kp_log.proofs.PlaceLemmas.{In, In-nil, In-cons, In-append_right, cut_cases}
 use Rattle.kp_core.specs.MaySend.{is_confirmed, new_batch}
 use Rattle.kp_core.specs.HandingOver.{handed_over_in}
 use Rattle.kp_core.specs.Partitions.{new_partition, present_id}
@@ -25,7 +25,8 @@ use Rattle.kp_core.specs.Records.{Batch, Open, Partition}
 use Rattle.kp_core.specs.Replies.{under}
 use Rattle.kp_world.specs.Message.{sent_of}
 use Rattle.kp_world.proofs.LeavingLemmas.{Leaves}
-use Rattle.kp_world.proofs.SoundLemmas.{Sound, sents}
+use Rattle.kp_world.proofs.SoundLemmas.{Sound, sents, last_is}
+use Rattle.kp_world.proofs.ListLemmas.{one_more}
 
 -- ---- records under these ids
 
@@ -209,7 +210,7 @@ cut_kept ids t t' handed h e s cut l = record {
   rest = cut.rest;
   split = cut.split;
   appended = cut.appended;
-  owned = subst (λ (is : List ℕ). own is h.records ≡ records_of h.batches) (sym l.ids) cut.owned;
+  owned = subst (λ (is : List ℕ). own is h.records ≡ records_of h.batches) (sym l.keeps.ids) cut.owned;
   places = cut.places;
   current = λ b i. cut.current b i ∙ sym present;
   first = λ n. same (cut.first n);
@@ -217,7 +218,7 @@ cut_kept ids t t' handed h e s cut l = record {
 }
   where
     present : present_id t' ≡ present_id t
-    present = ap (λ (is : List ℕ). unwrap_or (last_or None is) 0) l.ids
+    present = ap (λ (is : List ℕ). unwrap_or (last_or None is) 0) l.keeps.ids
 
     same : 0 < count_of (pos (present_id t)) h.records → 0 < count_of (pos (present_id t')) h.records
     same n = subst (λ (i : ℕ). 0 < count_of (pos i) h.records) (sym present) n
@@ -288,9 +289,6 @@ grown_appended ids t handed h s cut b later e i = record {
 
 -- ---- a batch is handed over
 
-one_left : (xs : List Batch) (b c : Batch) → In c (xs ++ b ∷ []) → In c xs ⊎ (c ≡ b)
-one_left xs b c i = ⊎_elim (λ (j : In c xs). inl j) (λ (j : In c (b ∷ [])). ⊎_elim (λ (same : c ≡ b). inr same) (λ (none : In c []). absurd (In-nil c none)) (In-cons c b [] j)) (In-append_cases c xs (b ∷ []) i)
-
 confirmed : (n : ℕ) (a : Bool) → (n == 0) || a ≡ true → (n ≡ 0) ⊎ (a ≡ true)
 confirmed n true e = inr refl
 confirmed n false e = at_test (n == 0) refl e
@@ -309,7 +307,7 @@ cut_handed ids t handed h k front queue s cut may = record {
   appended = cut.appended;
   owned = cut.owned;
   places = λ earlier later b e. place earlier later b (cut_cases earlier b later handed (new_batch t front ∷ []) (sym e));
-  current = λ b i. ⊎_elim (λ (j : In b cut.rest). cut.current b j) (λ (same : b ≡ new_batch t front). ap (λ (c : Batch). c.id) same) (one_left cut.rest (new_batch t front) b i);
+  current = λ b i. ⊎_elim (λ (j : In b cut.rest). cut.current b j) (λ (same : b ≡ new_batch t front). ap (λ (c : Batch). c.id) same) (one_more cut.rest (new_batch t front) b i);
   first = first cut.rest refl;
   heard = cut.heard;
 }
@@ -341,10 +339,6 @@ cut_handed ids t handed h k front queue s cut may = record {
         ⊎_elim (λ (none : t.next_sequence ≡ 0). absurd (omega (arith, none, sum, sequence, some))) (λ (a : t.acknowledged ≡ true). cut.heard a) (confirmed t.next_sequence t.acknowledged may)
 
 -- ---- a fresh id
-
-last_is : (o : Option ℕ) (ids : List ℕ) (id : ℕ) → last_or o (ids ++ id ∷ []) ≡ Some id
-last_is o [] id = refl
-last_is o (x ∷ ids) id = last_is (Some x) ids id
 
 -- Where nothing is left of what was handed over, the partition may go on under an id under which nothing was.
 pub cut_fresh : (ids : List ℕ) (t : Partition) (handed : List Batch) (h : History) (id : ℕ) → Sound ids (under id t) handed h → (cut : Cut t handed h) → cut.rest ≡ [] → Cut (under id t) handed h

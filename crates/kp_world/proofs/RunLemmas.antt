@@ -1,9 +1,9 @@
 -- What holds of every world of a run, whatever comes to an honest broker: from the opening world on,
 -- event by event.
-use Rattle.std.proofs.Common.{◌≡◌, ◌⊎◌, ℕ, ◌<◌, ◌≤◌, Bool, true, false, List, [], ◌∷◌, ◌++◌, length, replicate, pos, Some, None, refl, sym, ◌∙◌, subst, inl, inr, ⊎_elim}
-use Rattle.std.specs.Prelude.{Option, Result, Ok, Err, if◌then◌else◌, ◌==◌, ◌&&◌, ◌||◌, nat_lt, slice_get}
-use Rattle.std.proofs.lemmas.Bool.{eqb-true, eq-eqb, ltb-true, ltb-false}
-use Rattle.std.proofs.lemmas.List.{get_or-replicate, length-replicate, length-set, get_or-set_same, get_or-set_other}
+use Rattle.std.proofs.Common.{◌≡◌, ◌⊎◌, ℕ, ◌<◌, ◌≤◌, Bool, true, false, List, [], ◌∷◌, ◌++◌, length, replicate, pos, Some, refl, sym, ◌∙◌, subst, inl, inr, ⊎_elim, arith}
+use Rattle.std.specs.Prelude.{Result, Ok, Err, if◌then◌else◌, ◌||◌, nat_lt}
+use Rattle.std.proofs.lemmas.Bool.{ltb-false}
+use Rattle.std.proofs.lemmas.List.{get_or-replicate, length-replicate, length-set}
 use Rattle.kp_accum.specs.declared.fault.AppendFault.{AppendFault}
 use Rattle.kp_accum.specs.declared.config.Config.{Config}
 use Rattle.kp_accum.specs.declared.fault.ConfigFault.{ConfigFault}
@@ -20,46 +20,39 @@ use Rattle.kp_core.specs.Next.{Sending, Demand, Produce, InitProducerId}
 use Rattle.kp_core.specs.Opening.{new_core}
 use Rattle.kp_core.specs.Partitions.{partition_at, new_partition}
 use Rattle.kp_core.specs.Records.{Batch, Partition, Core}
-use Rattle.kp_core.specs.Requesting.{Outgoing, requested}
+use Rattle.kp_core.specs.Requesting.{Outgoing}
 use Rattle.kp_core.specs.Tick.{ticked, disconnected, closed}
 use Rattle.kp_world.specs.declared.event.Event.{Event}
-use Rattle.kp_world.specs.declared.event.Event.TheVariants as event
-use Rattle.kp_world.specs.Accepting.{is_large, with_accepted, accepting, item_for, accepted_by, taking, taking_of, taken_by}
-use Rattle.kp_world.specs.Client.{handed_at, sending, replying, has_sender, has_partition, only_if, ticking, ending, closing, client}
+use Rattle.kp_world.specs.Accepting.{taking, taking_of}
+use Rattle.kp_world.specs.Client.{handed_at}
 use Rattle.kp_world.specs.Delivering.{log_at, PartsDeliver, Delivery, IsFresh, IsError, Delivers, given}
-use Rattle.kp_world.specs.Line.{Closed, Large}
 use Rattle.kp_world.specs.Loopback.{other_record, logs_with_others}
-use Rattle.kp_world.specs.Noting.{noted, only_noted}
-use Rattle.kp_world.specs.Run.{with_delivery, with_others_at, Arrives, Steps, Run, IsReached}
+use Rattle.kp_world.specs.Noting.{noted}
+use Rattle.kp_world.specs.Run.{with_delivery, Steps, IsReached}
 use Rattle.kp_world.specs.World.{PartAnswer, ReplyContent, Batches, Id, Reply, World, opening, FIRST_ID, FIRST_CORRELATION}
-use Rattle.kp_world.proofs.BrokerLemmas.{Agrees, AllAgree, Known, PartsDelivered, parts_delivered}
+use Rattle.kp_world.proofs.BrokerLemmas.{Agrees, AllAgree, Known, PartsDelivered, parts_delivered, agree_set}
 use Rattle.kp_world.proofs.FlightLemmas.{Carries, PartHolds, ContentHolds, Steady, steady_new, steady_grown, steady_replied}
-use Rattle.kp_world.proofs.GoodLemmas.{PartsIn, Given}
 use Rattle.kp_world.proofs.HearingLemmas.{lawful_reply}
-use Rattle.kp_world.proofs.KeepingLemmas.{CoreKeeps, core_appended, core_ticked, core_ended, core_flushed, core_disconnected, core_closed}
-use Rattle.kp_world.proofs.LawfulLemmas.{Lawful, IsLawful, StoredAt, lawful_core, lawful_sending}
+use Rattle.kp_world.proofs.LawfulLemmas.{Lawful, IsLawful, StoredAt, lawful_core, lawful_sending, IsLawfulWithin, PartsIn, Given}
 use Rattle.kp_world.proofs.LeavingLemmas.{CoreLeaves, left_appended, left_ticked, left_ended, left_flushed, left_disconnected, left_closed}
 use Rattle.kp_world.proofs.PrefixLemmas.{grown_others}
 use Rattle.kp_world.proofs.SoundLemmas.{Sound, sents, sound_new, sound_history, sound_drawn}
 use Rattle.kp_world.proofs.ListLemmas.{all_at, in_at, one_more}
-
--- ---- a world in which only this happened
-
-lawful_some : (n : ℕ) (x v : World) → Some x ≡ Some v → IsLawful n x → IsLawful n v
-lawful_some n x v e g = let same : x ≡ v = cc in subst (IsLawful n) same g
+use Rattle.kp_world.proofs.EventLemmas.{OfEvent, at_step, OfStep, at_run}
 
 -- ---- a packet comes
 
 -- what was given before is as it was, and the newest reply is this one
-lawful_answered : (n : ℕ) (core : Core) (logs logs' : List History) (handed : List (List Batch)) (packets : List Outgoing) (replies : List Reply) (ids ids' : List ℕ) (r : Reply)
-    → Lawful n core logs handed packets replies ids → length logs' ≡ n → AllAgree n ids' core handed logs' packets replies → ((id : ℕ) → In id ids → In id ids') → Given n ids' core r
+lawful_answered : {most : ℕ} (n : ℕ) (core : Core) (logs logs' : List History) (handed : List (List Batch)) (packets : List Outgoing) (replies : List Reply) (ids ids' : List ℕ) (r : Reply)
+    → Lawful most n core logs handed packets replies ids → length logs' ≡ n → AllAgree most n ids' core handed logs' packets replies → ((id : ℕ) → In id ids → In id ids') → Given n ids' core r
     → ((p : ℕ) → p < n → ContentHolds p (length (handed_at p handed)) r.correlation packets (log_at p logs').records r.content)
-    → Lawful n core logs' handed packets (replies ++ r ∷ []) ids'
+    → Lawful most n core logs' handed packets (replies ++ r ∷ []) ids'
 lawful_answered n core logs logs' handed packets replies ids ids' r g size agree more newest content = record {
   count = g.count;
   handed_count = g.handed_count;
   logs_count = size;
   window = g.window;
+  some = g.some;
   agree = λ p h. record {
     sound = (agree p h).sound;
     steady = steady_replied p core.correlation core.ended (partition_at p core.partitions) (handed_at p handed) (log_at p logs') packets replies r (agree p h).steady (content p h);
@@ -78,27 +71,28 @@ reply o content = record { correlation = o.correlation; content = content }
 
 -- ---- batches
 
-pub parts_came : (n : ℕ) (w : World) (o : Outgoing) (xs : List Sending) (logs : List History) (answers : List PartAnswer) → IsLawful n w → In o w.packets → o.demand ≡ Produce xs → PartsDeliver w.logs xs answers logs
-    → PartsDelivered n o.correlation w.ids w.core w.handed w.logs logs w.packets w.replies answers
-parts_came n w o xs logs answers g i is deliver =
-    parts_delivered n o.correlation w.ids w.core w.handed w.logs logs w.packets w.replies xs answers g.logs_count g.agree known deliver
-  where
-    known : Known n o.correlation w.handed w.packets xs
-    known x j =
-        let parts : PartsIn n w.handed (Produce xs) = subst (PartsIn n w.handed) is (g.went o i).parts in
-        let one = all_at (λ (y : Sending). (y.partition < n) × In y.batch (handed_at y.partition w.handed)) xs x parts j in
-        (one.0, one.1, record { packet = o; sent = i; named = refl; carries = subst (λ (e : Demand). Carries x.partition x.batch e) (sym is) (x, j, refl, refl) })
+-- each of a packet's batches was handed over, and went out with it
+pub parts_known : {most : ℕ} (n : ℕ) (w : World) (o : Outgoing) (xs : List Sending) → IsLawfulWithin most n w → In o w.packets → o.demand ≡ Produce xs → Known n o.correlation w.handed w.packets xs
+parts_known n w o xs g i is x j =
+    let parts : PartsIn n w.handed (Produce xs) = subst (PartsIn n w.handed) is (g.went o i).parts in
+    let one = all_at (λ (y : Sending). (y.partition < n) × In y.batch (handed_at y.partition w.handed)) xs x parts j in
+    (one.0, one.1, record { packet = o; sent = i; named = refl; carries = subst (λ (e : Demand). Carries x.partition x.batch e) (sym is) (x, j, refl, refl) })
 
-came_parts : (n : ℕ) (w : World) (o : Outgoing) (xs : List Sending) (d : Delivery) → IsLawful n w → In o w.packets → o.demand ≡ Produce xs → Delivers w (Produce xs) d
-    → Lawful n w.core d.logs w.handed w.packets (w.replies ++ reply o d.content ∷ []) d.ids
+pub parts_came : {most : ℕ} (n : ℕ) (w : World) (o : Outgoing) (xs : List Sending) (logs : List History) (answers : List PartAnswer) → IsLawfulWithin most n w → In o w.packets → o.demand ≡ Produce xs → PartsDeliver w.logs xs answers logs
+    → PartsDelivered most n o.correlation w.ids w.core w.handed w.logs logs w.packets w.replies answers
+parts_came n w o xs logs answers g i is deliver =
+    parts_delivered n o.correlation w.ids w.core w.handed w.logs logs w.packets w.replies xs answers g.logs_count g.agree (parts_known n w o xs g i is) deliver
+
+came_parts : {most : ℕ} (n : ℕ) (w : World) (o : Outgoing) (xs : List Sending) (d : Delivery) → IsLawfulWithin most n w → In o w.packets → o.demand ≡ Produce xs → Delivers w (Produce xs) d
+    → Lawful most n w.core d.logs w.handed w.packets (w.replies ++ reply o d.content ∷ []) d.ids
 unfolding Delivers
-came_parts n w o xs d g i is honest =
-    subst (λ (is' : List ℕ). Lawful n w.core d.logs w.handed w.packets (w.replies ++ reply o d.content ∷ []) is') (sym honest.3)
-    (subst (λ (c : ReplyContent). Lawful n w.core d.logs w.handed w.packets (w.replies ++ reply o c ∷ []) w.ids) (sym honest.2)
+came_parts {most = most} n w o xs d g i is honest =
+    subst (λ (is' : List ℕ). Lawful most n w.core d.logs w.handed w.packets (w.replies ++ reply o d.content ∷ []) is') (sym honest.3)
+    (subst (λ (c : ReplyContent). Lawful most n w.core d.logs w.handed w.packets (w.replies ++ reply o c ∷ []) w.ids) (sym honest.2)
     (lawful_answered n w.core w.logs d.logs w.handed w.packets w.replies w.ids w.ids (reply o (Batches honest.0)) g (all.count ∙ g.logs_count) all.agree (λ id j. j)
     (gives_none n w.ids w.core (reply o (Batches honest.0)) (g.went o i).before (λ id e. absurd cc)) content))
   where
-    all : PartsDelivered n o.correlation w.ids w.core w.handed w.logs d.logs w.packets w.replies honest.0
+    all : PartsDelivered most n o.correlation w.ids w.core w.handed w.logs d.logs w.packets w.replies honest.0
     all = parts_came n w o xs d.logs honest.0 g i is honest.1
 
     content : (p : ℕ) → p < n → (a : PartAnswer) → In a honest.0 → a.partition ≡ p → PartHolds p (length (handed_at p w.handed)) o.correlation w.packets (log_at p d.logs).records a.answer
@@ -117,17 +111,17 @@ not_given (Id code z) e id is = let zero : code ≡ pos 0 = cc in e zero
 fresh_apart : (ids : List ℕ) (id : ℕ) → IsFresh ids id → In id ids → ⊥
 fresh_apart ids id f i = all_at (λ (x : ℕ). x ≡ id → ⊥) ids id f i refl
 
-came_error : (n : ℕ) (w : World) (o : Outgoing) (c : ReplyContent) → IsLawful n w → In o w.packets → IsError c → Lawful n w.core w.logs w.handed w.packets (w.replies ++ reply o c ∷ []) w.ids
+came_error : {most : ℕ} (n : ℕ) (w : World) (o : Outgoing) (c : ReplyContent) → IsLawfulWithin most n w → In o w.packets → IsError c → Lawful most n w.core w.logs w.handed w.packets (w.replies ++ reply o c ∷ []) w.ids
 came_error n w o c g i e =
     lawful_answered n w.core w.logs w.logs w.handed w.packets w.replies w.ids w.ids (reply o c) g g.logs_count g.agree (λ id j. j)
     (gives_none n w.ids w.core (reply o c) (g.went o i).before (not_given c e)) (λ p h. no_parts p (length (handed_at p w.handed)) o.correlation w.packets (log_at p w.logs) c e)
 
-came_drawn : (n : ℕ) (w : World) (o : Outgoing) (c : ReplyContent) (id : ℕ) → IsLawful n w → In o w.packets → IsFresh w.ids id → IsError c ⊎ (c ≡ given id)
-    → Lawful n w.core w.logs w.handed w.packets (w.replies ++ reply o c ∷ []) (w.ids ++ id ∷ [])
-came_drawn n w o c id g i fresh what =
+came_drawn : {most : ℕ} (n : ℕ) (w : World) (o : Outgoing) (c : ReplyContent) (id : ℕ) → IsLawfulWithin most n w → In o w.packets → IsFresh w.ids id → IsError c ⊎ (c ≡ given id)
+    → Lawful most n w.core w.logs w.handed w.packets (w.replies ++ reply o c ∷ []) (w.ids ++ id ∷ [])
+came_drawn {most = most} n w o c id g i fresh what =
     lawful_answered n w.core w.logs w.logs w.handed w.packets w.replies w.ids (w.ids ++ id ∷ []) (reply o c) g g.logs_count agree (λ m j. In-append_left m w.ids (id ∷ []) j) (newest what) (λ p h. content p what)
   where
-    agree : AllAgree n (w.ids ++ id ∷ []) w.core w.handed w.logs w.packets w.replies
+    agree : AllAgree most n (w.ids ++ id ∷ []) w.core w.handed w.logs w.packets w.replies
     agree p h = record { sound = sound_drawn w.ids id (partition_at p w.core.partitions) (handed_at p w.handed) (log_at p w.logs) (g.agree p h).sound; steady = (g.agree p h).steady }
 
     same_id : (m : ℕ) → given id ≡ given m → id ≡ m
@@ -145,160 +139,91 @@ came_drawn n w o c id g i fresh what =
     content p (inl e) = no_parts p (length (handed_at p w.handed)) o.correlation w.packets (log_at p w.logs) c e
     content p (inr is) = subst (ContentHolds p (length (handed_at p w.handed)) o.correlation w.packets (log_at p w.logs).records) (sym is) tt
 
-came_id : (n p : ℕ) (w : World) (o : Outgoing) (d : Delivery) → IsLawful n w → In o w.packets → Delivers w (InitProducerId p) d
-    → Lawful n w.core d.logs w.handed w.packets (w.replies ++ reply o d.content ∷ []) d.ids
+came_id : {most : ℕ} (n p : ℕ) (w : World) (o : Outgoing) (d : Delivery) → IsLawfulWithin most n w → In o w.packets → Delivers w (InitProducerId p) d
+    → Lawful most n w.core d.logs w.handed w.packets (w.replies ++ reply o d.content ∷ []) d.ids
 unfolding Delivers
-came_id n p w o d g i honest =
-    subst (λ (ls : List History). Lawful n w.core ls w.handed w.packets (w.replies ++ reply o d.content ∷ []) d.ids) (sym honest.1)
+came_id {most = most} n p w o d g i honest =
+    subst (λ (ls : List History). Lawful most n w.core ls w.handed w.packets (w.replies ++ reply o d.content ∷ []) d.ids) (sym honest.1)
     (⊎_elim
-    (λ (e : IsError d.content × (d.ids ≡ w.ids)). subst (λ (is : List ℕ). Lawful n w.core w.logs w.handed w.packets (w.replies ++ reply o d.content ∷ []) is) (sym e.1) (came_error n w o d.content g i e.0))
+    (λ (e : IsError d.content × (d.ids ≡ w.ids)). subst (λ (is : List ℕ). Lawful most n w.core w.logs w.handed w.packets (w.replies ++ reply o d.content ∷ []) is) (sym e.1) (came_error n w o d.content g i e.0))
     (λ (e : (id : ℕ) × IsFresh w.ids id × (d.ids ≡ w.ids ++ id ∷ []) × (IsError d.content ⊎ (d.content ≡ given id))).
-    subst (λ (is : List ℕ). Lawful n w.core w.logs w.handed w.packets (w.replies ++ reply o d.content ∷ []) is) (sym e.2) (came_drawn n w o d.content e.0 g i e.1 e.3))
+    subst (λ (is : List ℕ). Lawful most n w.core w.logs w.handed w.packets (w.replies ++ reply o d.content ∷ []) is) (sym e.2) (came_drawn n w o d.content e.0 g i e.1 e.3))
     honest.0)
 
 -- ---- the broker's events
 
-lawful_arrives : (n k : ℕ) (w v : World) → IsLawful n w → Arrives w k v → IsLawful n v
+lawful_arrives : {most : ℕ} (n : ℕ) (w : World) (o : Outgoing) (d : Delivery) → IsLawfulWithin most n w → In o w.packets → Delivers w o.demand d → IsLawfulWithin most n (with_delivery o d w)
 unfolding with_delivery noted
-lawful_arrives n k w v g a = subst (IsLawful n) (sym a.after_is) (at_demand a.packet.demand refl a.honest)
+lawful_arrives {most = most} n w o d g i honest = at_demand o.demand refl honest
   where
-    at_demand : (e : Demand) → a.packet.demand ≡ e → Delivers w e a.delivery → Lawful n w.core a.delivery.logs w.handed w.packets (w.replies ++ reply a.packet a.delivery.content ∷ []) a.delivery.ids
-    at_demand (Produce xs) is honest = came_parts n w a.packet xs a.delivery g (in_at w.packets k a.packet a.went_out) is honest
-    at_demand (InitProducerId p) is honest = came_id n p w a.packet a.delivery g (in_at w.packets k a.packet a.went_out) honest
+    at_demand : (e : Demand) → o.demand ≡ e → Delivers w e d → Lawful most n w.core d.logs w.handed w.packets (w.replies ++ reply o d.content ∷ []) d.ids
+    at_demand (Produce xs) is honest' = came_parts n w o xs d g i is honest'
+    at_demand (InitProducerId p) is honest' = came_id n p w o d g i honest'
 
-lawful_others : (n p m : ℕ) (core : Core) (logs : List History) (handed : List (List Batch)) (packets : List Outgoing) (replies : List Reply) (ids : List ℕ)
-    → p < length logs → Lawful n core logs handed packets replies ids → Lawful n core (logs_with_others p m logs) handed packets replies ids
-lawful_others n p m core logs handed packets replies ids within g = record {
+lawful_others : {most : ℕ} (n p m : ℕ) (core : Core) (logs : List History) (handed : List (List Batch)) (packets : List Outgoing) (replies : List Reply) (ids : List ℕ)
+    → p < length logs → Lawful most n core logs handed packets replies ids → Lawful most n core (logs_with_others p m logs) handed packets replies ids
+lawful_others {most = most} n p m core logs handed packets replies ids within g = record {
   count = g.count;
   handed_count = g.handed_count;
   logs_count = length-set logs p (with_others m other_record (log_at p logs)) ∙ g.logs_count;
   window = g.window;
-  agree = λ q h. at_place q h (q == p) refl;
+  some = g.some;
+  agree = agree_set n ids core handed logs packets replies p (with_others m other_record (log_at p logs)) within g.agree
+      (sound_history ids (partition_at p core.partitions) (handed_at p handed) (log_at p logs) (with_others m other_record (log_at p logs)) mine.sound (came_others (sents (handed_at p handed)) (log_at p logs) m other_record mine.sound.came))
+      (steady_grown p core.correlation core.ended (partition_at p core.partitions) (handed_at p handed) (log_at p logs) (with_others m other_record (log_at p logs)) packets replies mine.steady (grown_others (partition_at p core.partitions) (handed_at p handed) (log_at p logs) m other_record mine.steady.cut));
   went = g.went;
   gave = g.gave;
   asked = g.asked;
 }
   where
-    same_log : (q : ℕ) → q ≡ p → log_at q (logs_with_others p m logs) ≡ with_others m other_record (log_at q logs)
-    same_log q same = subst (λ (x : ℕ). log_at x (logs_with_others p m logs) ≡ with_others m other_record (log_at x logs)) (sym same) (get_or-set_same logs p (with_others m other_record (log_at p logs)) empty_history within)
-
-    at_place : (q : ℕ) → q < n → (b : Bool) → (q == p) ≡ b → Agrees n ids core handed (logs_with_others p m logs) packets replies q
-    at_place q h true is =
-        let log : log_at q (logs_with_others p m logs) ≡ with_others m other_record (log_at q logs) = same_log q (eqb-true q p is) in
-        let a : Agrees n ids core handed logs packets replies q = g.agree q h in record {
-          sound = subst (Sound ids (partition_at q core.partitions) (handed_at q handed)) (sym log) (sound_history ids (partition_at q core.partitions) (handed_at q handed) (log_at q logs) (with_others m other_record (log_at q logs)) a.sound (came_others (sents (handed_at q handed)) (log_at q logs) m other_record a.sound.came));
-          steady = subst (λ (l : History). Steady q core.ended core.correlation (partition_at q core.partitions) (handed_at q handed) l packets replies) (sym log)
-              (steady_grown q core.correlation core.ended (partition_at q core.partitions) (handed_at q handed) (log_at q logs) (with_others m other_record (log_at q logs)) packets replies a.steady (grown_others (partition_at q core.partitions) (handed_at q handed) (log_at q logs) m other_record a.steady.cut));
-        }
-    at_place q h false is =
-        let log : log_at q (logs_with_others p m logs) ≡ log_at q logs = get_or-set_other logs p q (with_others m other_record (log_at p logs)) empty_history (λ e. let yes : (q == p) ≡ true = eq-eqb q p e in absurd cc) in
-        let a : Agrees n ids core handed logs packets replies q = g.agree q h in record {
-          sound = subst (Sound ids (partition_at q core.partitions) (handed_at q handed)) (sym log) a.sound;
-          steady = subst (λ (l : History). Steady q core.ended core.correlation (partition_at q core.partitions) (handed_at q handed) l packets replies) (sym log) a.steady;
-        }
-
-lawful_others_at : (n p m : ℕ) (w v : World) → with_others_at p m w ≡ Some v → IsLawful n w → IsLawful n v
-unfolding with_others_at noted
-lawful_others_at n p m w v e g = at_test (has_partition p w) refl e
-  where
-    at_test : (b : Bool) → has_partition p w ≡ b → only_if b (only_noted [] (record w { logs = logs_with_others p m w.logs })) ≡ Some v → IsLawful n v
-    at_test true is e' = lawful_some n (only_noted [] (record w { logs = logs_with_others p m w.logs })) v e' (lawful_others n p m w.core w.logs w.handed w.packets w.replies w.ids (ltb-true p (length w.logs) is) g)
-    at_test false is e' = absurd cc
+    mine : Agrees most n ids core handed logs packets replies p
+    mine = g.agree p (subst (λ (x : ℕ). p < x) g.logs_count within)
 
 -- ---- the producer's events
 
-lawful_called : (n : ℕ) (w : World) (s : Core) → IsLawful n w → CoreKeeps w.core s → CoreLeaves (StoredAt w.logs) w.core s → Lawful n s w.logs w.handed w.packets w.replies w.ids
-lawful_called n w s g k l = lawful_core n w.core s w.logs w.handed w.packets w.replies w.ids g k l
+lawful_called : {most : ℕ} (n : ℕ) (w : World) (s : Core) → IsLawfulWithin most n w → CoreLeaves (StoredAt w.logs) w.core s → Lawful most n s w.logs w.handed w.packets w.replies w.ids
+lawful_called n w s g l = lawful_core n w.core s w.logs w.handed w.packets w.replies w.ids g l
 
-abbrev large_step : Item → World → Bool → World
-large_step i w b =
-    if b then only_noted (Large i.sender i.partition ∷ []) w else only_noted [] (with_accepted i w)
-
-abbrev shut_step : Item → World → Bool → World
-shut_step i w b =
-    if b then only_noted (Closed i.sender i.partition ∷ []) w else large_step i w (is_large i w)
-
-lawful_accepting : (n : ℕ) (i : Item) (w : World) → IsLawful n w → IsLawful n (accepting i w)
+lawful_taken : {most : ℕ} (n s : ℕ) (i : Item) (w : World) → IsLawfulWithin most n w → IsLawfulWithin most n (taking s (Some i) w)
 unfolding noted
-lawful_accepting n i w g = at_shut w.is_shut
+lawful_taken {most = most} n s i w g = at_answer (appended i w.core).answer
   where
-    at_large : (b : Bool) → IsLawful n (large_step i w b)
-    at_large true = g
-    at_large false = g
+    after : Lawful most n (appended i w.core).after w.logs w.handed w.packets w.replies w.ids
+    after = lawful_called n w (appended i w.core).after g (left_appended (StoredAt w.logs) i w.core)
 
-    at_shut : (b : Bool) → IsLawful n (shut_step i w b)
-    at_shut true = g
-    at_shut false = at_large (is_large i w)
-
-lawful_taking : (n s : ℕ) (o : Option Item) (w : World) → IsLawful n w → IsLawful n (taking s o w)
-unfolding noted
-lawful_taking n s None w g = g
-lawful_taking n s (Some i) w g = at_answer (appended i w.core).answer
-  where
-    after : Lawful n (appended i w.core).after w.logs w.handed w.packets w.replies w.ids
-    after = lawful_called n w (appended i w.core).after g (core_appended i w.core) (left_appended (StoredAt w.logs) i w.core)
-
-    at_answer : (a : Result (Unit {0}) AppendFault) → IsLawful n (taking_of s (appended i w.core).after (appended i w.core).told a w)
+    at_answer : (a : Result (Unit {0}) AppendFault) → IsLawfulWithin most n (taking_of s (appended i w.core).after (appended i w.core).told a w)
     at_answer (Ok y) = after
     at_answer (Err refusal) = after
 
-lawful_replying : (n j : ℕ) (w v : World) → replying j (slice_get w.replies j) w ≡ Some v → IsLawful n w → IsLawful n v
+lawful_client : {most : ℕ} (n : ℕ) (w : World) → IsLawfulWithin most n w → OfEvent (IsLawfulWithin most n) w
 unfolding noted
-lawful_replying n j w v e g = at_reply (slice_get w.replies j) refl e
-  where
-    at_reply : (o : Option Reply) → slice_get w.replies j ≡ o → replying j o w ≡ Some v → IsLawful n v
-    at_reply None is e' = absurd cc
-    at_reply (Some r) is e' = lawful_some n _ v e' (lawful_reply n w.moment w.core w.logs w.handed w.packets w.replies w.ids r g (in_at w.replies j r is))
-
-lawful_client : (n : ℕ) (e : Event) (w v : World) → client e w ≡ Some v → IsLawful n w → IsLawful n v
-unfolding client noted
-lawful_client n (event.Accept s p value) w v e g = at_test (has_sender s w && has_partition p w) e
-  where
-    at_test : (b : Bool) → only_if b (accepting (item_for s p value w) w) ≡ Some v → IsLawful n v
-    at_test true e' = lawful_some n (accepting (item_for s p value w) w) v e' (lawful_accepting n (item_for s p value w) w g)
-    at_test false e' = absurd cc
-lawful_client n (event.Take s) w v e g = at_test (has_sender s w) e
-  where
-    at_test : (b : Bool) → only_if b (taking s (slice_get (accepted_by s w) (taken_by s w)) w) ≡ Some v → IsLawful n v
-    at_test true e' = lawful_some n (taking s (slice_get (accepted_by s w) (taken_by s w)) w) v e' (lawful_taking n s (slice_get (accepted_by s w) (taken_by s w)) w g)
-    at_test false e' = absurd cc
-lawful_client n (event.Now moment) w v e g =
-    lawful_some n (only_noted [] (record w { moment = moment })) v e g
-lawful_client n event.Tick w v e g = lawful_some n (ticking w) v e (lawful_called n w (ticked w.moment w.core).after g (core_ticked w.moment w.core) (left_ticked (StoredAt w.logs) w.moment w.core))
-lawful_client n event.Send w v e g = lawful_some n (sending w (requested w.moment w.core).after (requested w.moment w.core).answer) v e (lawful_sending n w g)
-lawful_client n (event.Reply j) w v e g = lawful_replying n j w v e g
-lawful_client n event.Drop w v e g = lawful_some n (noted (disconnected w.moment w.core) [] [] w) v e (lawful_called n w (disconnected w.moment w.core) g (core_disconnected w.moment w.core) (left_disconnected (StoredAt w.logs) w.moment w.core))
-lawful_client n event.Close w v e g =
-    lawful_some n (closing w) v e (lawful_called n w (closed w.core) g (core_closed w.core) (left_closed (StoredAt w.logs) w.core))
-lawful_client n event.End w v e g =
-    lawful_some n (ending w) v e (lawful_called n w (ended w.core).after g (core_ended w.core) (left_ended (StoredAt w.logs) w.core))
-lawful_client n event.Flush w v e g =
-    lawful_some n _ v e (lawful_called n w (flushed w.core) g (core_flushed w.core) (left_flushed (StoredAt w.logs) w.core))
-lawful_client n (event.Deliver k how) w v e g = absurd cc
-lawful_client n (event.Other p m) w v e g = absurd cc
+lawful_client n w g = record {
+  not_accepted = λ s p. (g, g);
+  accepted = λ s p value there at going fits. g;
+  none_taken = λ s. g;
+  taken = λ s i there is. lawful_taken n s i w g;
+  now = λ moment. g;
+  tick = lawful_called n w (ticked w.moment w.core).after g (left_ticked (StoredAt w.logs) w.moment w.core);
+  send = lawful_sending n w g;
+  reply = λ j r is. lawful_reply n w.moment w.core w.logs w.handed w.packets w.replies w.ids r g (in_at w.replies j r is);
+  lost = lawful_called n w (disconnected w.moment w.core) g (left_disconnected (StoredAt w.logs) w.moment w.core);
+  close = lawful_called n w (closed w.core) g (left_closed (StoredAt w.logs) w.core);
+  end = lawful_called n w (ended w.core).after g (left_ended (StoredAt w.logs) w.core);
+  flush = lawful_called n w (flushed w.core) g (left_flushed (StoredAt w.logs) w.core);
+}
 
 -- ---- runs
 
-pub lawful_step : (n : ℕ) (e : Event) (w v : World) → Steps w e v → IsLawful n w → IsLawful n v
-unfolding Steps
-lawful_step n (event.Deliver k how) w v s g = lawful_arrives n k w v g s
-lawful_step n (event.Other p m) w v s g = lawful_others_at n p m w v s g
-lawful_step n (event.Accept s p value) w v e g = lawful_client n (event.Accept s p value) w v e g
-lawful_step n (event.Take s) w v e g = lawful_client n (event.Take s) w v e g
-lawful_step n (event.Now moment) w v e g = lawful_client n (event.Now moment) w v e g
-lawful_step n event.Tick w v e g = lawful_client n event.Tick w v e g
-lawful_step n event.Send w v e g = lawful_client n event.Send w v e g
-lawful_step n (event.Reply j) w v e g = lawful_client n (event.Reply j) w v e g
-lawful_step n event.Drop w v e g = lawful_client n event.Drop w v e g
-lawful_step n event.Close w v e g = lawful_client n event.Close w v e g
-lawful_step n event.End w v e g = lawful_client n event.End w v e g
-lawful_step n event.Flush w v e g = lawful_client n event.Flush w v e g
+lawful_event : {most : ℕ} (n : ℕ) (w : World) → IsLawfulWithin most n w → OfStep (IsLawfulWithin most n) w
+unfolding noted
+lawful_event n w g = record {
+  client = lawful_client n w g;
+  arrives = λ k o d is honest. lawful_arrives n w o d g (in_at w.packets k o is) honest;
+  others = λ p m within. lawful_others n p m w.core w.logs w.handed w.packets w.replies w.ids within g;
+}
 
-lawful_run : (n : ℕ) (es : List Event) (w v : World) → Run w es v → IsLawful n w → IsLawful n v
-unfolding Run
-lawful_run n [] w v r g = subst (IsLawful n) (sym r) g
-lawful_run n (e ∷ es) w v r g =
-    lawful_run n es r.0 v r.2 (lawful_step n e w r.0 r.1 g)
+pub lawful_step : {most : ℕ} (n : ℕ) (e : Event) (w v : World) → Steps w e v → IsLawfulWithin most n w → IsLawfulWithin most n v
+lawful_step {most = most} n e w v s g = at_step (IsLawfulWithin most n) w (lawful_event n w g) e v s
 
 -- ---- the opening world
 
@@ -328,13 +253,14 @@ within_five c e =
     at_least true b is e' = absurd cc
     at_least false b is e' = at_most b is e'
 
-pub lawful_opening : (c : Config) (partitions senders : ℕ) → c.max_in_flight_requests_per_connection ≤ 5 → IsLawful partitions (opening c partitions senders)
+pub lawful_opening_within : {most : ℕ} (c : Config) (partitions senders : ℕ) → c.max_in_flight_requests_per_connection ≤ most → 0 < most → IsLawfulWithin most partitions (opening c partitions senders)
 unfolding opening new_core
-lawful_opening c partitions senders five = record {
+lawful_opening_within {most = most} c partitions senders few some = record {
   count = length-replicate partitions (new_partition FIRST_ID);
   handed_count = let none : List Batch = [] in length-replicate partitions none;
   logs_count = length-replicate partitions empty_history;
-  window = five;
+  window = few;
+  some = some;
   agree = λ p h. let both = each p h in record { sound = both.0; steady = both.1 };
   went = λ o i. absurd (In-nil o i);
   gave = λ r i. absurd (In-nil r i);
@@ -342,13 +268,16 @@ lawful_opening c partitions senders five = record {
 }
   where
     each : (p : ℕ) → p < partitions → (Sound (FIRST_ID ∷ []) (partition_at p (replicate partitions (new_partition FIRST_ID))) (handed_at p (replicate partitions [])) (log_at p (replicate partitions empty_history)))
-        × Steady p false FIRST_CORRELATION (partition_at p (replicate partitions (new_partition FIRST_ID))) (handed_at p (replicate partitions [])) (log_at p (replicate partitions empty_history)) [] []
+        × Steady most p false FIRST_CORRELATION (partition_at p (replicate partitions (new_partition FIRST_ID))) (handed_at p (replicate partitions [])) (log_at p (replicate partitions empty_history)) [] []
     each p h =
-        subst (λ (u : Partition). (Sound (FIRST_ID ∷ []) u (handed_at p (replicate partitions [])) (log_at p (replicate partitions empty_history))) × Steady p false FIRST_CORRELATION u (handed_at p (replicate partitions [])) (log_at p (replicate partitions empty_history)) [] []) (sym (get_or-replicate partitions p (new_partition FIRST_ID) (new_partition 0) h))
-        (subst (λ (hs : List Batch). (Sound (FIRST_ID ∷ []) (new_partition FIRST_ID) hs (log_at p (replicate partitions empty_history))) × Steady p false FIRST_CORRELATION (new_partition FIRST_ID) hs (log_at p (replicate partitions empty_history)) [] []) (sym (get_or-replicate {A = List Batch} partitions p [] [] h))
-        (subst (λ (l : History). (Sound (FIRST_ID ∷ []) (new_partition FIRST_ID) [] l) × Steady p false FIRST_CORRELATION (new_partition FIRST_ID) [] l [] []) (sym (get_or-replicate partitions p empty_history empty_history h)) (sound_new FIRST_ID, steady_new p FIRST_CORRELATION FIRST_ID)))
+        subst (λ (u : Partition). (Sound (FIRST_ID ∷ []) u (handed_at p (replicate partitions [])) (log_at p (replicate partitions empty_history))) × Steady most p false FIRST_CORRELATION u (handed_at p (replicate partitions [])) (log_at p (replicate partitions empty_history)) [] []) (sym (get_or-replicate partitions p (new_partition FIRST_ID) (new_partition 0) h))
+        (subst (λ (hs : List Batch). (Sound (FIRST_ID ∷ []) (new_partition FIRST_ID) hs (log_at p (replicate partitions empty_history))) × Steady most p false FIRST_CORRELATION (new_partition FIRST_ID) hs (log_at p (replicate partitions empty_history)) [] []) (sym (get_or-replicate {A = List Batch} partitions p [] [] h))
+        (subst (λ (l : History). (Sound (FIRST_ID ∷ []) (new_partition FIRST_ID) [] l) × Steady most p false FIRST_CORRELATION (new_partition FIRST_ID) [] l [] []) (sym (get_or-replicate partitions p empty_history empty_history h)) (sound_new FIRST_ID, steady_new p FIRST_CORRELATION FIRST_ID)))
+
+pub lawful_opening : (c : Config) (partitions senders : ℕ) → c.max_in_flight_requests_per_connection ≤ 5 → IsLawful partitions (opening c partitions senders)
+lawful_opening c partitions senders five = lawful_opening_within c partitions senders five (omega arith)
 
 -- Every world that a schedule leads to.
 pub lawful_reached : (c : Config) (partitions senders : ℕ) (es : List Event) (w : World) → IsReached c partitions senders es w → IsLawful partitions w
 lawful_reached c partitions senders es w r =
-    lawful_run partitions es (opening c partitions senders) w r.run (lawful_opening c partitions senders (within_five c r.may_begin.config))
+    at_run (IsLawful partitions) (λ u g e v s. lawful_step partitions e u v s g) es (opening c partitions senders) w r.run (lawful_opening c partitions senders (within_five c r.may_begin.config))

@@ -1,48 +1,24 @@
--- What goes out of each partition when a request does: a batch that was handed over, or the front
--- batch.
-use Rattle.std.proofs.Common.{◌≡◌, ◌⊎◌, ℕ, suc, ◌+◌, ◌-◌, ◌<◌, ◌≤◌, Bool, true, false, cond, List, [], ◌∷◌, length, get_or, take, drop, Some, None, refl, sym, ap, ◌∙◌, subst, inl, inr, arith}
+-- The batches of a request are those that their partitions may send.
+use Rattle.std.proofs.Common.{◌≡◌, ℕ, suc, ◌+◌, ◌-◌, ◌<◌, ◌≤◌, Bool, true, false, List, [], ◌∷◌, length, get_or, take, drop, Some, None, refl, sym, ap, ◌∙◌, subst, arith}
 use Rattle.std.specs.Prelude.{Option, if◌then◌else◌, find, option_map, filter_map, nat_le}
 use Rattle.std.specs.List.{AllByRecursion, enumerate_from, cons_option}
-use Rattle.kp_accum.specs.declared.config.Config.{Config}
-use Rattle.kp_accum.specs.declared.flags.Flags.{Flags}
-use Rattle.kp_accum.specs.Queue.{Pending, size_of}
+use Rattle.kp_accum.specs.Queue.{size_of}
 use Rattle.kp_log.proofs.PlaceLemmas.{In}
-use Rattle.kp_core.specs.Attempts.{has_window, is_waiting, lowest_waiting}
-use Rattle.kp_core.specs.HandingOver.{again_in, handed_over_in, sent_again_in, sent_first_in, sent_in}
-use Rattle.kp_core.specs.MaySend.{is_rested, may_hand_over, new_batch, sends_new, sends_first, sends}
+use Rattle.kp_core.specs.Attempts.{has_window, is_waiting}
+use Rattle.kp_core.specs.HandingOver.{again_in, sent_again_in}
+use Rattle.kp_core.specs.MaySend.{sends}
 use Rattle.kp_core.specs.Next.{Sending, Produce, flags_of, used_up_to, in_turn, sending_by, fitting, next_batches, next_asking, produce_of, demand_of, next_demand}
 use Rattle.kp_core.specs.Partitions.{partition_at, new_partition}
 use Rattle.kp_core.specs.Records.{Batch, Open, Partition, Core}
-use Rattle.kp_world.proofs.KeepingLemmas.{OpenIn, Keeps}
+use Rattle.kp_world.proofs.KeepingLemmas.{OpenIn}
 use Rattle.kp_core.proofs.ListLemmas.{all_append}
-use Rattle.kp_world.proofs.ListLemmas.{all_drop, all_take, all_weaker}
+use Rattle.kp_world.proofs.LeavingLemmas.{found}
+use Rattle.kp_world.proofs.ListLemmas.{all_at, all_drop, all_take, all_weaker}
 
 -- ---- one partition
 
--- the partition's batch goes out again
-pub record Again (t t' : Partition) (b : Batch) : Type 0 where
-  pub keeps : Keeps t t'
-  pub known : (handed : List Batch) → OpenIn handed t.open_batches → In b handed
-
--- its front batch is handed over
-pub record HandsOver (t t' : Partition) (b : Batch) : Type 0 where
-  pub front : Pending
-  pub rest : List Pending
-  pub request : ℕ
-  pub queue : t.queue ≡ front ∷ rest
-  pub batch : b ≡ new_batch t front
-  pub after_is : t' ≡ handed_over_in request t (front ∷ rest)
-
-pub find_open : (handed : List Batch) (os : List Open) (o : Open) → find is_waiting os ≡ Some o
-    → OpenIn handed os → In o.batch handed
-find_open handed [] o e h = absurd cc
-find_open handed (x ∷ os) o e h =
-    at_test (is_waiting x) e (λ (e' : find is_waiting os ≡ Some o). find_open handed os o e' h.1)
-  where
-    at_test : (b : Bool) → cond b (Some x) (find is_waiting os) ≡ Some o
-        → (find is_waiting os ≡ Some o → In o.batch handed) → In o.batch handed
-    at_test true same later = let is : x ≡ o = cc in subst (λ (y : Open). In y.batch handed) is h.0
-    at_test false same later = later same
+pub find_open : (handed : List Batch) (os : List Open) (o : Open) → find is_waiting os ≡ Some o → OpenIn handed os → In o.batch handed
+find_open handed os o e h = all_at (λ (x : Open). In x.batch handed) os o h (found is_waiting os o e).0
 
 pub opens_again : (k : ℕ) (handed : List Batch) (os : List Open) → OpenIn handed os → OpenIn handed (sent_again_in k os)
 unfolding sent_again_in
@@ -53,57 +29,6 @@ opens_again k handed (o ∷ os) h = at_test (is_waiting o) (opens_again k handed
         → OpenIn handed (if b then again_in k o ∷ os else o ∷ sent_again_in k os)
     at_test true rest = (h.0, h.1)
     at_test false rest = (h.0, rest)
-
-pub goes_out_of : (c : Config) (f : Flags) (now k : ℕ) (t : Partition) (b : Batch) → sends c f now t
-    ≡ Some b → Again t (sent_in k t) b ⊎ HandsOver t (sent_in k t) b
-unfolding sends sent_in
-goes_out_of c f now k t b e = at_fence t.fenced e
-  where
-    at_front : (q : List Pending) → t.queue ≡ q → sends_new may_hand_over c f now t q ≡ Some b
-        → HandsOver t (handed_over_in k t q) b
-    at_front [] is e' = absurd cc
-    at_front (front ∷ rest) is e' = record {
-      front = front;
-      rest = rest;
-      request = k;
-      queue = is;
-      batch = at_test
-          (may_hand_over c f now t front) e';
-      after_is = refl;
-    }
-      where
-        at_test : (may : Bool) → (if may then Some (new_batch t front) else None) ≡ Some b → b ≡ new_batch t front
-        at_test true same = cc
-        at_test false same = absurd cc
-
-    at_lowest : (o : Option Open) → lowest_waiting t ≡ o → sends_first may_hand_over c f now t o ≡ Some b
-        → Again t (sent_first_in k t o) b ⊎ HandsOver t (sent_first_in k t o) b
-    at_lowest None is e' = inr (at_front t.queue refl e')
-    at_lowest (Some lowest) is e' = inl (at_test (is_rested c now lowest.attempt) e')
-      where
-        at_test : (rested : Bool) → (if rested then Some lowest.batch else None) ≡ Some b
-            → Again t (sent_first_in k t (Some lowest)) b
-        at_test true same =
-            let known : lowest.batch ≡ b = cc in
-            record {
-              keeps = record {
-                number = refl;
-                sequence = refl;
-                ids = refl;
-                opens = λ handed h.
-                    opens_again k handed t.open_batches h;
-                queue = λ h. h;
-              };
-              known = λ handed h. subst (λ (y : Batch). In y handed) known
-                  (find_open handed t.open_batches lowest is h);
-            }
-        at_test false same = absurd cc
-
-    at_fence : (fence : Bool) → (if fence then None else sends_first may_hand_over c f now t (lowest_waiting t))
-        ≡ Some b → Again t (sent_first_in k t (lowest_waiting t)) b
-        ⊎ HandsOver t (sent_first_in k t (lowest_waiting t)) b
-    at_fence true e' = absurd cc
-    at_fence false e' = at_lowest (lowest_waiting t) refl e'
 
 -- ---- all of a request
 
@@ -144,7 +69,7 @@ all_filter_map {B = B} P Q h f (x ∷ xs) k = at_option (h x) refl (all_filter_m
     at_option None is rest = rest
     at_option (Some y) is rest = (f x y k.0 is, rest)
 
-all_fitting : (P : Sending → Type 0) (room : ℕ) (xs : List Sending) → AllByRecursion P xs
+pub all_fitting : (P : Sending → Type 0) (room : ℕ) (xs : List Sending) → AllByRecursion P xs
     → AllByRecursion P (fitting room xs)
 unfolding fitting
 all_fitting P room [] h = tt
@@ -175,7 +100,7 @@ sending_is now s y x place e = at_option (sends s.config (flags_of s) now y.1) r
               ∙ is;
         })
 
-pub all_sent : (now : ℕ) (s : Core) → AllByRecursion (IsSent now s) (next_batches now s)
+all_sent : (now : ℕ) (s : Core) → AllByRecursion (IsSent now s) (next_batches now s)
 unfolding next_batches
 all_sent now s =
     let all : AllByRecursion (IsPlace 0 s.partitions (new_partition 0))
@@ -189,22 +114,24 @@ all_sent now s =
     (all_drop (IsPlace 0 s.partitions (new_partition 0)) n (enumerate_from 0 s.partitions) all)
     (all_take (IsPlace 0 s.partitions (new_partition 0)) n (enumerate_from 0 s.partitions) all)))
 
--- the batches of the next request are those that may be sent
-pub demand_is_sent : (now : ℕ) (s : Core) (xs : List Sending) → next_demand now s
-    ≡ Some (Produce xs) → AllByRecursion (IsSent now s) xs
-unfolding next_demand
-demand_is_sent now s xs e = at_window (has_window s) e
-  where
-    at_batches : (ys : List Sending) → AllByRecursion (IsSent now s) ys → produce_of ys
-        ≡ Some (Produce xs) → AllByRecursion (IsSent now s) xs
-    at_batches [] all e' = absurd cc
-    at_batches (y ∷ ys) all e' = let same : y ∷ ys ≡ xs = cc in subst (AllByRecursion (IsSent now s)) same all
+-- ---- the next demand
 
-    at_asking : (o : Option ℕ) → demand_of (next_batches now s) o ≡ Some (Produce xs) → AllByRecursion (IsSent now s) xs
-    at_asking None e' = at_batches (next_batches now s) (all_sent now s) e'
+-- its batches are the next ones
+pub demand_is_next : (now : ℕ) (s : Core) (xs : List Sending) → next_demand now s ≡ Some (Produce xs) → next_batches now s ≡ xs
+unfolding next_demand
+demand_is_next now s xs e = at_window (has_window s) e
+  where
+    at_batches : (ys : List Sending) → produce_of ys ≡ Some (Produce xs) → ys ≡ xs
+    at_batches [] e' = absurd cc
+    at_batches (y ∷ ys) e' = cc
+
+    at_asking : (o : Option ℕ) → demand_of (next_batches now s) o ≡ Some (Produce xs) → next_batches now s ≡ xs
+    at_asking None e' = at_batches (next_batches now s) e'
     at_asking (Some p) e' = absurd cc
 
-    at_window : (b : Bool) → (if b then demand_of (next_batches now s) (next_asking now s) else None)
-        ≡ Some (Produce xs) → AllByRecursion (IsSent now s) xs
+    at_window : (b : Bool) → (if b then demand_of (next_batches now s) (next_asking now s) else None) ≡ Some (Produce xs) → next_batches now s ≡ xs
     at_window true e' = at_asking (next_asking now s) e'
     at_window false e' = absurd cc
+
+pub demand_is_sent : (now : ℕ) (s : Core) (xs : List Sending) → next_demand now s ≡ Some (Produce xs) → AllByRecursion (IsSent now s) xs
+demand_is_sent now s xs e = subst (AllByRecursion (IsSent now s)) (demand_is_next now s xs e) (all_sent now s)

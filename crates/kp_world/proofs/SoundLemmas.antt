@@ -1,8 +1,8 @@
 -- A partition, what was handed over for it, and its log: they agree, whatever happens.
-use Rattle.std.proofs.Common.{◌≡◌, ℕ, ◌+◌, ◌<◌, Bool, true, false, List, [], ◌∷◌, ◌++◌, length, map, pos, Some, None, refl, sym, ap, ◌∙◌, subst, ⊎_elim, arith, length-append}
-use Rattle.std.specs.Prelude.{Option, unwrap_or, ◌==◌}
+use Rattle.std.proofs.Common.{◌≡◌, ℕ, ◌+◌, ◌<◌, List, [], ◌∷◌, ◌++◌, length, map, pos, Some, None, refl, sym, ap, ◌∙◌, subst, ⊎_elim, arith, length-append}
+use Rattle.std.specs.Prelude.{Option, unwrap_or}
 use Rattle.std.specs.List.{AllByRecursion, last_or}
-use Rattle.std.proofs.lemmas.Bool.{eqb-true}
+use Rattle.std.proofs.lemmas.Bool.{ne_eqb}
 use Rattle.std.proofs.lemmas.List.{map-append, length-map}
 use Rattle.std.proofs.lemmas.List.Concat.{flat_map-append}
 use Rattle.kp_accum.specs.Queue.{Pending, body_of}
@@ -11,7 +11,7 @@ use Rattle.kp_log.specs.History.{Sent, History, stored_of, records_of, empty_his
 use Rattle.kp_log.specs.Log.{count_of}
 use Rattle.kp_log.proofs.KeepingLemmas.{nothing_handed, one_more_handed, came_empty, came_of_more}
 use Rattle.kp_log.proofs.LogLemmas.{count_of-append, count_of_own, count_of_others}
-use Rattle.kp_log.proofs.PlaceLemmas.{In, In-nil, In-head, In-tail, In-cons, In-append_left, In-append_right, In-append_cases}
+use Rattle.kp_log.proofs.PlaceLemmas.{In, In-nil, In-head, In-tail, In-append_left, In-append_right}
 use Rattle.kp_log.proofs.SequenceLemmas.{ids_apart}
 use Rattle.kp_core.specs.HandingOver.{opened_in, handed_over_in}
 use Rattle.kp_core.specs.MaySend.{new_batch}
@@ -20,8 +20,7 @@ use Rattle.kp_core.specs.Records.{Batch, Open, Partition}
 use Rattle.kp_core.specs.Replies.{under}
 use Rattle.kp_world.specs.Message.{sent_of}
 use Rattle.kp_world.proofs.KeepingLemmas.{HasItems, OpenIn, Keeps}
-use Rattle.kp_world.proofs.SendingLemmas.{HandsOver}
-use Rattle.kp_world.proofs.ListLemmas.{all_weaker}
+use Rattle.kp_world.proofs.ListLemmas.{all_weaker, one_more}
 
 -- the batches as a broker sees them
 abbrev pub sents : List Batch → List Sent
@@ -112,15 +111,15 @@ sound_new id = record {
 abbrev new : Partition → Pending → Sent
 new t front = sent_of (new_batch t front)
 
-one_more : (handed : List Batch) (b : Batch) → sents (handed ++ b ∷ []) ≡ sents handed ++ sent_of b ∷ []
-one_more handed b = map-append sent_of handed (b ∷ [])
+sents_more : (handed : List Batch) (b : Batch) → sents (handed ++ b ∷ []) ≡ sents handed ++ sent_of b ∷ []
+sents_more handed b = map-append sent_of handed (b ∷ [])
 
 count_one_more : (id : ℕ) (handed : List Batch) (b : Batch) → b.id ≡ id
     → count_of (pos id) (records_of (sents (handed ++ b ∷ [])))
     ≡ count_of (pos id) (records_of (sents handed)) + length b.items
 count_one_more id handed b same =
     let split : records_of (sents (handed ++ b ∷ [])) ≡ records_of (sents handed)
-    ++ records_of (sent_of b ∷ []) = ap records_of (one_more handed b)
+    ++ records_of (sent_of b ∷ []) = ap records_of (sents_more handed b)
     ∙ flat_map-append stored_of (sents handed) (sent_of b ∷ []) in
     let parts : count_of (pos id) (records_of (sents (handed ++ b ∷ [])))
     ≡ count_of (pos id) (records_of (sents handed)) + count_of (pos id)
@@ -145,59 +144,33 @@ pub opens_last : (handed : List Batch) (o : Open) (os : List Open) → In o.batc
 opens_last handed o [] i h = (i, tt)
 opens_last handed o (x ∷ os) i h = (h.0, opens_last handed o os i h.1)
 
-pub sound_handed : (drawn : List ℕ) (t t' : Partition) (b : Batch) (handed : List Batch)
-    (h : History) → Sound drawn t handed h → HandsOver t t' b → Sound drawn t' (handed ++ b ∷ []) h
+pub sound_handed : (drawn : List ℕ) (t : Partition) (handed : List Batch) (h : History) (request : ℕ) (front : Pending) (rest : List Pending)
+    → Sound drawn t handed h → t.queue ≡ front ∷ rest → Sound drawn (handed_over_in request t (front ∷ rest)) (handed ++ new_batch t front ∷ []) h
 unfolding handed_over_in
-sound_handed drawn t t' b handed h s o = subst
-    (λ (u : Partition). Sound drawn u (handed ++ b ∷ []) h) (sym o.after_is)
-    (subst (λ (c : Batch). Sound drawn (handed_over_in o.request t (o.front ∷ o.rest)) (handed
-    ++ c ∷ []) h) (sym o.batch) it)
+sound_handed drawn t handed h request front rest s queue = record {
+  number = omega (arith, all, s.number);
+  sequence = let m : count_under t.ids (handed ++ new_batch t front ∷ []) ≡ count_under t.ids handed + length front.items = count_one_more (present_id t) handed (new_batch t front) refl in omega (arith, s.sequence, m);
+  in_sequence = subst AreInSequence (sym (sents_more handed (new_batch t front))) (one_more_handed (sents handed) (new t front) s.in_sequence follows);
+  came = subst (λ (ss : List Sent). CameBy ss h) (sym (sents_more handed (new_batch t front))) (came_of_more (sents handed) (new t front) h s.came);
+  numbers = λ x i. ⊎_elim (λ (j : In x handed). omega (arith, all, s.numbers x j)) (λ (same : x ≡ new_batch t front). let m : x.number ≡ t.next_number = ap (λ (y : Batch). y.number) same in omega (arith, all, s.number, m)) (one_more handed (new_batch t front) x i);
+  under = λ x i. ⊎_elim (λ (j : In x handed). s.under x j) (λ (same : x ≡ new_batch t front). subst (λ (y : Batch). In y.id t.ids) (sym same) s.present) (one_more handed (new_batch t front) x i);
+  present = s.present;
+  drawn_all = s.drawn_all;
+  opens = opens_last (handed ++ new_batch t front ∷ []) (opened_in request t front) t.open_batches (In-append_right (new_batch t front) handed (new_batch t front ∷ []) (In-head (new_batch t front) [])) (opens_more handed (new_batch t front) t.open_batches s.opens);
+  queue = first.1;
+}
   where
-    first : AllByRecursion HasItems (o.front ∷ o.rest)
-    first = subst (AllByRecursion HasItems) o.queue s.queue
+    first : AllByRecursion HasItems (front ∷ rest)
+    first = subst (AllByRecursion HasItems) queue s.queue
 
-    some : 0 < length (map body_of o.front.items)
-    some = let size : length (map body_of o.front.items)
-        ≡ length o.front.items = length-map o.front.items body_of
-        in let any : 0 < length o.front.items = first.0 in omega arith
+    some : 0 < length (map body_of front.items)
+    some = let size : length (map body_of front.items) ≡ length front.items = length-map front.items body_of in omega (arith, size, first.0)
 
-    follows : Follows (sents handed) (new t o.front)
+    follows : Follows (sents handed) (new t front)
     follows = record { some_records = some; sequence = s.sequence }
 
-    all : length (handed ++ new_batch t o.front ∷ []) ≡ length handed + 1
-    all = length-append handed (new_batch t o.front ∷ [])
-
-    it : Sound drawn (handed_over_in o.request t (o.front ∷ o.rest)) (handed ++ new_batch t o.front ∷ []) h
-    it = record {
-      number = let n : t.next_number ≡ length handed = s.number in omega (arith, all, n);
-      sequence = let n : t.next_sequence ≡ count_under t.ids handed = s.sequence
-          in let m : count_under t.ids (handed ++ new_batch t o.front ∷ [])
-          ≡ count_under t.ids handed + length o.front.items = count_one_more (present_id t) handed
-          (new_batch t o.front) refl in omega (arith, n, m);
-      in_sequence = subst AreInSequence (sym (one_more handed (new_batch t o.front)))
-          (one_more_handed (sents handed) (new t o.front) s.in_sequence follows);
-      came = subst (λ (ss : List Sent). CameBy ss h) (sym (one_more handed (new_batch t o.front)))
-          (came_of_more (sents handed) (new t o.front) h s.came);
-      numbers = λ x i. ⊎_elim (λ (j : In x handed). let n : x.number < length handed = s.numbers x j
-          in omega (arith, all, n)) (λ (j : In x (new_batch t o.front ∷ [])). ⊎_elim
-          (λ (same : x ≡ new_batch t o.front). let n : t.next_number ≡ length handed = s.number
-          in let m : x.number ≡ t.next_number = ap (λ (y : Batch). y.number) same
-          in omega (arith, all, n, m)) (λ (z : In x []). absurd (In-nil x z))
-          (In-cons x (new_batch t o.front) [] j))
-          (In-append_cases x handed (new_batch t o.front ∷ []) i);
-      under = λ x i. ⊎_elim (λ (j : In x handed). s.under x j)
-          (λ (j : In x (new_batch t o.front ∷ [])). ⊎_elim
-          (λ (same : x ≡ new_batch t o.front). subst (λ (y : Batch). In y.id t.ids) (sym same)
-          s.present) (λ (z : In x []). absurd (In-nil x z)) (In-cons x (new_batch t o.front) [] j))
-          (In-append_cases x handed (new_batch t o.front ∷ []) i);
-      present = s.present;
-      drawn_all = s.drawn_all;
-      opens = opens_last (handed ++ new_batch t o.front ∷ []) (opened_in o.request t o.front)
-          t.open_batches (In-append_right (new_batch t o.front) handed (new_batch t o.front ∷ [])
-          (In-head (new_batch t o.front) []))
-          (opens_more handed (new_batch t o.front) t.open_batches s.opens);
-      queue = first.1;
-    }
+    all : length (handed ++ new_batch t front ∷ []) ≡ length handed + 1
+    all = length-append handed (new_batch t front ∷ [])
 
 -- ---- a fresh id
 
@@ -213,14 +186,10 @@ count_none id (b ∷ handed) h =
     (records_of (sents handed)) in
     let none : count_of (pos id) (stored_of (sent_of b))
     ≡ 0 = count_of_others (pos id) (pos b.id) (map body_of b.items)
-    (ids_apart b.id id (at_test (b.id == id) refl)) in
+    (ids_apart b.id id (ne_eqb b.id id (h b (In-head b handed)))) in
     omega (arith, rest, parts, none)
-  where
-    at_test : (t : Bool) → (b.id == id) ≡ t → (b.id == id) ≡ false
-    at_test true is = absurd (h b (In-head b handed) (eqb-true b.id id is))
-    at_test false is = is
 
-last_is : (o : Option ℕ) (ids : List ℕ) (id : ℕ) → last_or o (ids ++ id ∷ []) ≡ Some id
+pub last_is : (o : Option ℕ) (ids : List ℕ) (id : ℕ) → last_or o (ids ++ id ∷ []) ≡ Some id
 last_is o [] id = refl
 last_is o (x ∷ ids) id = last_is (Some x) ids id
 
@@ -237,10 +206,7 @@ sound_fresh drawn id t handed h s known fresh = record {
   under = λ b i. In-append_left b.id t.ids (id ∷ []) (s.under b i);
   present = subst (λ (o : Option ℕ). In (unwrap_or o 0) (t.ids ++ id ∷ []))
       (sym (last_is None t.ids id)) (In-append_right id t.ids (id ∷ []) (In-head id []));
-  drawn_all = λ i at. ⊎_elim (λ (j : In i t.ids). s.drawn_all i j)
-      (λ (j : In i (id ∷ [])). ⊎_elim (λ (same : i ≡ id). subst (λ (n : ℕ). In n drawn) (sym same)
-      known) (λ (z : In i []). absurd (In-nil i z)) (In-cons i id [] j))
-      (In-append_cases i t.ids (id ∷ []) at);
+  drawn_all = λ i at. ⊎_elim (λ (j : In i t.ids). s.drawn_all i j) (λ (same : i ≡ id). subst (λ (n : ℕ). In n drawn) (sym same) known) (one_more t.ids id i at);
   opens = s.opens;
   queue = s.queue;
 }

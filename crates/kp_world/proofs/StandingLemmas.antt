@@ -162,7 +162,7 @@ stands_at n w i offset g d = record {
     length_stored : (xs : List Item) → length (stored_as (pos d.batch.id) (map body_of xs)) ≡ length xs
     length_stored xs = length-stored_as (pos d.batch.id) (map body_of xs) ∙ length-map xs body_of
 
-    both : Agrees n w.ids w.core w.handed w.logs w.packets w.replies i.partition
+    both : Agrees 5 n w.ids w.core w.handed w.logs w.packets w.replies i.partition
     both = g.agree i.partition d.within
 
 was_truly : (n : ℕ) (w : World) → IsTruthful n w → (t : Told) → WasTold w t → Truly n w.handed w.logs t
