@@ -3,30 +3,28 @@ use Rattle.std.proofs.Common.{◌≡◌, ℕ, zero, suc, ◌+◌, ◌<◌, ◌�
 use Rattle.std.specs.Prelude.{Option, if◌then◌else◌, find, flat_map, nat_abs, ◌==◌, ◌||◌}
 use Rattle.std.specs.List.{AllByRecursion, filter, range_with_len}
 use Rattle.std.specs.Ordering.{int_eq}
-use Rattle.std.proofs.lemmas.Bool.{eqb-true, eq-eqb}
+use Rattle.std.proofs.lemmas.Bool.{eqb-true, eqb-false, eq-eqb, ne_eqb}
 use Rattle.std.proofs.lemmas.List.{append-nil, get_or-map, length-map}
 use Rattle.std.proofs.lemmas.List.Elements.{filter-append}
 use Rattle.kp_accum.specs.declared.item.Item.{Item}
-use Rattle.kp_frames.specs.declared.fault.FrameFault.TheVariants.{Mismatch}
 use Rattle.kp_frames.specs.declared.producer_id.InitProducerIdResponse.{InitProducerIdResponse}
 use Rattle.kp_frames.specs.declared.response.Response.{Response}
-use Rattle.kp_frames.specs.declared.response.ResponseBody.{ResponseBody}
-use Rattle.kp_frames.specs.declared.response.ResponseBody.TheVariants.{Produce, Metadata, InitProducerId}
 use Rattle.kp_core.specs.Attempts.{without_attempts, dropped, is_live}
-use Rattle.kp_core.specs.Awaited.{Awaited, Nothing, Batches, Id, id_awaited, or_id, awaited}
-use Rattle.kp_core.specs.Fence.{given_up, end_of, ended}
+use Rattle.kp_core.specs.Awaited.{Nothing, Batches, Id, id_awaited, or_id, awaited}
+use Rattle.kp_core.specs.Fence.{given_up, ended}
 use Rattle.kp_core.specs.Flush.{with_marks, flushed}
 use Rattle.kp_core.specs.MaySend.{wants_id}
-use Rattle.kp_core.specs.Mismatch.{Answers, answers_for, answers_of, answer_batches, is_given, answers_id}
+use Rattle.kp_core.specs.Mismatch.{Answers, answers_for, is_given}
 use Rattle.kp_core.specs.Partitions.{partition_at, changed_at, new_partition, is_in, untold}
 use Rattle.kp_core.specs.Records.{Batch, Partition, Request, IdRequest, Core, Told, Effect, Step}
-use Rattle.kp_core.specs.Replies.{first_answered, answering, batches_answered, batches_replied, under, under_if_wanted, id_given, id_refused, id_answered, id_replied, replied_to, replied, after_end, faulty, known, Replies}
+use Rattle.kp_core.specs.Replies.{first_answered, answering, under, under_if_wanted, id_given, id_refused, id_answered, replied, Replies}
 use Rattle.kp_core.specs.Telling.{with_partitions, at_each, told_at_each, at_these, told_at}
-use Rattle.kp_core.specs.Tick.{passed, has_timed_out, ticked_now, ticked_from, not_ticked, ticked, disconnected, closed}
+use Rattle.kp_core.specs.Tick.{passed, Ticks, ticked, disconnected, closed}
 use Rattle.kp_world.proofs.ConservationLemmas.{items_told, attempt_count, Tells, tells_same, tells_both, tells_nothing, tells_dropped, tells_marked, tells_given_up, tells_passed, tells_answered}
 use Rattle.kp_world.proofs.FateLemmas.{filter_all, filter_none}
 use Rattle.kp_world.proofs.WeightLemmas.{weigh, weigh-append, grown_at}
 use Rattle.kp_world.proofs.KeepingLemmas.{OpenIn, Keeps, keeps_same, keeps_dropped, keeps_given_up, keeps_passed, keeps_answered, keeps_marked, at-changed_at, length-changed_at}
+use Rattle.kp_core.proofs.CallLemmas.{at_closed, at_disconnected, at_ended, at_replied, at_ticked}
 use Rattle.kp_core.proofs.ListLemmas.{all_append}
 use Rattle.kp_world.proofs.ListLemmas.{all_filter, all_weaker}
 
@@ -42,18 +40,11 @@ all_told : (P : Item → Type 0) (told : List Told) → AllByRecursion P (items_
 all_told P [] h = tt
 all_told P (t ∷ told) h = (h.0, all_told P told h.1)
 
-apart : (q p : ℕ) → (q ≡ p → ⊥) → (q == p) ≡ false
-apart q p ne = at_test (q == p) refl
-  where
-    at_test : (b : Bool) → (q == p) ≡ b → b ≡ false
-    at_test true is = absurd (ne (eqb-true q p is))
-    at_test false is = refl
-
 pub for_all : (p : ℕ) (told : List Told) → AllFor p told → told_for p told ≡ told
 for_all p told h = filter_all (λ t. t.item.partition == p) told (all_weaker (λ t. t.item.partition ≡ p) (λ t. (t.item.partition == p) ≡ true) (λ t e. eq-eqb t.item.partition p e) told h)
 
 pub for_none : (q p : ℕ) (told : List Told) → (q ≡ p → ⊥) → AllFor q told → told_for p told ≡ []
-for_none q p told ne h = filter_none (λ t. t.item.partition == p) told (all_weaker (λ t. t.item.partition ≡ q) (λ t. (t.item.partition == p) ≡ false) (λ t e. apart t.item.partition p (λ (same : t.item.partition ≡ p). ne (sym e ∙ same))) told h)
+for_none q p told ne h = filter_none (λ t. t.item.partition == p) told (all_weaker (λ t. t.item.partition ≡ q) (λ t. (t.item.partition == p) ≡ false) (λ t e. ne_eqb t.item.partition p (λ (same : t.item.partition ≡ p). ne (sym e ∙ same))) told h)
 
 for_append : (p : ℕ) (a b : List Told) → told_for p (a ++ b) ≡ told_for p a ++ told_for p b
 for_append p a b = filter-append (λ (t : Told). t.item.partition == p) a b
@@ -112,11 +103,7 @@ told_these g home (q ∷ qs) p h = for_append p (g q) (flat_map g qs) ∙ at_tes
         ∙ ap (λ r. g q ++ r) (rest ∙ ap (λ (b : Bool). if b then g p else []) none)
         ∙ append-nil (g q) ∙ ap g e
     at_test rest false is =
-        let ne : q ≡ p → ⊥ = λ (e : q ≡ p). differ (eq-eqb q p e) is in
-        ap (λ r. r ++ told_for p (flat_map g qs)) (for_none q p (g q) ne (home q)) ∙ rest
-      where
-        differ : (q == p) ≡ true → (q == p) ≡ false → ⊥
-        differ same other = absurd cc
+        ap (λ r. r ++ told_for p (flat_map g qs)) (for_none q p (g q) (eqb-false q p is) (home q)) ∙ rest
 
 -- ---- one partition
 
@@ -150,8 +137,18 @@ pub record CoreTells (s : Core) (told : List Told) (s' : Core) : Type 1 where
   pub correlation : s'.correlation ≡ s.correlation
   pub there : AllByRecursion (λ t. t.item.partition < length s.partitions) told
 
+-- the partitions are the same
+core_alike : (s s' : Core) → s'.partitions ≡ s.partitions → s'.correlation ≡ s.correlation → ((P : Request → Type 0) → AllByRecursion P s.requests → AllByRecursion P s'.requests) → CoreTells s [] s'
+core_alike s s' same correlation requests = record {
+  count = ap length same;
+  each = λ p h. subst (Part (partition_at p s.partitions) []) (sym (ap (partition_at p) same)) (part_same (partition_at p s.partitions));
+  requests = requests;
+  correlation = correlation;
+  there = tt;
+}
+
 pub core_nothing : (s : Core) → CoreTells s [] s
-core_nothing s = record { count = refl; each = λ p h. part_same (partition_at p s.partitions); requests = λ P h. h; correlation = refl; there = tt }
+core_nothing s = core_alike s s refl refl (λ P h. h)
 
 core_then : (s u v : Core) (told : List Told) → CoreTells s [] u → CoreTells u told v → CoreTells s told v
 core_then s u v told a b = record {
@@ -201,20 +198,10 @@ unfolding flushed
 core_flushed s = core_map with_marks (λ t. part_of t [] (with_marks t) (keeps_marked t) (tells_marked t)) s (flushed s) refl refl (λ P h. h)
 
 pub core_disconnected : (now : ℕ) (s : Core) → CoreTells s [] (disconnected now s)
-unfolding disconnected
-core_disconnected now s = at_end s.ended
-  where
-    at_end : (b : Bool) → CoreTells s [] (if b then s else dropped now s)
-    at_end true = core_nothing s
-    at_end false = core_dropped now s
+core_disconnected now s = at_disconnected (CoreTells s []) now s (core_nothing s) (core_dropped now s)
 
 pub core_closed : (s : Core) → CoreTells s [] (closed s)
-unfolding closed
-core_closed s = at_end s.ended
-  where
-    at_end : (b : Bool) → CoreTells s [] (if b then s else record s { closing = true })
-    at_end true = core_nothing s
-    at_end false = record { count = refl; each = λ p h. part_same (partition_at p s.partitions); requests = λ P h. h; correlation = refl; there = tt }
+core_closed s = at_closed (CoreTells s []) s (core_nothing s) (core_alike s (record s { closing = true }) refl refl (λ P h. h))
 
 pub all_flat_places : (P : Told → Type 0) (f : Partition → List Told) (ts : List Partition) (d : Partition) → ((q : ℕ) → q < length ts → AllByRecursion P (f (get_or ts q d))) → AllByRecursion P (flat_map f ts)
 all_flat_places P f [] d h = tt
@@ -291,10 +278,7 @@ told_parts g n (t ∷ told) h =
     here = ap (λ (b : Bool). weigh g (cond b (t ∷ told_for t.item.partition told) (told_for t.item.partition told))) (eq-eqb t.item.partition t.item.partition refl) ∙ (let swap : g t + weigh g (told_for t.item.partition told) ≡ weigh g (told_for t.item.partition told) + g t = omega arith in swap)
 
     other : (p : ℕ) → (p == t.item.partition) ≡ false → weigh g (cond (t.item.partition == p) (t ∷ told_for p told) (told_for p told)) ≡ weigh g (told_for p told)
-    other p is = ap (λ (b : Bool). weigh g (cond b (t ∷ told_for p told) (told_for p told))) (apart t.item.partition p (λ (e : t.item.partition ≡ p). differ (eq-eqb p t.item.partition (sym e)) is))
-      where
-        differ : (p == t.item.partition) ≡ true → (p == t.item.partition) ≡ false → ⊥
-        differ same other = absurd cc
+    other p is = ap (λ (b : Bool). weigh g (cond b (t ∷ told_for p told) (told_for p told))) (ne_eqb t.item.partition p (λ (e : t.item.partition ≡ p). eqb-false p t.item.partition is (sym e)))
 
 -- place by place
 weigh_places : (f : Item → ℕ) (told : List Told) (k : ℕ) (ts ts' : List Partition) (d : Partition) → length ts' ≡ length ts
@@ -331,33 +315,18 @@ unfolding dropped
 home_dropped now s home = home_mapped (without_attempts now) (tells_dropped now) s.partitions home
 
 pub core_ticked : (now : ℕ) (s : Core) → AtHome s.partitions → CoreTells s (ticked now s).told (ticked now s).after
-unfolding ticked
-core_ticked now s home = at_end s.ended
-  where
-    at_test : (b : Bool) → CoreTells s (if b then ticked_from now true (dropped now s) else ticked_from now false s).told (if b then ticked_from now true (dropped now s) else ticked_from now false s).after
-    at_test true =
-        let u = dropped now s in
-        core_then s u (at_each (passed (dropped now s).config now) (dropped now s)) (told_at_each (passed (dropped now s).config now) (dropped now s)) (core_dropped now s)
-        (core_at_each (passed (dropped now s).config now) (keeps_passed (dropped now s).config now) (tells_passed (dropped now s).config now) (dropped now s) (home_dropped now s home))
-    at_test false = core_at_each (passed s.config now) (keeps_passed s.config now) (tells_passed s.config now) s home
-
-    at_end : (b : Bool) → CoreTells s (if b then not_ticked s else ticked_now now s).told (if b then not_ticked s else ticked_now now s).after
-    at_end true = core_nothing s
-    at_end false = at_test (has_timed_out now s)
-
-abbrev end_step : Core → Bool → Step (Unit {0})
-end_step s b = if b then (record { after = s; told = []; answer = tt }) else record { after = end_of s; told = told_at_each given_up s; answer = tt }
+core_ticked now s home = at_ticked (λ (x : Ticks). CoreTells s x.told x.after) now s (record {
+  ended = core_nothing s;
+  timed_out = core_then s (dropped now s) (at_each (passed (dropped now s).config now) (dropped now s)) (told_at_each (passed (dropped now s).config now) (dropped now s)) (core_dropped now s)
+      (core_at_each (passed (dropped now s).config now) (keeps_passed (dropped now s).config now) (tells_passed (dropped now s).config now) (dropped now s) (home_dropped now s home));
+  on_time = core_at_each (passed s.config now) (keeps_passed s.config now) (tells_passed s.config now) s home;
+})
 
 pub core_ended : (s : Core) → AtHome s.partitions → CoreTells s (ended s).told (ended s).after
-unfolding ended
-core_ended s home = at_end s.ended
+core_ended s home = at_ended (λ (x : Step (Unit {0})). CoreTells s x.told x.after) s (core_nothing s) (record { count = k.count; each = k.each; requests = k.requests; correlation = k.correlation; there = k.there })
   where
     k : CoreTells s (told_at_each given_up s) (at_each given_up s)
     k = core_at_each given_up keeps_given_up tells_given_up s home
-
-    at_end : (b : Bool) → CoreTells s (end_step s b).told (end_step s b).after
-    at_end true = core_nothing s
-    at_end false = record { count = k.count; each = k.each; requests = k.requests; correlation = k.correlation; there = k.there }
 
 -- ---- a reply
 
@@ -399,20 +368,9 @@ tells_answering now k answers p t one = at_first (answers_for p answers)
     at_first [] = tells_nothing t
     at_first (a ∷ xs) = tells_answered now k t a one
 
-abbrev batches_step : ℕ → Request → Core → Answers → Bool → Replies
-batches_step now r s answers b = if b then batches_answered now r answers s else faulty Mismatch s
-
 -- of each partition at most one batch is in a request
 abbrev pub AreSingle : List Partition → Type 0
 AreSingle ts = (p k : ℕ) → attempt_count k (partition_at p ts).open_batches ≤ 1
-
-core_batches : (now : ℕ) (r : Request) (s : Core) (o : Option Answers) → AreSingle s.partitions → Distinct r.partitions → AtHome s.partitions → CoreTells s (batches_replied now r s o).told (batches_replied now r s o).after
-core_batches now r s None single distinct home = core_nothing s
-core_batches now r s (Some answers) single distinct home = at_test (answer_batches r.correlation r.partitions s.partitions answers)
-  where
-    at_test : (b : Bool) → CoreTells s (batches_step now r s answers b).told (batches_step now r s answers b).after
-    at_test true = core_at_these r.partitions (answering now r.correlation answers) (keeps_answering now r.correlation answers) s (λ p. tells_answering now r.correlation answers p (partition_at p s.partitions) (single p r.correlation)) distinct home
-    at_test false = core_nothing s
 
 part_under : (id : ℕ) (t : Partition) → Part t [] (under id t)
 unfolding untold
@@ -435,34 +393,19 @@ core_given id q s = record {
     at_place p t true = at_want t (wants_id s.config t)
     at_place p t false = part_same t
 
-core_id : (now : ℕ) (q : IdRequest) (x : InitProducerIdResponse) (s : Core) → CoreTells s (id_replied now q x s).told (id_replied now q x s).after
-core_id now q x s = at_valid (answers_id x)
+core_id : (now : ℕ) (q : IdRequest) (x : InitProducerIdResponse) (s : Core) → CoreTells s [] (id_answered now q x s)
+core_id now q x s = at_given (is_given x)
   where
     at_given : (b : Bool) → CoreTells s [] (if b then id_given (nat_abs x.producer_id) q s else id_refused now s)
     at_given true = core_given (nat_abs x.producer_id) q s
-    at_given false = record { count = refl; each = λ p h. part_same (partition_at p s.partitions); requests = λ P h. h; correlation = refl; there = tt }
-
-    at_valid : (b : Bool) → CoreTells s (if b then known (id_answered now q x s) [] else faulty Mismatch s).told (if b then known (id_answered now q x s) [] else faulty Mismatch s).after
-    at_valid true = at_given (is_given x)
-    at_valid false = core_nothing s
-
-abbrev reply_step : ℕ → Response → Core → Bool → Replies
-reply_step now response s b = if b then after_end s else replied_to now s (awaited response.correlation s) response.body
+    at_given false = core_alike s (id_refused now s) refl refl (λ P h. h)
 
 pub core_replied : (now : ℕ) (response : Response) (s : Core) → AreSingle s.partitions → AllByRecursion (λ r. Distinct r.partitions) s.requests → AtHome s.partitions
     → CoreTells s (replied now response s).told (replied now response s).after
-unfolding replied
-core_replied now response s single distinct home = at_end s.ended
-  where
-    at_body : (who : Awaited) → awaited response.correlation s ≡ who → (body : ResponseBody) → CoreTells s (replied_to now s who body).told (replied_to now s who body).after
-    at_body Nothing is body = core_nothing s
-    at_body (Batches r) is (Produce x) = core_batches now r s (answers_of s.names.topic x.topics) single (awaited_batches (λ r. Distinct r.partitions) response.correlation s r is distinct) home
-    at_body (Batches r) is (Metadata x) = core_nothing s
-    at_body (Batches r) is (InitProducerId x) = core_nothing s
-    at_body (Id q) is (Produce x) = core_nothing s
-    at_body (Id q) is (Metadata x) = core_nothing s
-    at_body (Id q) is (InitProducerId x) = core_id now q x s
-
-    at_end : (b : Bool) → CoreTells s (reply_step now response s b).told (reply_step now response s b).after
-    at_end true = core_nothing s
-    at_end false = at_body (awaited response.correlation s) refl response.body
+core_replied now response s single distinct home = at_replied (λ (x : Replies). CoreTells s x.told x.after) now response s (record {
+  same = λ answer. core_nothing s;
+  batches = λ r produce answers it is topic valid.
+      core_at_these r.partitions (answering now r.correlation answers) (keeps_answering now r.correlation answers) s (λ p. tells_answering now r.correlation answers p (partition_at p s.partitions) (single p r.correlation))
+      (awaited_batches (λ r. Distinct r.partitions) response.correlation s r it distinct) home;
+  id = λ r x it is valid. core_id now r x s;
+})
