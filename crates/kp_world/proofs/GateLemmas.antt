@@ -13,16 +13,37 @@ use Rattle.kp_core.specs.Records.{Core, Told}
 use Rattle.kp_core.specs.Requesting.{Outgoing, requested}
 use Rattle.kp_world.specs.declared.event.Event.{Event}
 use Rattle.kp_world.specs.declared.event.Event.TheVariants as event
-use Rattle.kp_world.specs.Accepting.{taking_of, taking}
-use Rattle.kp_world.specs.Client.{client, handed_with, sending, closing}
+use Rattle.kp_world.specs.Accepting.{with_taken, taking_of, taking}
+use Rattle.kp_world.specs.Client.{client, handed_with, with_packet, sent_line, sending, closing}
 use Rattle.kp_world.specs.Delivering.{log_at, Delivery, PartsDeliver, Delivers}
-use Rattle.kp_world.specs.Line.{Line}
+use Rattle.kp_world.specs.Line.{Line, Full, Idle, Ended}
 use Rattle.kp_world.specs.Loopback.{other_record}
 use Rattle.kp_world.specs.Noting.{noted}
 use Rattle.kp_world.specs.Run.{with_delivery, Steps, Run}
 use Rattle.kp_world.specs.World.{PartAnswer, World}
 use Rattle.kp_world.proofs.GoodLemmas.{length-with_sendings}
 use Rattle.kp_world.proofs.EventLemmas.{OfEvent, at_step, at_run}
+
+-- ---- what holds of each case of these events holds of them
+
+pub at_sent : (P : World → Type 0) (w : World) (core : Core) (answer : Result (Option Outgoing) CoreFault) → ((line : Line) → P (noted core (line ∷ []) [] w))
+    → ((o : Outgoing) (line : Line) → P (noted core (line ∷ []) [] (with_packet o w))) → P (sending w core answer)
+at_sent P w core (Ok (Some o)) none out = out o (sent_line (length w.packets) o.demand)
+at_sent P w core (Ok None) none out = none Idle
+at_sent P w core (Err fault.Ended) none out = none Ended
+at_sent P w core (Err fault.OutOfMemory) none out = none Idle
+at_sent P w core (Err fault.CorrelationSpent) none out = none Idle
+at_sent P w core (Err (fault.ReplyFault x)) none out = none Idle
+
+pub at_taken : (P : World → Type 0) (s : ℕ) (i : Item) (w : World) → (let step = appended i w.core in P (noted step.after [] step.told (with_taken s w)))
+    → (let step = appended i w.core in P (noted step.after (Full s ∷ []) step.told w)) → P (taking s (Some i) w)
+at_taken P s i w joined full = at_answer (appended i w.core).answer
+  where
+    at_answer : (x : Result (Unit {0}) AppendFault) → P (taking_of s (appended i w.core).after (appended i w.core).told x w)
+    at_answer (Ok done) = joined
+    at_answer (Err refusal) = full
+
+-- ---- what follows a world
 
 pub record Follows (w v : World) : Type 0 where
   pub count : length v.handed ≡ length w.handed
@@ -39,26 +60,13 @@ follows_noted core answer told w = record { count = refl; logs = refl; shut = λ
 
 -- ---- the events
 
-follows_taken : (s : ℕ) (i : Item) (w : World) → Follows w (taking s (Some i) w)
-unfolding noted
-follows_taken s i w = at_answer (appended i w.core).answer
-  where
-    at_answer : (x : Result (Unit {0}) AppendFault) → Follows w (taking_of s (appended i w.core).after (appended i w.core).told x w)
-    at_answer (Ok done) = record { count = refl; logs = refl; shut = λ h. h; accepted = λ h. refl }
-    at_answer (Err refusal) = follows_noted _ _ _ w
-
 follows_sending : (w : World) (core : Core) (answer : Result (Option Outgoing) CoreFault) → Follows w (sending w core answer)
 unfolding noted
-follows_sending w core (Ok (Some o)) = record { count = counted o.demand; logs = refl; shut = λ h. h; accepted = λ h. refl }
+follows_sending w core answer = at_sent (Follows w) w core answer (λ line. follows_noted _ _ _ w) (λ o line. record { count = counted o.demand; logs = refl; shut = λ h. h; accepted = λ h. refl })
   where
     counted : (d : Demand) → length (handed_with d w.handed) ≡ length w.handed
     counted (Produce xs) = length-with_sendings xs w.handed
     counted (InitProducerId p) = refl
-follows_sending w core (Ok None) = follows_noted _ _ _ w
-follows_sending w core (Err fault.Ended) = follows_noted _ _ _ w
-follows_sending w core (Err fault.OutOfMemory) = follows_noted _ _ _ w
-follows_sending w core (Err fault.CorrelationSpent) = follows_noted _ _ _ w
-follows_sending w core (Err (fault.ReplyFault x)) = follows_noted _ _ _ w
 
 parts_count : (before : List History) (xs : List Sending) (answers : List PartAnswer) (after : List History) → PartsDeliver before xs answers after → length after ≡ length before
 unfolding PartsDeliver
@@ -78,7 +86,7 @@ follows_event w = record {
   not_accepted = λ s p. (follows_noted _ _ _ w, follows_noted _ _ _ w);
   accepted = λ s p value here there shut small. record { count = refl; logs = refl; shut = λ h. h; accepted = λ h. absurd cc };
   none_taken = λ s. follows_noted _ _ _ w;
-  taken = λ s i here there. follows_taken s i w;
+  taken = λ s i here there. at_taken (Follows w) s i w (record { count = refl; logs = refl; shut = λ h. h; accepted = λ h. refl }) (follows_noted _ _ _ w);
   now = λ moment. record { count = refl; logs = refl; shut = λ h. h; accepted = λ h. refl };
   tick = follows_noted _ _ _ w;
   send = let step = requested w.moment w.core in follows_sending w step.after step.answer;

@@ -44,7 +44,6 @@ pub mod LawfulLemmas
 pub mod HearingLemmas
 pub mod RunLemmas
 pub mod LogLawLemmas
-pub mod ItemLemmas
 pub mod DeliveredLemmas
 pub mod TruthLemmas
 pub mod StandingLemmas
