@@ -129,7 +129,8 @@ all_given_up P why t f g = all_append P (told_all Unknown (items_open t.open_bat
     (all_told P (Unsent why) (items_queued t.queue)
     (queued_items (λ (i : Item). P (record { item = i; outcome = Unsent why })) t g))
 
-all_places : (P : Told → Type 0) (g : Partition → List Told) (ts : List Partition)
+-- at the places of the partitions
+pub all_places : (P : Told → Type 0) (g : Partition → List Told) (ts : List Partition)
     → ((p : ℕ) → AllByRecursion P (g (partition_at p ts))) → AllByRecursion P (flat_map g ts)
 all_places P g [] f = tt
 all_places P g (t ∷ ts) f =
@@ -278,27 +279,29 @@ at_tick now s = at_ticked (λ (x : Ticks). AllByRecursion (MayBeTold s (Tick now
 
 -- ---- a reply
 
-named : (k : ℤ) (s : Core) (r : Request) → awaited k s ≡ Batches r → pos r.correlation ≡ k
+-- a request that is awaited is in flight
+pub in_flight : (k : ℤ) (s : Core) (r : Request) → awaited k s ≡ Batches r
+    → Contains s.requests r × (pos r.correlation ≡ k)
 unfolding awaited
-named k s r e = at_request (find (λ (q : Request). int_eq (pos q.correlation) k) s.requests) refl e
+in_flight k s r e = at_request (find (λ (q : Request). int_eq (pos q.correlation) k) s.requests) refl e
   where
-    at_test : (q : IdRequest) (b : Bool) → (if b then Id q else Nothing) ≡ Batches r → pos r.correlation ≡ k
+    at_test : (q : IdRequest) (b : Bool) → (if b then Id q else Nothing) ≡ Batches r → ⊥
     at_test q true e' = absurd cc
     at_test q false e' = absurd cc
 
-    at_option : (o : Option IdRequest) → id_awaited k o ≡ Batches r → pos r.correlation ≡ k
+    at_option : (o : Option IdRequest) → id_awaited k o ≡ Batches r → ⊥
     at_option None e' = absurd cc
     at_option (Some q) e' = at_test q (int_eq (pos q.correlation) k) e'
 
     at_request : (o : Option Request)
         → find (λ (q : Request). int_eq (pos q.correlation) k) s.requests ≡ o → or_id k s o
-        ≡ Batches r → pos r.correlation ≡ k
+        ≡ Batches r → Contains s.requests r × (pos r.correlation ≡ k)
     at_request (Some q) is e' =
         let same : q ≡ r = cc in
-        let test : int_eq (pos q.correlation) k
-        ≡ true = (found (λ (q : Request). int_eq (pos q.correlation) k) s.requests q is).1 in
-        subst (λ (x : Request). pos x.correlation ≡ k) same ((Decides-int_eq (pos q.correlation) k).0 test)
-    at_request None is e' = at_option s.id_request e'
+        let here = found (λ (x : Request). int_eq (pos x.correlation) k) s.requests q is in
+        subst (λ (x : Request). Contains s.requests x × (pos x.correlation ≡ k)) same
+        (here.0, (Decides-int_eq (pos q.correlation) k).0 here.1)
+    at_request None is e' = absurd (at_option s.id_request e')
 
 open_without : (k : ℕ) (t : Partition) (i : Item) → IsOpenIn (without_attempt k t) i → IsOpenIn t i
 open_without k t i h = record {
@@ -385,12 +388,34 @@ at_answered now k p s response a f = at_option (awaiting k (partition_at p s.par
     at_option None is = tt
     at_option (Some o) is = at_settled now k p s response o a (f o is) (verdict_of a.error_code) refl
 
+-- an answer to a request answers the partition's batch that is in flight in it
+pub answered_so : (s : Core) (response : Response) (r : Request) (produce : ProduceResponse) (answers : Answers)
+    → awaited response.correlation s ≡ Batches r → response.body ≡ body.Produce produce
+    → answers_of s.names.topic produce.topics ≡ Some answers
+    → (p : ℕ) (a : PartitionProduceResponse) (rest : Answers) → answers_for p answers ≡ a ∷ rest
+    → (o : Open) → awaiting r.correlation (partition_at p s.partitions) ≡ Some o → IsAnswered s response p o a
+answered_so s response r produce answers it is topic p a rest e o h =
+    let here = found (awaits r.correlation) (partition_at p s.partitions).open_batches o h in
+    let first = first_filtered (is_for p) answers a rest e in
+    record {
+      is_open = here.0;
+      correlation = r.correlation;
+      named = (in_flight response.correlation s r it).1;
+      in_flight = here.1;
+      produce = produce;
+      body_is = is;
+      answers = answers;
+      topic = topic;
+      has = first.0;
+      partition = (Decides-int_eq a.partition (pos p)).0 first.1;
+    }
+
 at_batches : (now : ℕ) (s : Core) (response : Response) (r : Request) (produce : ProduceResponse) (answers : Answers)
-    → pos r.correlation ≡ response.correlation → response.body ≡ body.Produce produce
+    → awaited response.correlation s ≡ Batches r → response.body ≡ body.Produce produce
     → answers_of s.names.topic produce.topics ≡ Some answers
     → AllByRecursion (MayBeTold s (Reply now response)) (batches_answered now r answers s).told
 unfolding told_at
-at_batches now s response r produce answers name is e =
+at_batches now s response r produce answers it is topic =
     all_flat_map (MayBeTold s (Reply now response))
     (λ p. (answering now r.correlation answers p (partition_at p s.partitions)).told)
     r.partitions (λ p c. at_answers p (answers_for p answers) refl)
@@ -398,32 +423,15 @@ at_batches now s response r produce answers name is e =
     at_answers : (p : ℕ) (xs : Answers) → answers_for p answers ≡ xs
         → AllByRecursion (MayBeTold s (Reply now response))
         (first_answered now r.correlation (partition_at p s.partitions) xs).told
-    at_answers p [] e' = tt
-    at_answers p (a ∷ rest) e' = at_answered now r.correlation p s response a told
-      where
-        told : (o : Open) → awaiting r.correlation (partition_at p s.partitions) ≡ Some o
-            → IsAnswered s response p o a
-        told o h =
-            let here = found (awaits r.correlation) (partition_at p s.partitions).open_batches o h in
-            let first = first_filtered (is_for p) answers a rest e' in
-            record {
-              is_open = here.0;
-              correlation = r.correlation;
-              named = name;
-              in_flight = here.1;
-              produce = produce;
-              body_is = is;
-              answers = answers;
-              topic = e;
-              has = first.0;
-              partition = (Decides-int_eq a.partition (pos p)).0 first.1;
-            }
+    at_answers p [] e = tt
+    at_answers p (a ∷ rest) e = at_answered now r.correlation p s response a
+        (answered_so s response r produce answers it is topic p a rest e)
 
 at_reply : (now : ℕ) (response : Response) (s : Core)
     → AllByRecursion (MayBeTold s (Reply now response)) (replied now response s).told
 at_reply now response s = at_replied (λ (x : Replies). AllByRecursion (MayBeTold s (Reply now response)) x.told) now response s (record {
   same = λ answer. tt;
-  batches = λ r produce answers it is topic valid. at_batches now s response r produce answers (named response.correlation s r it) is topic;
+  batches = λ r produce answers it is topic valid. at_batches now s response r produce answers it is topic;
   id = λ r x it is valid. tt;
 })
 

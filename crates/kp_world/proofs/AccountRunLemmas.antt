@@ -1,11 +1,11 @@
 -- Every world that is reached is accounted for.
-use Rattle.std.proofs.Common.{◌≡◌, ℕ, zero, suc, ◌+◌, ◌<◌, ◌≤◌, true, List, [], ◌∷◌, ◌++◌, length, get_or, take, replicate, Some, refl, sym, ap, ◌∙◌, subst, arith}
-use Rattle.std.specs.Prelude.{flat_map, slice_get, slice_index, slice_index_or}
+use Rattle.std.proofs.Common.{◌≡◌, Bool, false, ℕ, zero, suc, ◌+◌, ◌<◌, ◌≤◌, true, List, [], ◌∷◌, ◌++◌, length, get_or, take, replicate, Some, refl, sym, ap, ◌∙◌, subst, arith}
+use Rattle.std.specs.Prelude.{if◌then◌else◌, flat_map, slice_get, slice_index, slice_index_or}
 use Rattle.std.specs.List.{AllByRecursion, range_with_len}
 use Rattle.std.proofs.lemmas.List.{length-replicate, get_or-replicate}
 use Rattle.kp_accum.specs.declared.config.Config.{Config}
 use Rattle.kp_accum.specs.declared.item.Item.{Item}
-use Rattle.kp_log.proofs.PlaceLemmas.{In-nil}
+use Rattle.kp_log.proofs.PlaceLemmas.{In, In-head, In-tail}
 use Rattle.kp_core.specs.declared.outcome.Reason.{Reason}
 use Rattle.kp_core.specs.declared.outcome.Reason.TheVariants.{Fenced, Ended}
 use Rattle.kp_core.specs.Appending.{Appends, in_queue, turned_away, refused}
@@ -13,7 +13,7 @@ use Rattle.kp_core.specs.Fence.{ended}
 use Rattle.kp_core.specs.Flush.{flushed}
 use Rattle.kp_core.specs.Opening.{new_core}
 use Rattle.kp_core.specs.Partitions.{partition_at, new_partition, items_queued, untold}
-use Rattle.kp_core.specs.Records.{Batch, Partition}
+use Rattle.kp_core.specs.Records.{Batch, Open, Partition}
 use Rattle.kp_core.specs.Requesting.{Outgoing}
 use Rattle.kp_core.specs.Replies.{replied}
 use Rattle.kp_core.specs.Tick.{ticked, disconnected, closed}
@@ -21,22 +21,30 @@ use Rattle.kp_world.specs.declared.event.Event.{Event}
 use Rattle.kp_world.specs.Accepting.{for_partition, item_for, accepted_by, with_accepted, with_taken, taken_by, taking_of, taking}
 use Rattle.kp_world.specs.Accounts.{of_sender, told_in}
 use Rattle.kp_world.specs.Client.{handed_at, reply_line, flush_line}
-use Rattle.kp_world.specs.Delivering.{Delivery}
+use Rattle.kp_world.specs.Delivering.{Delivery, log_at}
 use Rattle.kp_world.specs.Line.{Closed, Large, Empty, Full}
 use Rattle.kp_world.specs.Loopback.{logs_with_others}
 use Rattle.kp_world.specs.Message.{response_of}
-use Rattle.kp_world.specs.Run.{answer_line, with_delivery, Steps, Run}
-use Rattle.kp_world.specs.World.{World, FIRST_ID, FIRST_CORRELATION, opening}
+use Rattle.kp_world.specs.Run.{answer_line, with_delivery, Steps, MayBegin, IsReached}
+use Rattle.kp_world.specs.World.{Reply, World, FIRST_ID, opening}
 use Rattle.kp_core.proofs.CallLemmas.{at_appended}
 use Rattle.kp_world.proofs.EventLemmas.{OfEvent, at_step, at_run}
-use Rattle.kp_world.proofs.AccountLemmas.{items_of, taken_of, Accepts, Holds, IsAccounted, accounts_only, accounts_noted, accounts_call}
+use Rattle.kp_world.proofs.AccountLemmas.{items_of, taken_of, Accepts, IsAccounted, accounts_only, accounts_noted, accounts_call}
 use Rattle.kp_world.proofs.ConservationLemmas.{attempt_count}
 use Rattle.kp_world.proofs.FateLemmas.{Fates}
-use Rattle.kp_world.proofs.GateLemmas.{follows_step}
+use Rattle.kp_core.specs.declared.attempt.Attempt.TheVariants.{InFlight}
+use Rattle.kp_core.specs.Attempts.{awaits}
+use Rattle.kp_world.proofs.DeliveredLemmas.{heard}
+use Rattle.kp_world.proofs.FlightLemmas.{flies_same}
+use Rattle.kp_world.proofs.HearingLemmas.{answered_batch, same_correlation}
+use Rattle.kp_world.proofs.LawfulLemmas.{IsLawful}
+use Rattle.kp_world.proofs.LeavingLemmas.{Rising, awaits_is}
+use Rattle.kp_world.proofs.RunLemmas.{lawful_step, lawful_opening, within_five}
+use Rattle.kp_world.proofs.ListLemmas.{all_at, in_at}
 use Rattle.kp_world.proofs.WeightLemmas.{weigh}
 use Rattle.kp_world.proofs.HandingLemmas.{accounts_sending}
 use Rattle.kp_world.proofs.TakingLemmas.{NextOf, next_of, accounts_accepted, accounts_turned_away, accounts_queued}
-use Rattle.kp_world.proofs.TellingLemmas.{core_nothing, core_ticked, core_ended, core_flushed, core_disconnected, core_closed, core_replied, home_past}
+use Rattle.kp_world.proofs.TellingLemmas.{IsSingle, core_alike, core_ticked, core_ended, core_flushed, core_disconnected, core_closed, core_replied, home_past}
 
 -- ---- the producer's events
 
@@ -47,7 +55,7 @@ accounts_taken : (s : ℕ) (i : Item) (w : World) → s < length w.accepted → 
 accounts_taken s i w l e a = at_appended (λ (step : Appends). IsAccounted (taken_in s w step)) i w.core (record {
   past_end = λ ended. turned Ended;
   by_fence = λ ended fenced. turned Fenced;
-  full = accounts_call (refused w.core).after (Full s ∷ []) [] w a (record { count = refl; each = (core_nothing w.core).each; requests = λ P h. h; correlation = refl; there = tt });
+  full = accounts_call (refused w.core).after (Full s ∷ []) [] w a (core_alike w.core (refused w.core).after refl (λ P h. h));
   room = λ ended fenced fits. accounts_only (in_queue i w.core) [] (with_taken s w) (accounts_queued w.core w.accepted w.taken w.handed (told_in w.past) s i a within next);
 })
   where
@@ -59,27 +67,53 @@ accounts_taken s i w l e a = at_appended (λ (step : Appends). IsAccounted (take
 
     turned : (why : Reason) → IsAccounted (taken_in s w (turned_away why i w.core))
     turned why = accounts_noted (turned_away why i w.core).after [] (turned_away why i w.core).told (with_taken s w)
-        (accounts_turned_away why w.core (turned_away why i w.core).after w.accepted w.taken w.handed (told_in w.past) s i a within next refl refl refl)
+        (accounts_turned_away why w.core (turned_away why i w.core).after w.accepted w.taken w.handed (told_in w.past) s i a within next refl refl)
 
-single_past : (k : ℕ) (ts : List Partition) (p : ℕ) → (p < length ts → attempt_count k (partition_at p ts).open_batches ≤ 1) → attempt_count k (partition_at p ts).open_batches ≤ 1
-single_past k [] p h = omega arith
-single_past k (t ∷ ts) zero h = h (omega arith)
-single_past k (t ∷ ts) (suc p) h = single_past k ts p (λ l. h (omega (arith, l)))
+-- batches of which those in flight in this request are one
+single : (k : ℕ) (os : List Open) → Rising os → ((o x : Open) → In o os → In x os → o.attempt ≡ InFlight k → x.attempt ≡ InFlight k → o.batch ≡ x.batch) → attempt_count k os ≤ 1
+single k [] rises one = omega arith
+single k (o ∷ os) rises one = at_test (awaits k o) refl (single k os rises.1 (λ x y i j. one x y (In-tail x o os i) (In-tail y o os j)))
+  where
+    none : awaits k o ≡ true → (xs : List Open) → ((x : Open) → In x xs → In x os) → attempt_count k xs ≡ 0
+    none is [] inside = refl
+    none is (x ∷ xs) inside = at_other (awaits k x) refl (none is xs (λ y i. inside y (In-tail y x xs i)))
+      where
+        at_other : (b : Bool) → awaits k x ≡ b → attempt_count k xs ≡ 0 → (if b then 1 else 0) + attempt_count k xs ≡ 0
+        at_other false other rest = omega (arith, rest)
+        at_other true other rest =
+            let i = inside x (In-head x xs) in
+            let same : o.batch.number ≡ x.batch.number = ap (λ (b : Batch). b.number) (one o x (In-head o os) (In-tail x o os i) (awaits_is k o is) (awaits_is k x other)) in
+            let above : o.batch.number < x.batch.number = all_at (λ (y : Open). o.batch.number < y.batch.number) os x rises.0 i in
+            absurd (omega (arith, same, above))
 
-accounts_event : (w : World) → length w.logs ≡ length w.handed → IsAccounted w → OfEvent IsAccounted w
-accounts_event w sized a = record {
+    at_test : (b : Bool) → awaits k o ≡ b → attempt_count k os ≤ 1 → (if b then 1 else 0) + attempt_count k os ≤ 1
+    at_test true is rest = let zero_left : attempt_count k os ≡ 0 = none is os (λ x i. i) in omega (arith, zero_left)
+    at_test false is rest = omega (arith, rest)
+
+-- a reply that was given answers one batch of a partition
+is_single : (n : ℕ) (w : World) (r : Reply) → IsLawful n w → In r w.replies → IsSingle w.core (response_of r)
+is_single n w r g given p k o a x named =
+    let h = heard n w r p o a g x in
+    let steady = (g.agree p h.within).steady in
+    let its : k ≡ r.correlation = same_correlation k r.correlation named in
+    single k (partition_at p w.core.partitions).open_batches steady.rising (λ y z i j f e.
+    let first = answered_batch p w.core.correlation k w.core.ended (partition_at p w.core.partitions) (handed_at p w.handed) (log_at p w.logs) w.packets w.replies r h.parts h.part steady given h.content its h.known h.place y i f in
+    sym first.1 ∙ flies_same p w.core.correlation r.correlation w.packets z.batch first.0.batch ((steady.aloft z j).flies r.correlation (e ∙ ap InFlight its)) first.0.carried)
+
+accounts_event : (n : ℕ) (w : World) → IsLawful n w → IsAccounted w → OfEvent IsAccounted w
+accounts_event n w g a = record {
   not_accepted = λ s p. (accounts_only w.core (Closed s p ∷ []) w a, accounts_only w.core (Large s p ∷ []) w a);
   accepted = λ s p value here there shut small.
       accounts_only w.core [] (with_accepted (item_for s p value w) w)
-      (accounts_accepted w.core w.accepted w.taken w.handed (told_in w.past) (item_for s p value w) a here (subst (λ (n : ℕ). p < n) (sized ∙ a.handed_count) there) refl);
+      (accounts_accepted w.core w.accepted w.taken w.handed (told_in w.past) (item_for s p value w) a here (subst (λ (m : ℕ). p < m) (g.logs_count ∙ sym g.count) there) refl);
   none_taken = λ s. accounts_only w.core (Empty s ∷ []) w a;
   taken = λ s i here there. accounts_taken s i w here there a;
   now = λ moment. accounts_only w.core [] (record w { moment = moment }) a;
   tick = accounts_call (ticked w.moment w.core).after _ (ticked w.moment w.core).told w a (core_ticked w.moment w.core a.home);
-  send = accounts_sending w a;
+  send = accounts_sending n w g a;
   reply = λ j r there.
       let step = replied w.moment (response_of r) w.core in
-      accounts_call step.after (reply_line j step.answer) step.told w a (core_replied w.moment (response_of r) w.core (λ p k. single_past k w.core.partitions p (λ l. (a.each p l).single k)) a.requests a.home);
+      accounts_call step.after (reply_line j step.answer) step.told w a (core_replied w.moment (response_of r) w.core (is_single n w r g (in_at w.replies j r there)) a.requests a.home);
   lost = accounts_call (disconnected w.moment w.core) [] [] w a (core_disconnected w.moment w.core);
   close = accounts_call (closed w.core) [] [] (record w { is_shut = true }) a (core_closed w.core);
   end = accounts_call (ended w.core).after [] (ended w.core).told w a (core_ended w.core a.home);
@@ -91,21 +125,13 @@ accounts_event w sized a = record {
 abbrev delivered_to : Outgoing → Delivery → World → World
 delivered_to o d w = record w { logs = d.logs; ids = d.ids; replies = w.replies ++ (record { correlation = o.correlation; content = d.content }) ∷ [] }
 
-pub accounts_step : (e : Event) (w v : World) → Steps w e v → length w.logs ≡ length w.handed → IsAccounted w → IsAccounted v
+accounts_step : (n : ℕ) (w : World) → IsLawful n w → IsAccounted w → (e : Event) (v : World) → Steps w e v → IsAccounted v
 unfolding with_delivery
-accounts_step e w v s sized a = at_step IsAccounted w (record {
-  client = accounts_event w sized a;
+accounts_step n w g a e v s = at_step IsAccounted w (record {
+  client = accounts_event n w g a;
   arrives = λ k o d went honest. accounts_only w.core (answer_line (length w.replies) d.content ∷ []) (delivered_to o d w) a;
-  others = λ p n there. accounts_only w.core [] (record w { logs = logs_with_others p n w.logs }) a;
+  others = λ p m there. accounts_only w.core [] (record w { logs = logs_with_others p m w.logs }) a;
 }) e v s
-
--- a log for each partition, and what was taken is accounted for
-abbrev IsAccountedWithLogs : World → Type 0
-IsAccountedWithLogs w = (length w.logs ≡ length w.handed) × IsAccounted w
-
-pub accounts_run : (es : List Event) (w v : World) → Run w es v → length w.logs ≡ length w.handed → IsAccounted w → IsAccounted v
-accounts_run es w v r sized a =
-    (at_run IsAccountedWithLogs (λ x h e y s. let f = follows_step e x y s in (f.logs ∙ h.0 ∙ sym f.count, accounts_step e x y s h.0 h.1)) es w v r (sized, a)).1
 
 -- ---- from the opening world
 
@@ -131,13 +157,12 @@ none_taken f senders a (suc m) =
 fates_none : Fates [] [] [] []
 fates_none = record { kept = refl; known = tt; numbered = tt }
 
-pub accounts_opening : (c : Config) (partitions senders : ℕ) → IsAccounted (opening c partitions senders)
+accounts_opening : (c : Config) (partitions senders : ℕ) → IsAccounted (opening c partitions senders)
 unfolding opening new_core untold
 accounts_opening c partitions senders = record {
   taken_count = length-replicate senders 0 ∙ sym (length-replicate {A = List Item} senders []);
   handed_count = length-replicate {A = List Batch} partitions [] ∙ sym (length-replicate partitions (new_partition FIRST_ID));
   senders = λ s. subst (λ (items : List Item). Accepts (length (replicate partitions (new_partition FIRST_ID))) s items (slice_index (replicate senders 0) s)) (sym (all_alike {A = List Item} senders s [])) (subst (Accepts (length (replicate partitions (new_partition FIRST_ID))) s []) (sym (all_alike senders s 0)) (accepts_none (length (replicate partitions (new_partition FIRST_ID))) s));
-  each = λ p l. subst (λ (t : Partition). Holds FIRST_CORRELATION t (handed_at p (replicate partitions []))) (sym (at p l)) (subst (Holds FIRST_CORRELATION (new_partition FIRST_ID)) (sym (all_alike {A = List Batch} partitions p [])) (record { number = refl; below = λ b i. absurd (In-nil b i); opens = tt; single = λ k. omega arith; fresh = λ k l. refl }));
   home = home_past (replicate partitions (new_partition FIRST_ID)) (λ p l. subst (λ (t : Partition). AllByRecursion (λ i. i.partition ≡ p) (untold t)) (sym (at p l)) tt);
   requests = tt;
   fates = λ s p l.
@@ -152,3 +177,18 @@ accounts_opening c partitions senders = record {
   where
     at : (p : ℕ) → p < length (replicate partitions (new_partition FIRST_ID)) → partition_at p (replicate partitions (new_partition FIRST_ID)) ≡ new_partition FIRST_ID
     at p l = get_or-replicate partitions p (new_partition FIRST_ID) (new_partition 0) (subst (λ (n : ℕ). p < n) (length-replicate partitions (new_partition FIRST_ID)) l)
+
+-- ---- every world that a schedule leads to
+
+-- It is lawful, and what was taken is accounted for.
+abbrev pub IsInOrder : ℕ → World → Type 0
+IsInOrder n w = IsLawful n w × IsAccounted w
+
+pub order_step : (n : ℕ) (w : World) → IsInOrder n w → (e : Event) (v : World) → Steps w e v → IsInOrder n v
+order_step n w h e v s = (lawful_step n e w v s h.0, accounts_step n w h.0 h.1 e v s)
+
+pub order_opening : (c : Config) (partitions senders : ℕ) → MayBegin c partitions senders → IsInOrder partitions (opening c partitions senders)
+order_opening c partitions senders may = (lawful_opening c partitions senders (within_five c may.config), accounts_opening c partitions senders)
+
+pub order_reached : (c : Config) (partitions senders : ℕ) (es : List Event) (w : World) → IsReached c partitions senders es w → IsInOrder partitions w
+order_reached c partitions senders es w r = at_run (IsInOrder partitions) (order_step partitions) es (opening c partitions senders) w r.run (order_opening c partitions senders r.may_begin)

@@ -30,7 +30,6 @@ use Rattle.kp_world.specs.Message.{sent_of, part_response, body_of_reply, respon
 use Rattle.kp_world.specs.World.{PartAnswer, ReplyContent, Batches as Parts, Id as GivenId, Reply, World, names}
 use Rattle.kp_world.proofs.AccountLemmas.{items_of, IsAccounted}
 use Rattle.kp_world.proofs.AccountedLemmas.{handed_home}
-use Rattle.kp_world.proofs.BrokerLemmas.{Agrees}
 use Rattle.kp_world.proofs.HearingLemmas.{stored_code, duplicate_code, from_map, answered_batch, old_not_in_flight, same_correlation}
 use Rattle.kp_world.proofs.LawfulLemmas.{IsLawful}
 use Rattle.kp_world.proofs.LeavingLemmas.{awaits_is}
@@ -105,7 +104,7 @@ open_there (t ∷ ts) zero o i = omega arith
 open_there (t ∷ ts) (suc p) o i = omega (arith, open_there ts p o i)
 
 -- the answer is a part of the reply that was given, and the batch is in flight in its request
-record Heard (n : ℕ) (w : World) (r : Reply) (p : ℕ) (o : Open) (answer : PartitionProduceResponse) : Type 0 where
+pub record Heard (n : ℕ) (w : World) (r : Reply) (p : ℕ) (o : Open) (answer : PartitionProduceResponse) : Type 0 where
   pub within : p < n
   pub there : In o (partition_at p w.core.partitions).open_batches
   pub flies : o.attempt ≡ InFlight r.correlation
@@ -116,7 +115,7 @@ record Heard (n : ℕ) (w : World) (r : Reply) (p : ℕ) (o : Open) (answer : Pa
   pub place : part.partition ≡ p
   pub answer_is : answer ≡ part_response part
 
-heard : (n : ℕ) (w : World) (r : Reply) (p : ℕ) (o : Open) (answer : PartitionProduceResponse) → IsLawful n w → IsAnswered w.core (response_of r) p o answer → Heard n w r p o answer
+pub heard : (n : ℕ) (w : World) (r : Reply) (p : ℕ) (o : Open) (answer : PartitionProduceResponse) → IsLawful n w → IsAnswered w.core (response_of r) p o answer → Heard n w r p o answer
 heard n w r p o answer g x = at_content r.content refl x.body_is
   where
     there : In o (partition_at p w.core.partitions).open_batches
@@ -153,7 +152,7 @@ delivered_at n w r i offset g a given d =
     let p = s.partition in
     let o = s.batch in
     let h = heard n w r p o s.answer g s.answered in
-    let both : Agrees n w.ids w.core w.handed w.logs w.packets w.replies p = g.agree p h.within in
+    let both = g.agree p h.within in
     let x = answered_batch p w.core.correlation r.correlation w.core.ended (partition_at p w.core.partitions) (handed_at p w.handed) (log_at p w.logs) w.packets w.replies r h.parts h.part both.steady given h.content refl h.known h.place o h.there h.flies in
     let code = stored_code h.part.answer.code (sym (ap (λ (y : PartitionProduceResponse). verdict_of y.error_code) h.answer_is) ∙ s.means) in
     let known : In o.batch (handed_at p w.handed) = all_at (λ (y : Open). In y.batch (handed_at p w.handed)) (partition_at p w.core.partitions).open_batches o both.sound.opens h.there in

@@ -1,27 +1,21 @@
--- Once the gate is shut nothing is accepted; and there are ever as many partitions.
+-- Once the gate is shut nothing is accepted.
 use Rattle.std.proofs.Common.{◌≡◌, ℕ, true, List, [], ◌∷◌, length, Some, None, refl, sym, ap, ◌∙◌}
 use Rattle.std.specs.Prelude.{Option, Result, Ok, Err}
-use Rattle.std.proofs.lemmas.List.{length-set}
-use Rattle.kp_log.specs.History.{History, with_others}
 use Rattle.kp_accum.specs.declared.item.Item.{Item}
 use Rattle.kp_core.specs.declared.fault.CoreFault.{CoreFault}
 use Rattle.kp_core.specs.declared.fault.CoreFault.TheVariants as fault
 use Rattle.kp_accum.specs.declared.fault.AppendFault.{AppendFault}
 use Rattle.kp_core.specs.Appending.{appended}
-use Rattle.kp_core.specs.Next.{Sending, Demand, Produce, InitProducerId}
 use Rattle.kp_core.specs.Records.{Core, Told}
 use Rattle.kp_core.specs.Requesting.{Outgoing, requested}
 use Rattle.kp_world.specs.declared.event.Event.{Event}
 use Rattle.kp_world.specs.declared.event.Event.TheVariants as event
 use Rattle.kp_world.specs.Accepting.{with_taken, taking_of, taking}
-use Rattle.kp_world.specs.Client.{client, handed_with, with_packet, sent_line, sending, closing}
-use Rattle.kp_world.specs.Delivering.{log_at, Delivery, PartsDeliver, Delivers}
+use Rattle.kp_world.specs.Client.{client, with_packet, sent_line, sending, closing}
 use Rattle.kp_world.specs.Line.{Line, Full, Idle, Ended}
-use Rattle.kp_world.specs.Loopback.{other_record}
 use Rattle.kp_world.specs.Noting.{noted}
 use Rattle.kp_world.specs.Run.{with_delivery, Steps, Run}
-use Rattle.kp_world.specs.World.{PartAnswer, World}
-use Rattle.kp_world.proofs.GoodLemmas.{length-with_sendings}
+use Rattle.kp_world.specs.World.{World}
 use Rattle.kp_world.proofs.EventLemmas.{OfEvent, at_step, at_run}
 
 -- ---- what holds of each case of these events holds of them
@@ -46,53 +40,31 @@ at_taken P s i w joined full = at_answer (appended i w.core).answer
 -- ---- what follows a world
 
 pub record Follows (w v : World) : Type 0 where
-  pub count : length v.handed ≡ length w.handed
-  pub logs : length v.logs ≡ length w.logs
   pub shut : w.is_shut ≡ true → v.is_shut ≡ true
   pub accepted : w.is_shut ≡ true → v.accepted ≡ w.accepted
 
 same : (w : World) → Follows w w
-same w = record { count = refl; logs = refl; shut = λ h. h; accepted = λ h. refl }
+same w = record { shut = λ h. h; accepted = λ h. refl }
 
 follows_noted : (core : Core) (answer : List Line) (told : List Told) (w : World) → Follows w (noted core answer told w)
 unfolding noted
-follows_noted core answer told w = record { count = refl; logs = refl; shut = λ h. h; accepted = λ h. refl }
+follows_noted core answer told w = record { shut = λ h. h; accepted = λ h. refl }
 
 -- ---- the events
-
-follows_sending : (w : World) (core : Core) (answer : Result (Option Outgoing) CoreFault) → Follows w (sending w core answer)
-unfolding noted
-follows_sending w core answer = at_sent (Follows w) w core answer (λ line. follows_noted _ _ _ w) (λ o line. record { count = counted o.demand; logs = refl; shut = λ h. h; accepted = λ h. refl })
-  where
-    counted : (d : Demand) → length (handed_with d w.handed) ≡ length w.handed
-    counted (Produce xs) = length-with_sendings xs w.handed
-    counted (InitProducerId p) = refl
-
-parts_count : (before : List History) (xs : List Sending) (answers : List PartAnswer) (after : List History) → PartsDeliver before xs answers after → length after ≡ length before
-unfolding PartsDeliver
-parts_count before [] [] after d = ap length d
-parts_count before (x ∷ xs) (a ∷ answers) after d = parts_count d.0 xs answers after d.2 ∙ ap length d.1.after_is ∙ length-set before x.partition d.1.log
-parts_count before [] (a ∷ answers) after d = absurd d
-parts_count before (x ∷ xs) [] after d = absurd d
-
-log_count : (w : World) (demand : Demand) (d : Delivery) → Delivers w demand d → length d.logs ≡ length w.logs
-unfolding Delivers
-log_count w (Produce xs) d h = parts_count w.logs xs h.0 d.logs h.1
-log_count w (InitProducerId p) d h = ap length h.1
 
 follows_event : (w : World) → OfEvent (Follows w) w
 unfolding noted
 follows_event w = record {
   not_accepted = λ s p. (follows_noted _ _ _ w, follows_noted _ _ _ w);
-  accepted = λ s p value here there shut small. record { count = refl; logs = refl; shut = λ h. h; accepted = λ h. absurd cc };
+  accepted = λ s p value here there shut small. record { shut = λ h. h; accepted = λ h. absurd cc };
   none_taken = λ s. follows_noted _ _ _ w;
-  taken = λ s i here there. at_taken (Follows w) s i w (record { count = refl; logs = refl; shut = λ h. h; accepted = λ h. refl }) (follows_noted _ _ _ w);
-  now = λ moment. record { count = refl; logs = refl; shut = λ h. h; accepted = λ h. refl };
+  taken = λ s i here there. at_taken (Follows w) s i w (record { shut = λ h. h; accepted = λ h. refl }) (follows_noted _ _ _ w);
+  now = λ moment. record { shut = λ h. h; accepted = λ h. refl };
   tick = follows_noted _ _ _ w;
-  send = let step = requested w.moment w.core in follows_sending w step.after step.answer;
+  send = let step = requested w.moment w.core in at_sent (Follows w) w step.after step.answer (λ line. follows_noted _ _ _ w) (λ o line. record { shut = λ h. h; accepted = λ h. refl });
   reply = λ j r there. follows_noted _ _ _ w;
   lost = follows_noted _ _ _ w;
-  close = record { count = refl; logs = refl; shut = λ h. refl; accepted = λ h. refl };
+  close = record { shut = λ h. refl; accepted = λ h. refl };
   end = follows_noted _ _ _ w;
   flush = follows_noted _ _ _ w;
 }
@@ -101,12 +73,12 @@ pub follows_step : (e : Event) (w v : World) → Steps w e v → Follows w v
 unfolding with_delivery noted
 follows_step e w v s = at_step (Follows w) w (record {
   client = follows_event w;
-  arrives = λ k o d went honest. record { count = refl; logs = log_count w o.demand d honest; shut = λ h. h; accepted = λ h. refl };
-  others = λ p n there. record { count = refl; logs = length-set w.logs p (with_others n other_record (log_at p w.logs)); shut = λ h. h; accepted = λ h. refl };
+  arrives = λ k o d went honest. record { shut = λ h. h; accepted = λ h. refl };
+  others = λ p n there. record { shut = λ h. h; accepted = λ h. refl };
 }) e v s
 
 followed : (u w v : World) → Follows u w → Follows w v → Follows u v
-followed u w v f g = record { count = g.count ∙ f.count; logs = g.logs ∙ f.logs; shut = λ h. g.shut (f.shut h); accepted = λ h. g.accepted (f.shut h) ∙ f.accepted h }
+followed u w v f g = record { shut = λ h. g.shut (f.shut h); accepted = λ h. g.accepted (f.shut h) ∙ f.accepted h }
 
 pub follows_run : (es : List Event) (w v : World) → Run w es v → Follows w v
 follows_run es w v r = at_run (Follows w) (λ x f e y s. followed w x y f (follows_step e x y s)) es w v r (same w)

@@ -15,13 +15,13 @@ use Rattle.kp_world.specs.Loopback.{other_record, logs_with_others}
 use Rattle.kp_world.specs.Noting.{noted}
 use Rattle.kp_world.specs.Run.{with_delivery, Steps, IsReached}
 use Rattle.kp_world.specs.World.{Happened, World, opening}
-use Rattle.kp_world.proofs.RunLemmas.{parts_came, lawful_step, lawful_opening, within_five}
+use Rattle.kp_world.proofs.RunLemmas.{parts_came}
 use Rattle.std.proofs.lemmas.Bool.{eqb-true, eqb-false}
 use Rattle.std.proofs.lemmas.List.{length-set, get_or-set_same, get_or-set_other, append-nil}
 use Rattle.kp_log.proofs.PlaceLemmas.{In, In-nil, In-append_left}
 use Rattle.kp_world.specs.Client.{handed_at, handed_with, grown_by, with_sending, with_sendings}
 use Rattle.kp_world.proofs.AccountLemmas.{IsAccounted}
-use Rattle.kp_world.proofs.AccountRunLemmas.{accounts_step, accounts_opening}
+use Rattle.kp_world.proofs.AccountRunLemmas.{IsInOrder, order_step, order_opening}
 use Rattle.kp_world.proofs.DeliveredLemmas.{Truly, AllTruly, truly_grown, truly_told}
 use Rattle.kp_world.proofs.EventLemmas.{OfEvent, at_step, at_run}
 use Rattle.kp_world.proofs.GateLemmas.{at_sent, at_taken}
@@ -132,11 +132,8 @@ truthful_step n e w v s g a before h i t j = truly_grown n w.handed v.handed w.l
     new : In t tells.event.told → Truly n w.handed w.logs t
     new k = truly_told n w t g a (all_at (MayBeToldIn w) tells.event.told t tells.ruled k)
 
-abbrev AllHolds : ℕ → World → Type 0
-AllHolds n w = IsLawful n w × IsAccounted w × IsTruthful n w
-
-all_step : (n : ℕ) (w : World) → AllHolds n w → (e : Event) (v : World) → Steps w e v → AllHolds n v
-all_step n w h e v s = (lawful_step n e w v s h.0, accounts_step e w v s (h.0.logs_count ∙ sym h.0.handed_count) h.1, truthful_step n e w v s h.0 h.1 h.2)
+all_step : (n : ℕ) (w : World) → IsInOrder n w × IsTruthful n w → (e : Event) (v : World) → Steps w e v → IsInOrder n v × IsTruthful n v
+all_step n w h e v s = (order_step n w h.0 e v s, truthful_step n e w v s h.0.0 h.0.1 h.1)
 
 truthful_opening : (c : Config) (partitions senders : ℕ) → IsTruthful partitions (opening c partitions senders)
 unfolding opening
@@ -145,5 +142,4 @@ truthful_opening c partitions senders h i = absurd (In-nil h i)
 -- Every world that a schedule leads to.
 pub truthful_reached : (c : Config) (partitions senders : ℕ) (es : List Event) (w : World) → IsReached c partitions senders es w → IsTruthful partitions w
 truthful_reached c partitions senders es w r =
-    (at_run (AllHolds partitions) (all_step partitions) es (opening c partitions senders) w r.run
-    (lawful_opening c partitions senders (within_five c r.may_begin.config), accounts_opening c partitions senders, truthful_opening c partitions senders)).2
+    (at_run (λ v. IsInOrder partitions v × IsTruthful partitions v) (all_step partitions) es (opening c partitions senders) w r.run (order_opening c partitions senders r.may_begin, truthful_opening c partitions senders)).1
