@@ -18,20 +18,22 @@ use Rattle.kp_core.specs.Awaited.{Awaited, Nothing, Batches, Id, awaited}
 use Rattle.kp_core.specs.Mismatch.{Answers, answers_of, answer_batches, answers_id}
 use Rattle.kp_core.specs.Next.{Demand, next_demand}
 use Rattle.kp_core.specs.Partitions.{partition_at}
-use Rattle.kp_core.specs.Records.{Request, IdRequest, Core}
+use Rattle.kp_core.specs.Fence.{given_up, end_of, ended}
+use Rattle.kp_core.specs.Records.{Request, IdRequest, Core, Step}
+use Rattle.kp_core.specs.Telling.{told_at_each}
 use Rattle.kp_core.specs.Replies.{Replies, batches_answered, batches_replied, id_answered, replied_to, replied, after_end, faulty, known}
 use Rattle.kp_core.specs.Requesting.{Requested, nothing_out, goes_out, is_spent, requested_for, requested}
-use Rattle.kp_core.specs.Tick.{Ticks, has_timed_out, ticked_from, ticked_now, not_ticked, ticked}
+use Rattle.kp_core.specs.Tick.{Ticks, has_timed_out, ticked_from, ticked_now, not_ticked, ticked, disconnected, closed}
 
 -- ---- an append
 
-pub record OfAppend (P : Appends → Type 0) (i : Item) (s : Core) : Type 0 where
+pub record OfAppend {ℓ} (P : Appends → Type ℓ) (i : Item) (s : Core) : Type ℓ where
   pub past_end : s.ended ≡ true → P (turned_away reason.Ended i s)
   pub by_fence : s.ended ≡ false → (partition_at i.partition s.partitions).fenced ≡ true → P (turned_away reason.Fenced i s)
   pub full : P (refused s)
   pub room : s.ended ≡ false → (partition_at i.partition s.partitions).fenced ≡ false → would_exhaust i s ≡ false → P (queued i s)
 
-pub at_appended : (P : Appends → Type 0) (i : Item) (s : Core) → OfAppend P i s → P (appended i s)
+pub at_appended {ℓ} : (P : Appends → Type ℓ) (i : Item) (s : Core) → OfAppend P i s → P (appended i s)
 unfolding appended
 at_appended P i s c = at_end s.ended refl
   where
@@ -51,13 +53,13 @@ at_appended P i s c = at_end s.ended refl
 
 -- ---- a request
 
-pub record OfRequest (P : Requested → Type 0) (now : ℕ) (s : Core) : Type 0 where
+pub record OfRequest {ℓ} (P : Requested → Type ℓ) (now : ℕ) (s : Core) : Type ℓ where
   pub ended : P (nothing_out s (Err fault.Ended))
   pub idle : P (nothing_out s (Ok None))
   pub spent : P (nothing_out s (Err fault.CorrelationSpent))
   pub out : (d : Demand) → next_demand now s ≡ Some d → P (goes_out now s d)
 
-pub at_requested : (P : Requested → Type 0) (now : ℕ) (s : Core) → OfRequest P now s → P (requested now s)
+pub at_requested {ℓ} : (P : Requested → Type ℓ) (now : ℕ) (s : Core) → OfRequest P now s → P (requested now s)
 unfolding requested
 at_requested P now s c = at_end s.ended
   where
@@ -76,7 +78,7 @@ at_requested P now s c = at_end s.ended
 -- ---- a reply
 
 -- Nothing changes, a request's batches are answered, or an id request is.
-pub record OfReply (P : Replies → Type 0) (now : ℕ) (response : Response) (s : Core) : Type 0 where
+pub record OfReply {ℓ} (P : Replies → Type ℓ) (now : ℕ) (response : Response) (s : Core) : Type ℓ where
   pub same : (answer : Result Replied CoreFault) → P (record { after = s; told = []; answer = answer })
   pub batches : (r : Request) (produce : ProduceResponse) (answers : Answers)
       → awaited response.correlation s ≡ Batches r → response.body ≡ Produce produce
@@ -87,7 +89,7 @@ pub record OfReply (P : Replies → Type 0) (now : ℕ) (response : Response) (s
       → awaited response.correlation s ≡ Id r → response.body ≡ InitProducerId x → answers_id x ≡ true
       → P (known (id_answered now r x s) [])
 
-at_body : (P : Replies → Type 0) (now : ℕ) (response : Response) (s : Core) → OfReply P now response s → P (replied_to now s (awaited response.correlation s) response.body)
+at_body {ℓ} : (P : Replies → Type ℓ) (now : ℕ) (response : Response) (s : Core) → OfReply P now response s → P (replied_to now s (awaited response.correlation s) response.body)
 at_body P now response s c = at_kind (awaited response.correlation s) refl response.body refl
   where
     mismatch : P (faulty Mismatch s)
@@ -117,7 +119,7 @@ at_body P now response s c = at_kind (awaited response.correlation s) refl respo
     at_kind (Id r) is (InitProducerId x) e = at_id r x is e (answers_id x) refl
 
 -- Each case may stand on it that the core has not ended.
-pub at_replied_going : (P : Replies → Type 0) (now : ℕ) (response : Response) (s : Core) → P (after_end s) → (s.ended ≡ false → OfReply P now response s) → P (replied now response s)
+pub at_replied_going {ℓ} : (P : Replies → Type ℓ) (now : ℕ) (response : Response) (s : Core) → P (after_end s) → (s.ended ≡ false → OfReply P now response s) → P (replied now response s)
 unfolding replied
 at_replied_going P now response s past c = at_end s.ended refl
   where
@@ -125,18 +127,18 @@ at_replied_going P now response s past c = at_end s.ended refl
     at_end true is = past
     at_end false is = at_body P now response s (c is)
 
-pub at_replied : (P : Replies → Type 0) (now : ℕ) (response : Response) (s : Core) → OfReply P now response s → P (replied now response s)
+pub at_replied {ℓ} : (P : Replies → Type ℓ) (now : ℕ) (response : Response) (s : Core) → OfReply P now response s → P (replied now response s)
 at_replied P now response s c =
     at_replied_going P now response s (c.same (Err fault.Ended)) (λ going. c)
 
 -- ---- a tick
 
-pub record OfTick (P : Ticks → Type 0) (now : ℕ) (s : Core) : Type 0 where
+pub record OfTick {ℓ} (P : Ticks → Type ℓ) (now : ℕ) (s : Core) : Type ℓ where
   pub ended : P (not_ticked s)
   pub timed_out : P (ticked_from now true (dropped now s))
   pub on_time : P (ticked_from now false s)
 
-pub at_ticked : (P : Ticks → Type 0) (now : ℕ) (s : Core) → OfTick P now s → P (ticked now s)
+pub at_ticked {ℓ} : (P : Ticks → Type ℓ) (now : ℕ) (s : Core) → OfTick P now s → P (ticked now s)
 unfolding ticked
 at_ticked P now s c = at_end s.ended
   where
@@ -147,3 +149,30 @@ at_ticked P now s c = at_end s.ended
     at_end : (b : Bool) → P (if b then not_ticked s else ticked_now now s)
     at_end true = c.ended
     at_end false = at_time (has_timed_out now s)
+
+-- ---- the other calls
+
+pub at_ended {ℓ} : (P : Step (Unit {0}) → Type ℓ) (s : Core) → P (record { after = s; told = []; answer = tt })
+    → P (record { after = end_of s; told = told_at_each given_up s; answer = tt }) → P (ended s)
+unfolding ended
+at_ended P s same ends = at_end s.ended
+  where
+    at_end : (b : Bool) → P (if b then record { after = s; told = []; answer = tt } else record { after = end_of s; told = told_at_each given_up s; answer = tt })
+    at_end true = same
+    at_end false = ends
+
+pub at_disconnected {ℓ} : (P : Core → Type ℓ) (now : ℕ) (s : Core) → P s → P (dropped now s) → P (disconnected now s)
+unfolding disconnected
+at_disconnected P now s same drops = at_end s.ended
+  where
+    at_end : (b : Bool) → P (if b then s else dropped now s)
+    at_end true = same
+    at_end false = drops
+
+pub at_closed {ℓ} : (P : Core → Type ℓ) (s : Core) → P s → P (record s { closing = true }) → P (closed s)
+unfolding closed
+at_closed P s same closes = at_end s.ended
+  where
+    at_end : (b : Bool) → P (if b then s else record s { closing = true })
+    at_end true = same
+    at_end false = closes

@@ -1,5 +1,5 @@
 -- Lists: what holds of all elements.
-use Rattle.std.proofs.Common.{◌≡◌, suc, List, [], ◌∷◌, ◌++◌, refl, arith, Contains}
+use Rattle.std.proofs.Common.{suc, List, [], ◌∷◌, ◌++◌, refl, arith, Contains}
 use Rattle.std.specs.Prelude.{flat_map}
 use Rattle.std.specs.List.{AllByRecursion}
 

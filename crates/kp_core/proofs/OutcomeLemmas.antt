@@ -10,11 +10,8 @@ use Rattle.kp_accum.specs.Queue.{Pending}
 use Rattle.kp_accum.specs.Ready.{is_late}
 use Rattle.kp_frames.specs.declared.produce.PartitionProduceResponse.{PartitionProduceResponse}
 use Rattle.kp_frames.specs.declared.produce.ProduceResponse.{ProduceResponse}
-use Rattle.kp_frames.specs.declared.producer_id.InitProducerIdResponse.{InitProducerIdResponse}
 use Rattle.kp_frames.specs.declared.response.Response.{Response}
-use Rattle.kp_frames.specs.declared.response.ResponseBody.{ResponseBody}
 use Rattle.kp_frames.specs.declared.response.ResponseBody.TheVariants as body
-use Rattle.kp_frames.specs.declared.fault.FrameFault.TheVariants.{Mismatch}
 use Rattle.kp_core.specs.declared.outcome.Outcome.{Outcome}
 use Rattle.kp_core.specs.declared.outcome.Outcome.TheVariants.{Delivered, DeliveredNoOffset, Unknown, Rejected, Unsent}
 use Rattle.kp_core.specs.declared.outcome.Reason.{Reason}
@@ -22,18 +19,19 @@ use Rattle.kp_core.specs.declared.outcome.Reason.TheVariants as reason
 use Rattle.kp_core.specs.declared.verdict.Verdict.{Verdict}
 use Rattle.kp_core.specs.declared.verdict.Verdict.TheVariants.{Stored, Duplicate, Retry, Reject}
 use Rattle.kp_core.specs.Answered.{verdict_of, without_attempt, settled, answered_if, answered}
-use Rattle.kp_core.specs.Appending.{Appends, turned_away, refused, queued, would_exhaust, appended}
+use Rattle.kp_core.specs.Appending.{Appends, appended}
 use Rattle.kp_core.specs.Attempts.{awaits, awaiting, dropped_batch, without_attempts, dropped}
-use Rattle.kp_core.specs.Awaited.{Awaited, Nothing, Batches, Id, id_awaited, or_id, awaited}
-use Rattle.kp_core.specs.Fence.{told_given_up, fenced, given_up, end_of, ended}
-use Rattle.kp_core.specs.Mismatch.{Answers, is_for, answers_for, answers_of, answer_batches, answers_id}
+use Rattle.kp_core.specs.Awaited.{Nothing, Batches, Id, id_awaited, or_id, awaited}
+use Rattle.kp_core.specs.Fence.{told_given_up, fenced, given_up, ended}
+use Rattle.kp_core.specs.Mismatch.{Answers, is_for, answers_for, answers_of}
 use Rattle.kp_core.specs.Causes.{IsAtLateFront, IsOpenIn, IsQueuedIn, IsAnswered}
 use Rattle.kp_core.specs.OutcomeRule.{Call, Append, Tick, Reply, End, told_by, MayTell}
 use Rattle.kp_core.specs.Partitions.{partition_at, items_open, items_queued}
 use Rattle.kp_core.specs.Records.{Open, Partition, Request, IdRequest, Core, Told, Step}
-use Rattle.kp_core.specs.Replies.{Replies, first_answered, answering, batches_answered, batches_replied, id_answered, replied_to, replied, after_end, known, faulty}
+use Rattle.kp_core.specs.Replies.{Replies, first_answered, answering, batches_answered, replied}
 use Rattle.kp_core.specs.Telling.{told_all, told_at_each, told_at}
-use Rattle.kp_core.specs.Tick.{Ticks, is_open_late, late_front, expired_front, passed, has_timed_out, ticked_from, not_ticked, ticked}
+use Rattle.kp_core.specs.Tick.{Ticks, is_open_late, late_front, expired_front, passed, ticked}
+use Rattle.kp_core.proofs.CallLemmas.{at_appended, at_ended, at_replied, at_ticked}
 use Rattle.kp_core.proofs.ListLemmas.{contains_head, contains_tail, all_append, all_contained, all_flat_map}
 
 -- ---- lists
@@ -131,7 +129,8 @@ all_given_up P why t f g = all_append P (told_all Unknown (items_open t.open_bat
     (all_told P (Unsent why) (items_queued t.queue)
     (queued_items (λ (i : Item). P (record { item = i; outcome = Unsent why })) t g))
 
-all_places : (P : Told → Type 0) (g : Partition → List Told) (ts : List Partition)
+-- at the places of the partitions
+pub all_places : (P : Told → Type 0) (g : Partition → List Told) (ts : List Partition)
     → ((p : ℕ) → AllByRecursion P (g (partition_at p ts))) → AllByRecursion P (flat_map g ts)
 all_places P g [] f = tt
 all_places P g (t ∷ ts) f =
@@ -142,48 +141,22 @@ all_places P g (t ∷ ts) f =
 abbrev MayBeTold : Core → Call → Told → Type 0
 MayBeTold s call t = MayTell s call t.item t.outcome
 
-abbrev end_step : Core → Bool → Step (Unit {0})
-end_step s b = if b then record { after = s; told = []; answer = tt } else record
-    { after = end_of s; told = told_at_each given_up s; answer = tt }
-
 at_end : (s : Core) → AllByRecursion (MayBeTold s End) (ended s).told
-unfolding MayTell ended told_at_each given_up
-at_end s = at_test s.ended
-  where
-    at_test : (b : Bool) → AllByRecursion (MayBeTold s End) (end_step s b).told
-    at_test true = tt
-    at_test false = all_places (MayBeTold s End) (λ t. (given_up t).told) s.partitions
-        (λ p. all_given_up (MayBeTold s End) reason.Ended (partition_at p s.partitions)
-        (λ i h. (p, h)) (λ i h. (p, h)))
+unfolding MayTell told_at_each given_up
+at_end s = at_ended (λ (x : Step (Unit {0})). AllByRecursion (MayBeTold s End) x.told) s tt
+    (all_places (MayBeTold s End) (λ t. (given_up t).told) s.partitions
+    (λ p. all_given_up (MayBeTold s End) reason.Ended (partition_at p s.partitions) (λ i h. (p, h)) (λ i h. (p, h))))
 
 -- ---- an append
 
-abbrev room_step : Item → Core → Bool → Appends
-room_step i s b = if b then refused s else queued i s
-
-abbrev fence_step : Item → Core → Bool → Appends
-fence_step i s b = if b then turned_away reason.Fenced i s else room_step i s (would_exhaust i s)
-
-abbrev append_step : Item → Core → Bool → Appends
-append_step i s b = if b then turned_away reason.Ended i s else fence_step i s
-    (partition_at i.partition s.partitions).fenced
-
 at_append : (i : Item) (s : Core) → AllByRecursion (MayBeTold s (Append i)) (appended i s).told
-unfolding MayTell appended
-at_append i s = at_end_of s.ended refl
-  where
-    at_room : (b : Bool) → AllByRecursion (MayBeTold s (Append i)) (room_step i s b).told
-    at_room true = tt
-    at_room false = tt
-
-    at_fence : s.ended ≡ false → (b : Bool) → (partition_at i.partition s.partitions).fenced ≡ b
-        → AllByRecursion (MayBeTold s (Append i)) (fence_step i s b).told
-    at_fence e true is = ((refl, e, is), tt)
-    at_fence e false is = at_room (would_exhaust i s)
-
-    at_end_of : (b : Bool) → s.ended ≡ b → AllByRecursion (MayBeTold s (Append i)) (append_step i s b).told
-    at_end_of true is = ((refl, is), tt)
-    at_end_of false is = at_fence is (partition_at i.partition s.partitions).fenced refl
+unfolding MayTell
+at_append i s = at_appended (λ (x : Appends). AllByRecursion (MayBeTold s (Append i)) x.told) i s (record {
+  past_end = λ e. ((refl, e), tt);
+  by_fence = λ e f. ((refl, e, f), tt);
+  full = tt;
+  room = λ e f r. tt;
+})
 
 -- ---- a tick
 
@@ -293,51 +266,42 @@ passed_all s now p = subst (AllByRecursion (MayBeTold s (Tick now)))
           },
         ))))
 
-abbrev now_step : ℕ → Core → Bool → Ticks
-now_step now s b = if b then ticked_from now true (dropped now s) else ticked_from now false s
-
-abbrev tick_step : ℕ → Core → Bool → Ticks
-tick_step now s b = if b then not_ticked s else now_step now s (has_timed_out now s)
-
 at_tick : (now : ℕ) (s : Core) → AllByRecursion (MayBeTold s (Tick now)) (ticked now s).told
-unfolding ticked told_at_each dropped
-at_tick now s = at_end_of s.ended
+unfolding told_at_each dropped
+at_tick now s = at_ticked (λ (x : Ticks). AllByRecursion (MayBeTold s (Tick now)) x.told) now s (record {
+  ended = tt;
+  timed_out = subst (AllByRecursion (MayBeTold s (Tick now))) (sym (all_dropped_tell s.config now now s.partitions)) all;
+  on_time = all;
+})
   where
     all : AllByRecursion (MayBeTold s (Tick now)) (flat_map (λ t. (passed s.config now t).told) s.partitions)
     all = all_places (MayBeTold s (Tick now)) (λ t. (passed s.config now t).told) s.partitions (passed_all s now)
 
-    at_time : (b : Bool) → AllByRecursion (MayBeTold s (Tick now)) (now_step now s b).told
-    at_time true = subst (AllByRecursion (MayBeTold s (Tick now)))
-        (sym (all_dropped_tell s.config now now s.partitions)) all
-    at_time false = all
-
-    at_end_of : (b : Bool) → AllByRecursion (MayBeTold s (Tick now)) (tick_step now s b).told
-    at_end_of true = tt
-    at_end_of false = at_time (has_timed_out now s)
-
 -- ---- a reply
 
-named : (k : ℤ) (s : Core) (r : Request) → awaited k s ≡ Batches r → pos r.correlation ≡ k
+-- a request that is awaited is in flight
+pub in_flight : (k : ℤ) (s : Core) (r : Request) → awaited k s ≡ Batches r
+    → Contains s.requests r × (pos r.correlation ≡ k)
 unfolding awaited
-named k s r e = at_request (find (λ (q : Request). int_eq (pos q.correlation) k) s.requests) refl e
+in_flight k s r e = at_request (find (λ (q : Request). int_eq (pos q.correlation) k) s.requests) refl e
   where
-    at_test : (q : IdRequest) (b : Bool) → (if b then Id q else Nothing) ≡ Batches r → pos r.correlation ≡ k
+    at_test : (q : IdRequest) (b : Bool) → (if b then Id q else Nothing) ≡ Batches r → ⊥
     at_test q true e' = absurd cc
     at_test q false e' = absurd cc
 
-    at_option : (o : Option IdRequest) → id_awaited k o ≡ Batches r → pos r.correlation ≡ k
+    at_option : (o : Option IdRequest) → id_awaited k o ≡ Batches r → ⊥
     at_option None e' = absurd cc
     at_option (Some q) e' = at_test q (int_eq (pos q.correlation) k) e'
 
     at_request : (o : Option Request)
         → find (λ (q : Request). int_eq (pos q.correlation) k) s.requests ≡ o → or_id k s o
-        ≡ Batches r → pos r.correlation ≡ k
+        ≡ Batches r → Contains s.requests r × (pos r.correlation ≡ k)
     at_request (Some q) is e' =
         let same : q ≡ r = cc in
-        let test : int_eq (pos q.correlation) k
-        ≡ true = (found (λ (q : Request). int_eq (pos q.correlation) k) s.requests q is).1 in
-        subst (λ (x : Request). pos x.correlation ≡ k) same ((Decides-int_eq (pos q.correlation) k).0 test)
-    at_request None is e' = at_option s.id_request e'
+        let here = found (λ (x : Request). int_eq (pos x.correlation) k) s.requests q is in
+        subst (λ (x : Request). Contains s.requests x × (pos x.correlation ≡ k)) same
+        (here.0, (Decides-int_eq (pos q.correlation) k).0 here.1)
+    at_request None is e' = absurd (at_option s.id_request e')
 
 open_without : (k : ℕ) (t : Partition) (i : Item) → IsOpenIn (without_attempt k t) i → IsOpenIn t i
 open_without k t i h = record {
@@ -424,80 +388,52 @@ at_answered now k p s response a f = at_option (awaiting k (partition_at p s.par
     at_option None is = tt
     at_option (Some o) is = at_settled now k p s response o a (f o is) (verdict_of a.error_code) refl
 
-abbrev batches_step : ℕ → Request → Core → Answers → Bool → Replies
-batches_step now r s answers b = if b then batches_answered now r answers s else faulty Mismatch s
+-- an answer to a request answers the partition's batch that is in flight in it
+pub answered_so : (s : Core) (response : Response) (r : Request) (produce : ProduceResponse) (answers : Answers)
+    → awaited response.correlation s ≡ Batches r → response.body ≡ body.Produce produce
+    → answers_of s.names.topic produce.topics ≡ Some answers
+    → (p : ℕ) (a : PartitionProduceResponse) (rest : Answers) → answers_for p answers ≡ a ∷ rest
+    → (o : Open) → awaiting r.correlation (partition_at p s.partitions) ≡ Some o → IsAnswered s response p o a
+answered_so s response r produce answers it is topic p a rest e o h =
+    let here = found (awaits r.correlation) (partition_at p s.partitions).open_batches o h in
+    let first = first_filtered (is_for p) answers a rest e in
+    record {
+      is_open = here.0;
+      correlation = r.correlation;
+      named = (in_flight response.correlation s r it).1;
+      in_flight = here.1;
+      produce = produce;
+      body_is = is;
+      answers = answers;
+      topic = topic;
+      has = first.0;
+      partition = (Decides-int_eq a.partition (pos p)).0 first.1;
+    }
 
-at_batches : (now : ℕ) (s : Core) (response : Response) (r : Request) (produce : ProduceResponse)
-    → pos r.correlation ≡ response.correlation → response.body ≡ body.Produce produce
-    → (o : Option Answers) → answers_of s.names.topic produce.topics ≡ o
-    → AllByRecursion (MayBeTold s (Reply now response)) (batches_replied now r s o).told
+at_batches : (now : ℕ) (s : Core) (response : Response) (r : Request) (produce : ProduceResponse) (answers : Answers)
+    → awaited response.correlation s ≡ Batches r → response.body ≡ body.Produce produce
+    → answers_of s.names.topic produce.topics ≡ Some answers
+    → AllByRecursion (MayBeTold s (Reply now response)) (batches_answered now r answers s).told
 unfolding told_at
-at_batches now s response r produce name is None e = tt
-at_batches now s response r produce name is (Some answers) e =
-    at_test (answer_batches r.correlation r.partitions s.partitions answers)
+at_batches now s response r produce answers it is topic =
+    all_flat_map (MayBeTold s (Reply now response))
+    (λ p. (answering now r.correlation answers p (partition_at p s.partitions)).told)
+    r.partitions (λ p c. at_answers p (answers_for p answers) refl)
   where
     at_answers : (p : ℕ) (xs : Answers) → answers_for p answers ≡ xs
         → AllByRecursion (MayBeTold s (Reply now response))
         (first_answered now r.correlation (partition_at p s.partitions) xs).told
-    at_answers p [] e' = tt
-    at_answers p (a ∷ rest) e' = at_answered now r.correlation p s response a told
-      where
-        told : (o : Open) → awaiting r.correlation (partition_at p s.partitions) ≡ Some o
-            → IsAnswered s response p o a
-        told o h =
-            let here = found (awaits r.correlation) (partition_at p s.partitions).open_batches o h in
-            let first = first_filtered (is_for p) answers a rest e' in
-            record {
-              is_open = here.0;
-              correlation = r.correlation;
-              named = name;
-              in_flight = here.1;
-              produce = produce;
-              body_is = is;
-              answers = answers;
-              topic = e;
-              has = first.0;
-              partition = (Decides-int_eq a.partition (pos p)).0 first.1;
-            }
-
-    at_test : (b : Bool) → AllByRecursion (MayBeTold s (Reply now response)) (batches_step now r s answers b).told
-    at_test true = all_flat_map (MayBeTold s (Reply now response))
-        (λ p. (answering now r.correlation answers p (partition_at p s.partitions)).told)
-        r.partitions (λ p c. at_answers p (answers_for p answers) refl)
-    at_test false = tt
-
-abbrev id_step : ℕ → IdRequest → InitProducerIdResponse → Core → Bool → Replies
-id_step now q x s b = if b then known (id_answered now q x s) [] else faulty Mismatch s
-
-abbrev reply_step : ℕ → Response → Core → Bool → Replies
-reply_step now response s b =
-    if b then after_end s else replied_to now s (awaited response.correlation s) response.body
+    at_answers p [] e = tt
+    at_answers p (a ∷ rest) e = at_answered now r.correlation p s response a
+        (answered_so s response r produce answers it is topic p a rest e)
 
 at_reply : (now : ℕ) (response : Response) (s : Core)
     → AllByRecursion (MayBeTold s (Reply now response)) (replied now response s).told
-unfolding replied
-at_reply now response s = at_end_of s.ended
-  where
-    at_id : (q : IdRequest) (x : InitProducerIdResponse) (b : Bool)
-        → AllByRecursion (MayBeTold s (Reply now response)) (id_step now q x s b).told
-    at_id q x true = tt
-    at_id q x false = tt
-
-    at_body : (who : Awaited) → awaited response.correlation s ≡ who → (content : ResponseBody)
-        → response.body ≡ content → AllByRecursion (MayBeTold s (Reply now response))
-        (replied_to now s who content).told
-    at_body Nothing is content e = tt
-    at_body (Batches r) is (body.Produce x) e = at_batches now s response r x
-        (named response.correlation s r is) e (answers_of s.names.topic x.topics) refl
-    at_body (Batches r) is (body.Metadata x) e = tt
-    at_body (Batches r) is (body.InitProducerId x) e = tt
-    at_body (Id q) is (body.Produce x) e = tt
-    at_body (Id q) is (body.Metadata x) e = tt
-    at_body (Id q) is (body.InitProducerId x) e = at_id q x (answers_id x)
-
-    at_end_of : (b : Bool) → AllByRecursion (MayBeTold s (Reply now response)) (reply_step now response s b).told
-    at_end_of true = tt
-    at_end_of false = at_body (awaited response.correlation s) refl response.body refl
+at_reply now response s = at_replied (λ (x : Replies). AllByRecursion (MayBeTold s (Reply now response)) x.told) now response s (record {
+  same = λ answer. tt;
+  batches = λ r produce answers it is topic valid. at_batches now s response r produce answers it is topic;
+  id = λ r x it is valid. tt;
+})
 
 -- ---- any call
 

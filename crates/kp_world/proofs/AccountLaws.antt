@@ -1,36 +1,21 @@
 -- The laws of every run on what was accepted.
-use Rattle.std.proofs.Common.{◌≡◌, ℕ, ◌<◌, List, [], length, sym, ◌∙◌, subst}
-use Rattle.std.proofs.lemmas.List.{length-replicate}
+use Rattle.std.proofs.Common.{ℕ, ◌<◌, List, length, sym, subst}
 use Rattle.kp_accum.specs.declared.config.Config.{Config}
-use Rattle.kp_log.specs.History.{empty_history}
-use Rattle.kp_core.specs.Records.{Batch}
 use Rattle.kp_world.specs.declared.event.Event.{Event}
 use Rattle.kp_world.specs.Accepting.{accepted_by, for_partition}
 use Rattle.kp_world.specs.Accounts.{AreAccountedFor, AreInOrder, ArePlaced, IsNeverSent, IsToldOnce, IsUsedByUntold}
 use Rattle.kp_world.specs.Run.{IsReached}
-use Rattle.kp_world.specs.World.{World, opening}
+use Rattle.kp_world.specs.World.{World}
 use Rattle.kp_world.proofs.AccountLemmas.{IsAccounted}
-use Rattle.kp_world.proofs.AccountRunLemmas.{accounts_run, accounts_opening}
+use Rattle.kp_world.proofs.AccountRunLemmas.{order_reached}
 use Rattle.kp_world.proofs.AccountedLemmas.{accounted_for, in_order, handed_is_sent, numbers_are}
 use Rattle.kp_world.proofs.ToldLemmas.{told_once, used_by_untold}
-use Rattle.kp_world.proofs.GateLemmas.{follows_run}
-
-as_many : (c : Config) (partitions senders : ℕ) → length (opening c partitions senders).logs ≡ length (opening c partitions senders).handed
-unfolding opening
-as_many c partitions senders = length-replicate partitions empty_history ∙ sym (length-replicate {A = List Batch} partitions [])
 
 reached : (c : Config) (partitions senders : ℕ) (es : List Event) (w : World) → IsReached c partitions senders es w → IsAccounted w
-reached c partitions senders es w r = accounts_run es (opening c partitions senders) w r.run (as_many c partitions senders) (accounts_opening c partitions senders)
-
-handed_count : (c : Config) (partitions senders : ℕ) → length (opening c partitions senders).handed ≡ partitions
-unfolding opening
-handed_count c partitions senders = length-replicate {A = List Batch} partitions []
+reached c partitions senders es w r = (order_reached c partitions senders es w r).1
 
 within : (c : Config) (partitions senders : ℕ) (es : List Event) (w : World) (p : ℕ) → IsReached c partitions senders es w → p < partitions → p < length w.core.partitions
-within c partitions senders es w p r l =
-    let a = reached c partitions senders es w r in
-    let count : length w.core.partitions ≡ partitions = sym a.handed_count ∙ (follows_run es (opening c partitions senders) w r.run).count ∙ handed_count c partitions senders in
-    subst (λ (n : ℕ). p < n) (sym count) l
+within c partitions senders es w p r l = subst (λ (n : ℕ). p < n) (sym (order_reached c partitions senders es w r).0.count) l
 
 pub accounted : (c : Config) (partitions senders : ℕ) (es : List Event) (w : World) (s p : ℕ) → IsReached c partitions senders es w → p < partitions → AreAccountedFor s p w
 accounted c partitions senders es w s p r l = accounted_for s p w (reached c partitions senders es w r) (within c partitions senders es w p r l)

@@ -7,17 +7,15 @@ use Rattle.std.proofs.lemmas.List.Concat.{flat_map-append}
 use Rattle.std.proofs.lemmas.List.Elements.{filter-append}
 use Rattle.kp_accum.specs.declared.item.Item.{Item}
 use Rattle.kp_core.specs.Partitions.{partition_at, items_queued, untold}
-use Rattle.kp_core.specs.Records.{Batch, Partition, Request, Core, Told}
-use Rattle.kp_log.proofs.PlaceLemmas.{In}
+use Rattle.kp_core.specs.Records.{Batch, Request, Core, Told}
 use Rattle.kp_world.specs.Accepting.{for_partition}
 use Rattle.kp_world.specs.Accounts.{of_sender, told_in, unsent_among, is_unsent}
 use Rattle.kp_world.specs.Client.{handed_at}
 use Rattle.kp_world.specs.Line.{Line}
 use Rattle.kp_world.specs.Noting.{noted}
 use Rattle.kp_world.specs.World.{World, Happened}
-use Rattle.kp_world.proofs.ConservationLemmas.{items_told, unsent-append, attempt_count}
+use Rattle.kp_world.proofs.ConservationLemmas.{items_told, unsent-append}
 use Rattle.kp_world.proofs.FateLemmas.{AreNumbered, Fates, fates_given_up}
-use Rattle.kp_world.proofs.KeepingLemmas.{OpenIn}
 use Rattle.kp_world.proofs.TellingLemmas.{told_for, Distinct, AtHome, home_past, CoreTells, core_weighs}
 use Rattle.kp_world.proofs.WeightLemmas.{weigh, weigh-append}
 
@@ -44,19 +42,10 @@ pub record Accepts (n s : ℕ) (items : List Item) (taken : ℕ) : Type 0 where
   pub own : AllByRecursion (λ i. i.sender ≡ s) items
   pub numbered : (p : ℕ) → AreNumbered 0 (for_partition p items)
 
--- a partition, and what was handed over for it; at most one batch is in each request before this one
-pub record Holds (request : ℕ) (t : Partition) (handed : List Batch) : Type 0 where
-  pub number : t.next_number ≡ length handed
-  pub below : (b : Batch) → In b handed → b.number < length handed
-  pub opens : OpenIn handed t.open_batches
-  pub single : (k : ℕ) → attempt_count k t.open_batches ≤ 1
-  pub fresh : (k : ℕ) → request ≤ k → attempt_count k t.open_batches ≡ 0
-
 pub record Accounts (core : Core) (accepted : List (List Item)) (taken : List ℕ) (handed : List (List Batch)) (told : List Told) : Type 0 where
   pub taken_count : length taken ≡ length accepted
   pub handed_count : length handed ≡ length core.partitions
   pub senders : (s : ℕ) → Accepts (length core.partitions) s (slice_index_or accepted s []) (slice_index taken s)
-  pub each : (p : ℕ) → p < length core.partitions → Holds core.correlation (partition_at p core.partitions) (handed_at p handed)
   pub home : AtHome core.partitions
   pub requests : AllByRecursion (λ (r : Request). Distinct r.partitions) core.requests
   pub fates : (s p : ℕ) → p < length core.partitions
@@ -102,28 +91,14 @@ accounts_core core accepted taken handed told more core' a k = record {
   taken_count = a.taken_count;
   handed_count = a.handed_count ∙ sym k.count;
   senders = λ s. subst (λ (n : ℕ). Accepts n s (slice_index_or accepted s []) (slice_index taken s)) (sym k.count) (a.senders s);
-  each = λ p l.
-      let here = within p l in
-      let part = k.each p here in
-      let h = a.each p here in
-      record {
-        number = part.number ∙ h.number;
-        below = h.below;
-        opens = part.opens (handed_at p handed) h.opens;
-        single = λ j. let most : attempt_count j (partition_at p core.partitions).open_batches ≤ 1 = h.single j in let less : attempt_count j (partition_at p core'.partitions).open_batches ≤ attempt_count j (partition_at p core.partitions).open_batches = part.tells.attempts j in omega (arith, most, less);
-        fresh = λ j m.
-            let none : attempt_count j (partition_at p core.partitions).open_batches ≡ 0 = h.fresh j (subst (λ (n : ℕ). n ≤ j) k.correlation m) in
-            let less : attempt_count j (partition_at p core'.partitions).open_batches ≤ attempt_count j (partition_at p core.partitions).open_batches = part.tells.attempts j in
-            omega (arith, none, less);
-      };
-  home = home_past core'.partitions (λ p l. (k.each p (within p l)).tells.left_from (λ i. i.partition ≡ p) (a.home p));
+  home = home_past core'.partitions (λ p l. (k.each p (within p l)).left_from (λ i. i.partition ≡ p) (a.home p));
   requests = k.requests (λ r. Distinct r.partitions) a.requests;
   fates = λ s p l.
       let here = within p l in
       let front = unsent_among (told_for p more) in
       let back = items_queued (partition_at p core'.partitions).queue in
       let queue : of_sender s (items_queued (partition_at p core.partitions).queue) ≡ of_sender s front ++ of_sender s back =
-      ap (of_sender s) (k.each p here).tells.queue ∙ sender-append s (unsent_among (told_for p more)) (items_queued (partition_at p core'.partitions).queue) in
+      ap (of_sender s) (k.each p here).queue ∙ sender-append s (unsent_among (told_for p more)) (items_queued (partition_at p core'.partitions).queue) in
       let grown : of_sender s (for_partition p (unsent_among told)) ++ of_sender s front ≡ of_sender s (for_partition p (unsent_among (told ++ more))) =
       sym (ap (λ r. of_sender s (for_partition p r)) (unsent-append told more) ∙ both-append s p (unsent_among told) (unsent_among more) ∙ ap (λ r. of_sender s (for_partition p (unsent_among told)) ++ of_sender s r) (unsent_for p more)) in
       subst (Fates (taken_for s p accepted taken) (of_sender s back) (of_sender s (items_of (handed_at p handed)))) grown

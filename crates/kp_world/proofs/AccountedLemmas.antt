@@ -172,7 +172,7 @@ accounted_for s p w a l =
     ∙ sym (filter-append (has_left w) t r)
     ∙ ap (filter (has_left w)) (sym k.all)
 
--- ---- what was told Unsent was never handed over
+-- ---- what was handed over
 
 by_sender : (P : ℕ → Item → Type 0) (items : List Item) → ((s : ℕ) → AllByRecursion (P s) (of_sender s items)) → AllByRecursion (λ i. P i.sender i) items
 by_sender P [] h = tt
@@ -186,23 +186,31 @@ by_sender P (x ∷ items) h = (here x.sender (x.sender == x.sender) (eq-eqb x.se
     rest s true k = k.1
     rest s false k = k
 
+-- it is of its sender and partition
+handed_of : (s p : ℕ) (w : World) → IsAccounted w → p < length w.core.partitions → AllByRecursion (Of s p) (of_sender s (items_handed p w))
+handed_of s p w a l =
+    let t = taken_for s p w.accepted w.taken in
+    let h = of_sender s (items_handed p w) in
+    let own = all_front (λ (i : Item). i.sender ≡ s) (take (taken_by s w) (accepted_by s w)) (not_taken s w) (subst (AllByRecursion (λ (i : Item). i.sender ≡ s)) (sym (take-append-drop (taken_by s w) (accepted_by s w))) (a.senders s).own) in
+    all_front (Of s p) h (of_sender s (queued_at p w))
+    (subst (AllByRecursion (Of s p)) (a.fates s p l).kept (all_filter (Of s p) (is_out (of_sender s (for_partition p (told_unsent w)))) t (both_of s p (take (taken_by s w) (accepted_by s w)) own)))
+
+pub handed_home : (p : ℕ) (w : World) → IsAccounted w → p < length w.core.partitions → AllByRecursion (λ i. i.partition ≡ p) (items_handed p w)
+handed_home p w a l = by_sender (λ s i. i.partition ≡ p) (items_handed p w) (λ s. all_weaker (Of s p) (λ i. i.partition ≡ p) (λ i of. of.1) (of_sender s (items_handed p w)) (handed_of s p w a l))
+
+-- nothing that was told Unsent was handed over
 pub handed_is_sent : (p : ℕ) (w : World) → IsAccounted w → p < length w.core.partitions → AllByRecursion (λ i. is_among i (told_unsent w) ≡ false) (items_handed p w)
 handed_is_sent p w a l = by_sender (λ s i. is_among i (told_unsent w) ≡ false) (items_handed p w) of
   where
+    zip : (s : ℕ) (items : List Item) → AllByRecursion (λ i. has_number (of_sender s (for_partition p (told_unsent w))) i.number ≡ false) items → AllByRecursion (Of s p) items
+        → AllByRecursion (λ i. is_among i (told_unsent w) ≡ false) items
+    zip s [] apart of = tt
+    zip s (i ∷ items) apart of = (among_of s p i of.0 (told_unsent w) ∙ apart.0, zip s items apart.1 of.1)
+
     of : (s : ℕ) → AllByRecursion (λ i. is_among i (told_unsent w) ≡ false) (of_sender s (items_handed p w))
     of s =
-        let t = taken_for s p w.accepted w.taken in
-        let q = of_sender s (queued_at p w) in
         let h = of_sender s (items_handed p w) in
-        let u = of_sender s (for_partition p (told_unsent w)) in
-        let own = all_front (λ (i : Item). i.sender ≡ s) (take (taken_by s w) (accepted_by s w)) (not_taken s w) (subst (AllByRecursion (λ (i : Item). i.sender ≡ s)) (sym (take-append-drop (taken_by s w) (accepted_by s w))) (a.senders s).own) in
-        let all : AllByRecursion (Of s p) (of_sender s (items_handed p w) ++ of_sender s (queued_at p w)) = subst (AllByRecursion (Of s p)) (a.fates s p l).kept (all_filter (Of s p) (is_out u) t (both_of s p (take (taken_by s w) (accepted_by s w)) own)) in
-        zip s (of_sender s (items_handed p w)) (fates_apart t q h u (a.fates s p l)) (all_front (Of s p) h q all)
-      where
-        zip : (s : ℕ) (items : List Item) → AllByRecursion (λ i. has_number (of_sender s (for_partition p (told_unsent w))) i.number ≡ false) items → AllByRecursion (Of s p) items
-            → AllByRecursion (λ i. is_among i (told_unsent w) ≡ false) items
-        zip s [] apart of = tt
-        zip s (i ∷ items) apart of = (among_of s p i of.0 (told_unsent w) ∙ apart.0, zip s items apart.1 of.1)
+        zip s h (fates_apart (taken_for s p w.accepted w.taken) (of_sender s (queued_at p w)) h (of_sender s (for_partition p (told_unsent w))) (a.fates s p l)) (handed_of s p w a l)
 
 -- ---- in order, and once
 

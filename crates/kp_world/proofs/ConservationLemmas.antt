@@ -16,10 +16,8 @@ use Rattle.kp_core.specs.declared.outcome.Reason.{Reason}
 use Rattle.kp_core.specs.declared.outcome.Reason.TheVariants as reason
 use Rattle.kp_core.specs.declared.verdict.Verdict.{Verdict}
 use Rattle.kp_core.specs.declared.verdict.Verdict.TheVariants.{Stored, Duplicate, Retry, Reject}
-use Rattle.kp_core.specs.declared.attempt.Attempt.TheVariants.{InFlight, Waiting}
-use Rattle.kp_core.specs.declared.attempt.Attempt.{Attempt}
 use Rattle.kp_core.specs.Answered.{without_attempt, acknowledged, to_retry, waiting_since, settled, answered_if, answered, verdict_of}
-use Rattle.kp_core.specs.Attempts.{is_attempt_in, awaits, awaiting, dropped_attempt, dropped_batch, without_attempts}
+use Rattle.kp_core.specs.Attempts.{awaits, awaiting, dropped_batch, without_attempts}
 use Rattle.kp_core.specs.Fence.{told_given_up, fenced, given_up}
 use Rattle.kp_core.specs.Flush.{marked_open, with_marks}
 use Rattle.kp_core.specs.Partitions.{items_open, items_queued, untold}
@@ -27,7 +25,10 @@ use Rattle.kp_core.specs.Records.{Batch, Open, Partition, Told}
 use Rattle.kp_core.specs.Telling.{told_all, told_offsets}
 use Rattle.kp_core.specs.Tick.{late_front, behind_late, expired_front, is_open_late, passed}
 use Rattle.kp_world.specs.Accounts.{is_unsent, unsent_among}
-use Rattle.kp_world.proofs.WeightLemmas.{weigh, weigh-append, weigh_filter, weigh_map}
+use Rattle.std.proofs.lemmas.List.Concat.{flat_map-append}
+use Rattle.kp_world.proofs.KeepingLemmas.{same_waiting}
+use Rattle.kp_world.proofs.LeavingLemmas.{found}
+use Rattle.kp_world.proofs.WeightLemmas.{weigh, weigh-append}
 use Rattle.kp_core.proofs.ListLemmas.{all_append}
 use Rattle.kp_world.proofs.ListLemmas.{all_back, all_front}
 
@@ -94,12 +95,10 @@ all_open_filter P test (o ∷ os) h = at_test (test o) (all_open_filter P test o
     at_test false rest = rest
 
 all_open_find : (P : Item → Type 0) (test : Open → Bool) (os : List Open) (o : Open) → find test os ≡ Some o → AllByRecursion P (items_open os) → AllByRecursion P o.batch.items
-all_open_find P test [] o e h = absurd cc
-all_open_find P test (x ∷ os) o e h = at_test (test x) e (λ (e' : find test os ≡ Some o). all_open_find P test os o e' (all_back P x.batch.items (items_open os) h))
-  where
-    at_test : (b : Bool) → cond b (Some x) (find test os) ≡ Some o → (find test os ≡ Some o → AllByRecursion P o.batch.items) → AllByRecursion P o.batch.items
-    at_test true same later = let is : x ≡ o = cc in subst (λ (y : Open). AllByRecursion P y.batch.items) is (all_front P x.batch.items (items_open os) h)
-    at_test false same later = later same
+all_open_find P test os o e h =
+    let i = (found test os o e).0 in
+    all_front P o.batch.items (items_open i.later) (all_back P (items_open i.earlier) (o.batch.items ++ items_open i.later)
+    (subst (AllByRecursion P) (ap items_open i.split ∙ flat_map-append (λ (x : Open). x.batch.items) i.earlier (o ∷ i.later)) h))
 
 none_awaits : (k : ℕ) (os : List Open) → attempt_count k os ≡ 0 → filter (λ o. not (awaits k o)) os ≡ os
 none_awaits k [] e = refl
@@ -141,31 +140,23 @@ pub record Tells (t : Partition) (told : List Told) (t' : Partition) : Type 1 wh
   pub told_from : (P : Item → Type 0) → AllByRecursion P (untold t) → AllByRecursion P (items_told told)
   pub left_from : (P : Item → Type 0) → AllByRecursion P (untold t) → AllByRecursion P (untold t')
   pub weighs : (f : Item → ℕ) → weigh f (items_told told) + weigh f (untold t') ≡ weigh f (untold t)
-  pub attempts : (k : ℕ) → attempt_count k t'.open_batches ≤ attempt_count k t.open_batches
 
 -- nothing is told, and the items that are not told are the same
-pub tells_same : (t t' : Partition) → items_queued t.queue ≡ items_queued t'.queue → untold t' ≡ untold t
-    → ((k : ℕ) → attempt_count k t'.open_batches ≤ attempt_count k t.open_batches) → Tells t [] t'
-tells_same t t' queue same attempts = record {
+pub tells_same : (t t' : Partition) → items_queued t.queue ≡ items_queued t'.queue → untold t' ≡ untold t → Tells t [] t'
+tells_same t t' queue same = record {
   queue = queue;
   told_from = λ P h. tt;
   left_from = λ P h. subst (AllByRecursion P) (sym same) h;
   weighs = λ f. let e : weigh f (untold t') ≡ weigh f (untold t) = ap (weigh f) same in omega (arith, e);
-  attempts = attempts;
 }
 
 pub tells_nothing : (t : Partition) → Tells t [] t
-tells_nothing t = tells_same t t refl refl (λ k. omega arith)
-
-dropped_quiet : (k now : ℕ) (a : Attempt) → (if is_attempt_in k (dropped_attempt now a) then 1 else 0) ≤ (if is_attempt_in k a then 1 else 0)
-dropped_quiet k now (InFlight c) = omega arith
-dropped_quiet k now (Waiting since) = omega arith
+tells_nothing t = tells_same t t refl refl
 
 pub tells_dropped : (now : ℕ) (t : Partition) → Tells t [] (without_attempts now t)
 unfolding untold
 tells_dropped now t =
     tells_same t (without_attempts now t) refl (ap (λ r. r ++ items_queued t.queue) (open_map (dropped_batch now) (λ o. refl) t.open_batches))
-    (λ k. weigh_map (attempts_of k) (dropped_batch now) (λ o. dropped_quiet k now o.attempt) t.open_batches)
 
 queued_map : (q : List Pending) → items_queued (map marked_by_flush q) ≡ items_queued q
 queued_map [] = refl
@@ -176,7 +167,6 @@ unfolding untold
 tells_marked t =
     tells_same t (with_marks t) (sym (queued_map t.queue))
     (ap (λ r. r ++ items_queued (map marked_by_flush t.queue)) (open_map marked_open (λ o. refl) t.open_batches) ∙ ap (λ r. items_open t.open_batches ++ r) (queued_map t.queue))
-    (λ k. weigh_map (attempts_of k) marked_open (λ o. omega arith) t.open_batches)
 
 -- ---- giving up
 
@@ -199,7 +189,6 @@ tells_fenced t = record {
   told_from = λ P h. subst (AllByRecursion P) (sym (given_up_items reason.Fenced t)) h;
   left_from = λ P h. tt;
   weighs = λ f. let e : weigh f (items_told (told_given_up reason.Fenced t)) ≡ weigh f (items_open t.open_batches ++ items_queued t.queue) = ap (weigh f) (given_up_items reason.Fenced t) in omega (arith, e);
-  attempts = λ k. omega arith;
 }
 
 pub tells_given_up : (t : Partition) → Tells t (given_up t).told (given_up t).after
@@ -209,7 +198,6 @@ tells_given_up t = record {
   told_from = λ P h. subst (AllByRecursion P) (sym (given_up_items reason.Ended t)) h;
   left_from = λ P h. tt;
   weighs = λ f. let e : weigh f (items_told (told_given_up reason.Ended t)) ≡ weigh f (items_open t.open_batches ++ items_queued t.queue) = ap (weigh f) (given_up_items reason.Ended t) in omega (arith, e);
-  attempts = λ k. omega arith;
 }
 
 -- ---- expiry
@@ -240,7 +228,6 @@ tells_expired c now t =
           let after : weigh f (items_open t.open_batches ++ items_queued (behind_late c now t.queue)) ≡ weigh f (items_open t.open_batches) + weigh f (items_queued (behind_late c now t.queue)) = weigh-append f (items_open t.open_batches) behind in
           let parts : weigh f (items_queued t.queue) ≡ weigh f (items_queued (late_front c now t.queue)) + weigh f (items_queued (behind_late c now t.queue)) = ap (weigh f) split ∙ weigh-append f late behind in
           omega (arith, told, before, after, parts);
-      attempts = λ k. omega arith;
     }
 
 pub tells_passed : (c : Config) (now : ℕ) (t : Partition) → Tells t (passed c now t).told (passed c now t).after
@@ -253,25 +240,10 @@ tells_passed c now t = at_test (list_any (is_open_late c now) t.open_batches)
 
 -- ---- an answer
 
-same_waiting : (now k : ℕ) (o : Open) → (waiting_since now k o).batch ≡ o.batch
-same_waiting now k o = at_test (awaits k o)
-  where
-    at_test : (b : Bool) → (if b then (record o { attempt = Waiting now }) else o).batch ≡ o.batch
-    at_test true = refl
-    at_test false = refl
-
-waiting_quiet : (j now k : ℕ) (o : Open) → attempts_of j (waiting_since now k o) ≤ attempts_of j o
-waiting_quiet j now k o = at_test (awaits k o)
-  where
-    at_test : (b : Bool) → attempts_of j (if b then (record o { attempt = Waiting now }) else o) ≤ attempts_of j o
-    at_test true = omega arith
-    at_test false = omega arith
-
 tells_retry : (now k : ℕ) (t : Partition) → Tells t [] (to_retry now k t).after
 unfolding untold
 tells_retry now k t =
     tells_same t (to_retry now k t).after refl (ap (λ r. r ++ items_queued t.queue) (open_map (waiting_since now k) (same_waiting now k) t.open_batches))
-    (λ j. weigh_map (attempts_of j) (waiting_since now k) (waiting_quiet j now k) t.open_batches)
 
 tells_without : (k : ℕ) (t : Partition) (o : Open) (told : List Told) → attempt_count k t.open_batches ≤ 1 → awaiting k t ≡ Some o → unsent_among told ≡ [] → items_told told ≡ o.batch.items
     → Tells t told (without_attempt k t)
@@ -288,7 +260,6 @@ tells_without k t o told one at none items = record {
       let before : weigh f (items_open t.open_batches ++ items_queued t.queue) ≡ weigh f (items_open t.open_batches) + weigh f (items_queued t.queue) = weigh-append f (items_open t.open_batches) (items_queued t.queue) in
       let after : weigh f (items_open (without_attempt k t).open_batches ++ items_queued t.queue) ≡ weigh f (items_open (without_attempt k t).open_batches) + weigh f (items_queued t.queue) = weigh-append f (items_open (without_attempt k t).open_batches) (items_queued t.queue) in
       omega (arith, gone, open_left, before, after);
-  attempts = λ j. weigh_filter (attempts_of j) (λ x. not (awaits k x)) t.open_batches;
 }
 
 pub tells_both : (t u v : Partition) (a b : List Told) → unsent_among a ≡ [] → items_queued t.queue ≡ items_queued u.queue → Tells t a u → Tells u b v → Tells t (a ++ b) v
@@ -301,7 +272,6 @@ tells_both t u v a b none same c d = record {
       let first : weigh f (items_told a) + weigh f (untold u) ≡ weigh f (untold t) = c.weighs f in
       let second : weigh f (items_told b) + weigh f (untold v) ≡ weigh f (untold u) = d.weighs f in
       omega (arith, told, first, second);
-  attempts = λ k. let first : attempt_count k u.open_batches ≤ attempt_count k t.open_batches = c.attempts k in let second : attempt_count k v.open_batches ≤ attempt_count k u.open_batches = d.attempts k in omega (arith, first, second);
 }
 
 acknowledged_as : (t : Partition) (told : List Told) (u v : Partition) → u.queue ≡ v.queue → u.open_batches ≡ v.open_batches → Tells t told u → Tells t told v
@@ -311,10 +281,9 @@ acknowledged_as t told u v queue opens c = record {
   told_from = c.told_from;
   left_from = λ P h. subst (AllByRecursion P) (ap (λ (os : List Open). items_open os ++ items_queued u.queue) opens ∙ ap (λ (q : List Pending). items_open v.open_batches ++ items_queued q) queue) (c.left_from P h);
   weighs = λ f. ap (λ (r : List Item). weigh f (items_told told) + weigh f r) (sym (ap (λ (os : List Open). items_open os ++ items_queued u.queue) opens ∙ ap (λ (q : List Pending). items_open v.open_batches ++ items_queued q) queue)) ∙ c.weighs f;
-  attempts = λ k. subst (λ (os : List Open). attempt_count k os ≤ attempt_count k t.open_batches) opens (c.attempts k);
 }
 
-pub tells_answered : (now k : ℕ) (t : Partition) (a : PartitionProduceResponse) → attempt_count k t.open_batches ≤ 1 → Tells t (answered now k t a).told (answered now k t a).after
+pub tells_answered : (now k : ℕ) (t : Partition) (a : PartitionProduceResponse) → ((o : Open) → awaiting k t ≡ Some o → attempt_count k t.open_batches ≤ 1) → Tells t (answered now k t a).told (answered now k t a).after
 unfolding answered
 tells_answered now k t a one = at_option (awaiting k t) refl
   where
@@ -323,17 +292,17 @@ tells_answered now k t a one = at_option (awaiting k t) refl
         let told = told_offsets a.base_offset o.batch.items in
         let offset : ℕ → Outcome = λ n. Delivered (a.base_offset +ℤ pos n) in
         acknowledged_as t told (without_attempt k t) (acknowledged k t o told).after refl refl
-        (tells_without k t o told one at (unsent_offsets offset (λ n. refl) 0 o.batch.items) (told_offsets_items offset 0 o.batch.items))
+        (tells_without k t o told (one o at) at (unsent_offsets offset (λ n. refl) 0 o.batch.items) (told_offsets_items offset 0 o.batch.items))
     at_verdict o at Duplicate =
         let told = told_all DeliveredNoOffset o.batch.items in
         acknowledged_as t told (without_attempt k t) (acknowledged k t o told).after refl refl
-        (tells_without k t o told one at (unsent_none DeliveredNoOffset o.batch.items refl) (told_all_items DeliveredNoOffset o.batch.items))
+        (tells_without k t o told (one o at) at (unsent_none DeliveredNoOffset o.batch.items refl) (told_all_items DeliveredNoOffset o.batch.items))
     at_verdict o at Retry = tells_retry now k t
     at_verdict o at Reject =
         let told = told_all (Rejected a.error_code) o.batch.items in
         let none = unsent_none (Rejected a.error_code) o.batch.items refl in
         tells_both t (without_attempt k t) (fenced (without_attempt k t)).after told (fenced (without_attempt k t)).told none refl
-        (tells_without k t o told one at none (told_all_items (Rejected a.error_code) o.batch.items))
+        (tells_without k t o told (one o at) at none (told_all_items (Rejected a.error_code) o.batch.items))
         (tells_fenced (without_attempt k t))
 
     at_option : (o : Option Open) → awaiting k t ≡ o → Tells t (answered_if now k t a o).told (answered_if now k t a o).after

@@ -111,7 +111,7 @@ keeps_passed c now t = at_test (list_any (is_open_late c now) t.open_batches)
     at_test true = keeps_fenced t
     at_test false = keeps_expired c now t
 
-same_waiting : (now k : ℕ) (o : Open) → (waiting_since now k o).batch ≡ o.batch
+pub same_waiting : (now k : ℕ) (o : Open) → (waiting_since now k o).batch ≡ o.batch
 same_waiting now k o = at_test (awaits k o)
   where
     at_test : (b : Bool) → (if b then (record o { attempt = Waiting now }) else o).batch ≡ o.batch

@@ -41,7 +41,6 @@ pub mod HearingLemmas
 pub mod RunLemmas
 pub mod ReplayLemmas
 pub mod LogLawLemmas
-pub mod ItemLemmas
 pub mod DeliveredLemmas
 pub mod TruthLemmas
 pub mod StandingLemmas

@@ -29,7 +29,8 @@ use Rattle.kp_world.proofs.LawfulLemmas.{IsLawful}
 use Rattle.kp_world.proofs.PrefixLemmas.{Cut, own-append, own_known, follows, stored_landed}
 use Rattle.kp_world.proofs.RunLemmas.{lawful_reached}
 use Rattle.kp_world.proofs.SoundLemmas.{Sound, sents}
-use Rattle.kp_world.proofs.DeliveredLemmas.{DeliveredAt, Truly}
+use Rattle.kp_world.proofs.DeliveredLemmas.{DeliveredAt, Truly, items_split}
+use Rattle.kp_world.proofs.AccountLemmas.{items_of}
 use Rattle.kp_world.proofs.TruthLemmas.{IsTruthful, truthful_reached}
 
 -- ---- places among an id's records
@@ -133,10 +134,9 @@ own_before ids t handed h sound cut b i base s =
 
 stands_at : (n : ℕ) (w : World) (i : Item) (offset : ℤ) → IsLawful n w → DeliveredAt n w.handed w.logs i offset → StandsAt w i offset
 stands_at n w i offset g d = record {
-  earlier = items d.known.earlier ++ d.front;
-  later = d.back ++ items d.known.later;
-  handed = ap items d.known.split ∙ flat_map-append (λ (b : Batch). b.items) d.known.earlier (d.batch ∷ d.known.later) ∙ ap (λ z. items d.known.earlier ++ (z ++ items d.known.later)) d.items
-      ∙ ap (λ z. items d.known.earlier ++ z) (append_assoc d.front (i ∷ d.back) (items d.known.later)) ∙ sym (append_assoc (items d.known.earlier) d.front (i ∷ (d.back ++ items d.known.later)));
+  earlier = items_of d.known.earlier ++ d.front;
+  later = d.back ++ items_of d.known.later;
+  handed = items_split (handed_at i.partition w.handed) d.batch i d.front d.back d.known d.items;
   id = d.batch.id;
   known = contains_from_In (partition_of i.partition w).ids d.batch.id (both.sound.under d.batch d.known);
   before = d.stands.before ++ stored d.front;
@@ -147,12 +147,9 @@ stands_at n w i offset g d = record {
   place = ap length (own-append (partition_of i.partition w).ids d.stands.before (stored d.front) ∙ ap (λ z. own (partition_of i.partition w).ids d.stands.before ++ z) (own_known d.batch.id (partition_of i.partition w).ids (map body_of d.front) (both.sound.under d.batch d.known)))
       ∙ length-append (own (partition_of i.partition w).ids d.stands.before) (stored d.front)
       ∙ ap (λ (m : ℕ). m + length (stored d.front)) (own_before w.ids (partition_of i.partition w) (handed_at i.partition w.handed) (log_at i.partition w.logs) both.sound both.steady.cut d.batch d.known d.base d.stands)
-      ∙ ap (λ (m : ℕ). length (items d.known.earlier) + m) (length_stored d.front) ∙ sym (length-append (items d.known.earlier) d.front);
+      ∙ ap (λ (m : ℕ). length (items_of d.known.earlier) + m) (length_stored d.front) ∙ sym (length-append (items_of d.known.earlier) d.front);
 }
   where
-    items : List Batch → List Item
-    items bs = flat_map (λ (b : Batch). b.items) bs
-
     stored : List Item → List Stored
     stored is = stored_as (pos d.batch.id) (map body_of is)
 
@@ -166,7 +163,7 @@ stands_at n w i offset g d = record {
     both = g.agree i.partition d.within
 
 was_truly : (n : ℕ) (w : World) → IsTruthful n w → (t : Told) → WasTold w t → Truly n w.handed w.logs t
-was_truly n w g t x = g.told x.event (In-from_contains w.past x.event x.happened) t (In-from_contains x.event.told t x.told)
+was_truly n w g t x = g x.event (In-from_contains w.past x.event x.happened) t (In-from_contains x.event.told t x.told)
 
 pub told_offsets_stand : (c : Config) (partitions senders : ℕ) (es : List Event) (w : World) → IsReached c partitions senders es w → ToldOffsetsStand w
 told_offsets_stand c partitions senders es w r t offset x is =

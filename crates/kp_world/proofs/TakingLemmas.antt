@@ -2,7 +2,7 @@
 use Rattle.std.proofs.Common.{◌≡◌, ℕ, zero, suc, ◌+◌, ◌<◌, ◌≤◌, Bool, true, false, cond, List, [], ◌∷◌, ◌++◌, length, get_or, take, Some, refl, sym, ap, ◌∙◌, subst, arith, append_assoc, length-append}
 use Rattle.std.specs.Prelude.{flat_map, if◌then◌else◌, slice_get, slice_set, slice_index, slice_index_or, ◌==◌, ◌||◌}
 use Rattle.std.specs.List.{AllByRecursion, range_with_len}
-use Rattle.std.proofs.lemmas.Bool.{eqb-true, eq-eqb}
+use Rattle.std.proofs.lemmas.Bool.{eqb-true, eqb-false, eq-eqb, ne_eqb}
 use Rattle.std.proofs.lemmas.List.{append-nil, length-set, get_or-set_same, get_or-set_other, take-append-le}
 use Rattle.kp_accum.specs.declared.config.Config.{Config}
 use Rattle.kp_accum.specs.declared.item.Item.{Item}
@@ -16,7 +16,7 @@ use Rattle.kp_core.specs.Telling.{told_all}
 use Rattle.kp_world.specs.Accepting.{for_partition}
 use Rattle.kp_world.specs.Accounts.{of_sender, unsent_among}
 use Rattle.kp_world.specs.Client.{handed_at}
-use Rattle.kp_world.proofs.AccountLemmas.{items_of, taken_for, taken_of, all_taken, items_told-append, Accepts, Holds, Accounts, sender-append, partition-append, both-append}
+use Rattle.kp_world.proofs.AccountLemmas.{items_of, taken_for, taken_of, all_taken, items_told-append, Accepts, Accounts, sender-append, partition-append, both-append}
 use Rattle.kp_world.proofs.ConservationLemmas.{items_told, unsent-append}
 use Rattle.kp_world.proofs.WeightLemmas.{weigh, weigh-append, grown_at}
 use Rattle.kp_world.proofs.FateLemmas.{AreNumbered, numbered_more, numbered_back, Fates, fates_queued, fates_turned_away}
@@ -32,10 +32,7 @@ at_set {A = A} xs i j v d l = at_test (j == i) refl
   where
     at_test : (b : Bool) → (j == i) ≡ b → get_or (slice_set xs i v) j d ≡ (if b then v else get_or xs j d)
     at_test true is = let e : j ≡ i = eqb-true j i is in subst (λ (n : ℕ). get_or (slice_set xs i v) n d ≡ v) (sym e) (get_or-set_same xs i v d l)
-    at_test false is = get_or-set_other xs i j v d (λ (e : j ≡ i). differ (eq-eqb j i e) is)
-      where
-        differ : (j == i) ≡ true → (j == i) ≡ false → ⊥
-        differ same other = absurd cc
+    at_test false is = get_or-set_other xs i j v d (eqb-false j i is)
 
 flat_agrees : (F G : ℕ → List Item) → ((n : ℕ) → F n ≡ G n) → (ns : List ℕ) → flat_map F ns ≡ flat_map G ns
 flat_agrees F G h [] = refl
@@ -102,7 +99,6 @@ accounts_accepted core accepted taken handed told i a there known number = recor
   taken_count = a.taken_count ∙ sym (length-set accepted i.sender (slice_index_or accepted i.sender [] ++ i ∷ []));
   handed_count = a.handed_count;
   senders = λ s. subst (λ items. Accepts (length core.partitions) s items (slice_index taken s)) (sym (at_set accepted i.sender s (slice_index_or accepted i.sender [] ++ i ∷ []) [] there)) (accepts s (s == i.sender) refl);
-  each = a.each;
   home = a.home;
   requests = a.requests;
   fates = λ s p l. subst (λ t. Fates t (of_sender s (items_queued (partition_at p core.partitions).queue)) (of_sender s (items_of (handed_at p handed))) (of_sender s (for_partition p (unsent_among told))))
@@ -292,12 +288,11 @@ accepts_taken count s accepted taken i l next a s' = subst (Accepts count s' (sl
 
 pub accounts_turned_away : (why : Reason) (core core' : Core) (accepted : List (List Item)) (taken : List ℕ) (handed : List (List Batch)) (told : List Told) (s : ℕ) (i : Item)
     → Accounts core accepted taken handed told → s < length taken → IsNext (length core.partitions) s accepted taken i
-    → core'.partitions ≡ core.partitions → core'.requests ≡ core.requests → core'.correlation ≡ core.correlation → Accounts core' accepted (with_one s taken) handed (told ++ told_all (Unsent why) (i ∷ []))
-accounts_turned_away why core core' accepted taken handed told s i a l next same_partitions same_requests same_correlation = record {
+    → core'.partitions ≡ core.partitions → core'.requests ≡ core.requests → Accounts core' accepted (with_one s taken) handed (told ++ told_all (Unsent why) (i ∷ []))
+accounts_turned_away why core core' accepted taken handed told s i a l next same_partitions same_requests = record {
   taken_count = length-set taken s (slice_index taken s + 1) ∙ a.taken_count;
   handed_count = a.handed_count ∙ ap length (sym same_partitions);
   senders = λ s'. subst (λ (ts : List Partition). Accepts (length ts) s' (slice_index_or accepted s' []) (slice_index (with_one s taken) s')) (sym same_partitions) (accepts_taken (length core.partitions) s accepted taken i l next a.senders s');
-  each = λ p h. subst (λ (n : ℕ). Holds n (partition_at p core'.partitions) (handed_at p handed)) (sym same_correlation) (subst (λ (ts : List Partition). Holds core.correlation (partition_at p ts) (handed_at p handed)) (sym same_partitions) (a.each p (within p h)));
   home = λ p. subst (λ (ts : List Partition). AllByRecursion (λ x. x.partition ≡ p) (untold (partition_at p ts))) (sym same_partitions) (a.home p);
   requests = subst (AllByRecursion (λ (r : Request). Distinct r.partitions)) (sym same_requests) a.requests;
   fates = λ s' q h.
@@ -349,7 +344,6 @@ accounts_queued core accepted taken handed told s i a l next = record {
   taken_count = length-set taken s (slice_index taken s + 1) ∙ a.taken_count;
   handed_count = a.handed_count ∙ sym count;
   senders = λ s'. subst (λ (n : ℕ). Accepts n s' (slice_index_or accepted s' []) (slice_index (with_one s taken) s')) (sym count) (accepts_taken (length core.partitions) s accepted taken i l next a.senders s');
-  each = λ p h. subst (λ (t : Partition). Holds core.correlation t (handed_at p handed)) (sym (changed p (within p h))) (holds p (within p h) (is_in p (i.partition ∷ [])));
   home = home_past (in_queue i core).partitions (λ p h. subst (λ (t : Partition). AllByRecursion (λ x. x.partition ≡ p) (untold t)) (sym (changed p (within p h))) (at_home p (i.partition == p) refl));
   requests = a.requests;
   fates = λ s' q h.
@@ -361,7 +355,7 @@ accounts_queued core accepted taken handed told s i a l next = record {
       let before : weigh f (items_told told) + weigh f (flat_map untold core.partitions) ≡ weigh f (all_taken accepted taken) = a.weights f in
       let more : weigh f (all_taken accepted (with_one s taken)) ≡ weigh f (all_taken accepted taken) + f i = weigh_taken f (length core.partitions) s accepted taken i l a.taken_count next in
       let queue_more : weigh f (flat_map untold (in_queue i core).partitions) ≡ weigh f (flat_map untold core.partitions) + f i =
-      weigh_more f (f i) (new_partition 0) core.partitions (in_queue i core).partitions i.partition count next.known (one_more f) (λ p h ne. ap (weigh f) (ap untold (changed p h ∙ ap (λ (b : Bool). if b || false then with_queued core.config i (partition_at p core.partitions) else partition_at p core.partitions) (elsewhere p ne)))) in
+      weigh_more f (f i) (new_partition 0) core.partitions (in_queue i core).partitions i.partition count next.known (one_more f) (λ p h ne. ap (weigh f) (ap untold (changed p h ∙ ap (λ (b : Bool). if b || false then with_queued core.config i (partition_at p core.partitions) else partition_at p core.partitions) (ne_eqb i.partition p (λ (e : i.partition ≡ p). ne (sym e)))))) in
       omega (arith, before, more, queue_more);
 }
   where
@@ -375,19 +369,8 @@ accounts_queued core accepted taken handed told s i a l next = record {
         ≡ (if is_in p (i.partition ∷ []) then with_queued core.config i (partition_at p core.partitions) else partition_at p core.partitions)
     changed p h = at-changed_at (i.partition ∷ []) (λ p t. with_queued core.config i t) core.partitions p h
 
-    elsewhere : (p : ℕ) → (p ≡ i.partition → ⊥) → (i.partition == p) ≡ false
-    elsewhere p ne = at_test (i.partition == p) refl
-      where
-        at_test : (b : Bool) → (i.partition == p) ≡ b → b ≡ false
-        at_test true is = absurd (ne (sym (eqb-true i.partition p is)))
-        at_test false is = refl
-
     one_more : (f : Item → ℕ) → weigh f (untold (partition_at i.partition (changed_at (i.partition ∷ []) (λ p t. with_queued core.config i t) core.partitions))) ≡ weigh f (untold (partition_at i.partition core.partitions)) + f i
     one_more f = ap (weigh f) (ap untold (changed i.partition next.known ∙ ap (λ (b : Bool). if b || false then with_queued core.config i (partition_at i.partition core.partitions) else partition_at i.partition core.partitions) (eq-eqb i.partition i.partition refl))) ∙ weigh_queued f core.config i (partition_at i.partition core.partitions)
-
-    holds : (p : ℕ) → p < length core.partitions → (b : Bool) → Holds core.correlation (if b then with_queued core.config i (partition_at p core.partitions) else partition_at p core.partitions) (handed_at p handed)
-    holds p h true = let k = a.each p h in record { number = k.number; below = k.below; opens = k.opens; single = k.single; fresh = k.fresh }
-    holds p h false = a.each p h
 
     at_home : (p : ℕ) (b : Bool) → (i.partition == p) ≡ b → AllByRecursion (λ x. x.partition ≡ p) (untold (if b || false then with_queued core.config i (partition_at p core.partitions) else partition_at p core.partitions))
     at_home p true is = home_queued core.config i (partition_at p core.partitions) p (eqb-true i.partition p is) (a.home p)

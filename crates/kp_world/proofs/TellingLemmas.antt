@@ -1,34 +1,34 @@
 -- What a call on the core tells of each partition's items, and what it keeps.
-use Rattle.std.proofs.Common.{◌≡◌, ℕ, zero, suc, ◌+◌, ◌<◌, ◌≤◌, Bool, true, false, cond, List, [], ◌∷◌, ◌++◌, length, get_or, map, pos, Some, None, refl, sym, ap, ◌∙◌, subst, arith}
-use Rattle.std.specs.Prelude.{Option, if◌then◌else◌, find, flat_map, nat_abs, ◌==◌, ◌||◌}
+use Rattle.std.proofs.Common.{◌≡◌, ℕ, zero, suc, ◌+◌, ◌<◌, ◌≤◌, Bool, true, false, cond, List, [], ◌∷◌, ◌++◌, length, get_or, map, pos, Some, refl, sym, ap, ◌∙◌, subst, arith}
+use Rattle.std.specs.Prelude.{if◌then◌else◌, flat_map, nat_abs, ◌==◌, ◌||◌}
 use Rattle.std.specs.List.{AllByRecursion, filter, range_with_len}
-use Rattle.std.specs.Ordering.{int_eq}
-use Rattle.std.proofs.lemmas.Bool.{eqb-true, eq-eqb}
+use Rattle.std.proofs.lemmas.Bool.{eqb-true, eqb-false, eq-eqb, ne_eqb}
 use Rattle.std.proofs.lemmas.List.{append-nil, get_or-map, length-map}
 use Rattle.std.proofs.lemmas.List.Elements.{filter-append}
 use Rattle.kp_accum.specs.declared.item.Item.{Item}
-use Rattle.kp_frames.specs.declared.fault.FrameFault.TheVariants.{Mismatch}
 use Rattle.kp_frames.specs.declared.producer_id.InitProducerIdResponse.{InitProducerIdResponse}
 use Rattle.kp_frames.specs.declared.response.Response.{Response}
-use Rattle.kp_frames.specs.declared.response.ResponseBody.{ResponseBody}
-use Rattle.kp_frames.specs.declared.response.ResponseBody.TheVariants.{Produce, Metadata, InitProducerId}
-use Rattle.kp_core.specs.Attempts.{without_attempts, dropped, is_live}
-use Rattle.kp_core.specs.Awaited.{Awaited, Nothing, Batches, Id, id_awaited, or_id, awaited}
-use Rattle.kp_core.specs.Fence.{given_up, end_of, ended}
+use Rattle.kp_core.specs.Attempts.{awaiting, without_attempts, dropped, is_live}
+use Rattle.kp_core.specs.Fence.{given_up, ended}
 use Rattle.kp_core.specs.Flush.{with_marks, flushed}
 use Rattle.kp_core.specs.MaySend.{wants_id}
-use Rattle.kp_core.specs.Mismatch.{Answers, answers_for, answers_of, answer_batches, is_given, answers_id}
+use Rattle.kp_core.specs.Mismatch.{Answers, answers_for, is_given}
 use Rattle.kp_core.specs.Partitions.{partition_at, changed_at, new_partition, is_in, untold}
-use Rattle.kp_core.specs.Records.{Batch, Partition, Request, IdRequest, Core, Told, Effect, Step}
-use Rattle.kp_core.specs.Replies.{first_answered, answering, batches_answered, batches_replied, under, under_if_wanted, id_given, id_refused, id_answered, id_replied, replied_to, replied, after_end, faulty, known, Replies}
+use Rattle.kp_core.specs.Records.{Open, Partition, Request, IdRequest, Core, Told, Effect, Step}
+use Rattle.kp_core.specs.Replies.{first_answered, answering, under, under_if_wanted, id_given, id_refused, id_answered, replied, Replies}
 use Rattle.kp_core.specs.Telling.{with_partitions, at_each, told_at_each, at_these, told_at}
-use Rattle.kp_core.specs.Tick.{passed, has_timed_out, ticked_now, ticked_from, not_ticked, ticked, disconnected, closed}
+use Rattle.kp_core.specs.Tick.{passed, Ticks, ticked, disconnected, closed}
 use Rattle.kp_world.proofs.ConservationLemmas.{items_told, attempt_count, Tells, tells_same, tells_both, tells_nothing, tells_dropped, tells_marked, tells_given_up, tells_passed, tells_answered}
 use Rattle.kp_world.proofs.FateLemmas.{filter_all, filter_none}
 use Rattle.kp_world.proofs.WeightLemmas.{weigh, weigh-append, grown_at}
-use Rattle.kp_world.proofs.KeepingLemmas.{OpenIn, Keeps, keeps_same, keeps_dropped, keeps_given_up, keeps_passed, keeps_answered, keeps_marked, at-changed_at, length-changed_at}
-use Rattle.kp_core.proofs.ListLemmas.{all_append}
-use Rattle.kp_world.proofs.ListLemmas.{all_filter, all_weaker}
+use Rattle.kp_world.proofs.KeepingLemmas.{at-changed_at, length-changed_at}
+use Rattle.kp_core.specs.Causes.{IsAnswered}
+use Rattle.kp_frames.specs.declared.produce.PartitionProduceResponse.{PartitionProduceResponse}
+use Rattle.kp_core.proofs.OutcomeLemmas.{answered_so, in_flight, all_places}
+use Rattle.kp_core.proofs.CallLemmas.{at_closed, at_disconnected, at_ended, at_replied, at_ticked}
+use Rattle.kp_core.proofs.ListLemmas.{all_flat_map}
+use Rattle.kp_world.proofs.ListLemmas.{all_at, all_filter, all_weaker}
+use Rattle.kp_log.proofs.PlaceLemmas.{In-from_contains}
 
 -- ---- what is told, by partition
 
@@ -42,18 +42,11 @@ all_told : (P : Item → Type 0) (told : List Told) → AllByRecursion P (items_
 all_told P [] h = tt
 all_told P (t ∷ told) h = (h.0, all_told P told h.1)
 
-apart : (q p : ℕ) → (q ≡ p → ⊥) → (q == p) ≡ false
-apart q p ne = at_test (q == p) refl
-  where
-    at_test : (b : Bool) → (q == p) ≡ b → b ≡ false
-    at_test true is = absurd (ne (eqb-true q p is))
-    at_test false is = refl
-
 pub for_all : (p : ℕ) (told : List Told) → AllFor p told → told_for p told ≡ told
 for_all p told h = filter_all (λ t. t.item.partition == p) told (all_weaker (λ t. t.item.partition ≡ p) (λ t. (t.item.partition == p) ≡ true) (λ t e. eq-eqb t.item.partition p e) told h)
 
 pub for_none : (q p : ℕ) (told : List Told) → (q ≡ p → ⊥) → AllFor q told → told_for p told ≡ []
-for_none q p told ne h = filter_none (λ t. t.item.partition == p) told (all_weaker (λ t. t.item.partition ≡ q) (λ t. (t.item.partition == p) ≡ false) (λ t e. apart t.item.partition p (λ (same : t.item.partition ≡ p). ne (sym e ∙ same))) told h)
+for_none q p told ne h = filter_none (λ t. t.item.partition == p) told (all_weaker (λ t. t.item.partition ≡ q) (λ t. (t.item.partition == p) ≡ false) (λ t e. ne_eqb t.item.partition p (λ (same : t.item.partition ≡ p). ne (sym e ∙ same))) told h)
 
 for_append : (p : ℕ) (a b : List Told) → told_for p (a ++ b) ≡ told_for p a ++ told_for p b
 for_append p a b = filter-append (λ (t : Told). t.item.partition == p) a b
@@ -112,31 +105,7 @@ told_these g home (q ∷ qs) p h = for_append p (g q) (flat_map g qs) ∙ at_tes
         ∙ ap (λ r. g q ++ r) (rest ∙ ap (λ (b : Bool). if b then g p else []) none)
         ∙ append-nil (g q) ∙ ap g e
     at_test rest false is =
-        let ne : q ≡ p → ⊥ = λ (e : q ≡ p). differ (eq-eqb q p e) is in
-        ap (λ r. r ++ told_for p (flat_map g qs)) (for_none q p (g q) ne (home q)) ∙ rest
-      where
-        differ : (q == p) ≡ true → (q == p) ≡ false → ⊥
-        differ same other = absurd cc
-
--- ---- one partition
-
-pub record Part (t : Partition) (told : List Told) (t' : Partition) : Type 1 where
-  pub number : t'.next_number ≡ t.next_number
-  pub opens : (handed : List Batch) → OpenIn handed t.open_batches → OpenIn handed t'.open_batches
-  pub tells : Tells t told t'
-
-part_of : (t : Partition) (told : List Told) (t' : Partition) → Keeps t t' → Tells t told t' → Part t told t'
-part_of t told t' k c = record { number = k.number; opens = k.opens; tells = c }
-
-pub part_same : (t : Partition) → Part t [] t
-part_same t = part_of t [] t (keeps_same t) (tells_nothing t)
-
-part_then : (t u v : Partition) (told : List Told) → Part t [] u → Part u told v → Part t told v
-part_then t u v told a b = record {
-  number = b.number ∙ a.number;
-  opens = λ handed h. b.opens handed (a.opens handed h);
-  tells = tells_both t u v [] told refl a.tells.queue a.tells b.tells;
-}
+        ap (λ r. r ++ told_for p (flat_map g qs)) (for_none q p (g q) (eqb-false q p is) (home q)) ∙ rest
 
 -- ---- the core
 
@@ -145,20 +114,29 @@ AtHome ts = (p : ℕ) → AllByRecursion (λ i. i.partition ≡ p) (untold (part
 
 pub record CoreTells (s : Core) (told : List Told) (s' : Core) : Type 1 where
   pub count : length s'.partitions ≡ length s.partitions
-  pub each : (p : ℕ) → p < length s.partitions → Part (partition_at p s.partitions) (told_for p told) (partition_at p s'.partitions)
+  pub each : (p : ℕ) → p < length s.partitions → Tells (partition_at p s.partitions) (told_for p told) (partition_at p s'.partitions)
   pub requests : (P : Request → Type 0) → AllByRecursion P s.requests → AllByRecursion P s'.requests
-  pub correlation : s'.correlation ≡ s.correlation
   pub there : AllByRecursion (λ t. t.item.partition < length s.partitions) told
 
+-- the partitions are the same
+pub core_alike : (s s' : Core) → s'.partitions ≡ s.partitions → ((P : Request → Type 0) → AllByRecursion P s.requests → AllByRecursion P s'.requests) → CoreTells s [] s'
+core_alike s s' same requests = record {
+  count = ap length same;
+  each = λ p h. subst (Tells (partition_at p s.partitions) []) (sym (ap (partition_at p) same)) (tells_nothing (partition_at p s.partitions));
+  requests = requests;
+  there = tt;
+}
+
 pub core_nothing : (s : Core) → CoreTells s [] s
-core_nothing s = record { count = refl; each = λ p h. part_same (partition_at p s.partitions); requests = λ P h. h; correlation = refl; there = tt }
+core_nothing s = core_alike s s refl (λ P h. h)
 
 core_then : (s u v : Core) (told : List Told) → CoreTells s [] u → CoreTells u told v → CoreTells s told v
 core_then s u v told a b = record {
   count = b.count ∙ a.count;
-  each = λ p h. part_then (partition_at p s.partitions) (partition_at p u.partitions) (partition_at p v.partitions) (told_for p told) (a.each p h) (b.each p (subst (λ (n : ℕ). p < n) (sym a.count) h));
+  each = λ p h.
+      let first = a.each p h in
+      tells_both (partition_at p s.partitions) (partition_at p u.partitions) (partition_at p v.partitions) [] (told_for p told) refl first.queue first (b.each p (subst (λ (n : ℕ). p < n) (sym a.count) h));
   requests = λ P h. b.requests P (a.requests P h);
-  correlation = b.correlation ∙ a.correlation;
   there = subst (λ (n : ℕ). AllByRecursion (λ t. t.item.partition < n) told) a.count b.there;
 }
 
@@ -182,52 +160,33 @@ home_mapped f c ts home = home_past (map f ts) (λ p l.
     let within : p < length ts = omega (arith, l, size) in
     subst (λ (t : Partition). AllByRecursion (λ i. i.partition ≡ p) (untold t)) (sym (get_or-map f ts p (new_partition 0) (new_partition 0) within)) ((c (partition_at p ts)).left_from (λ i. i.partition ≡ p) (home p)))
 
-core_map : (f : Partition → Partition) → ((t : Partition) → Part t [] (f t)) → (s s' : Core) → s'.partitions ≡ map f s.partitions
-    → s'.correlation ≡ s.correlation → ((P : Request → Type 0) → AllByRecursion P s.requests → AllByRecursion P s'.requests) → CoreTells s [] s'
-core_map f k s s' e correlation requests = record {
+core_map : (f : Partition → Partition) → ((t : Partition) → Tells t [] (f t)) → (s s' : Core) → s'.partitions ≡ map f s.partitions
+    → ((P : Request → Type 0) → AllByRecursion P s.requests → AllByRecursion P s'.requests) → CoreTells s [] s'
+core_map f k s s' e requests = record {
   count = ap length e ∙ length-map s.partitions f;
-  each = λ p h. subst (Part (partition_at p s.partitions) []) (sym (ap (partition_at p) e ∙ get_or-map f s.partitions p (new_partition 0) (new_partition 0) h)) (k (partition_at p s.partitions));
+  each = λ p h. subst (Tells (partition_at p s.partitions) []) (sym (ap (partition_at p) e ∙ get_or-map f s.partitions p (new_partition 0) (new_partition 0) h)) (k (partition_at p s.partitions));
   requests = requests;
-  correlation = correlation;
   there = tt;
 }
 
 pub core_dropped : (now : ℕ) (s : Core) → CoreTells s [] (dropped now s)
 unfolding dropped
-core_dropped now s = core_map (without_attempts now) (λ t. part_of t [] (without_attempts now t) (keeps_dropped now t) (tells_dropped now t)) s (dropped now s) refl refl (λ P h. tt)
+core_dropped now s = core_map (without_attempts now) (tells_dropped now) s (dropped now s) refl (λ P h. tt)
 
 pub core_flushed : (s : Core) → CoreTells s [] (flushed s)
 unfolding flushed
-core_flushed s = core_map with_marks (λ t. part_of t [] (with_marks t) (keeps_marked t) (tells_marked t)) s (flushed s) refl refl (λ P h. h)
+core_flushed s = core_map with_marks tells_marked s (flushed s) refl (λ P h. h)
 
 pub core_disconnected : (now : ℕ) (s : Core) → CoreTells s [] (disconnected now s)
-unfolding disconnected
-core_disconnected now s = at_end s.ended
-  where
-    at_end : (b : Bool) → CoreTells s [] (if b then s else dropped now s)
-    at_end true = core_nothing s
-    at_end false = core_dropped now s
+core_disconnected now s = at_disconnected (CoreTells s []) now s (core_nothing s) (core_dropped now s)
 
 pub core_closed : (s : Core) → CoreTells s [] (closed s)
-unfolding closed
-core_closed s = at_end s.ended
-  where
-    at_end : (b : Bool) → CoreTells s [] (if b then s else record s { closing = true })
-    at_end true = core_nothing s
-    at_end false = record { count = refl; each = λ p h. part_same (partition_at p s.partitions); requests = λ P h. h; correlation = refl; there = tt }
+core_closed s = at_closed (CoreTells s []) s (core_nothing s) (core_alike s (record s { closing = true }) refl (λ P h. h))
 
-pub all_flat_places : (P : Told → Type 0) (f : Partition → List Told) (ts : List Partition) (d : Partition) → ((q : ℕ) → q < length ts → AllByRecursion P (f (get_or ts q d))) → AllByRecursion P (flat_map f ts)
-all_flat_places P f [] d h = tt
-all_flat_places P f (t ∷ ts) d h = all_append P (f t) (flat_map f ts) (h 0 (omega arith)) (all_flat_places P f ts d (λ q l. h (suc q) (omega (arith, l))))
-
-pub all_flat : (P : Told → Type 0) (g : ℕ → List Told) → ((q : ℕ) → AllByRecursion P (g q)) → (ps : List ℕ) → AllByRecursion P (flat_map g ps)
-all_flat P g h [] = tt
-all_flat P g h (q ∷ ps) = all_append P (g q) (flat_map g ps) (h q) (all_flat P g h ps)
-
-core_at_each : (rule : Partition → Effect) → ((t : Partition) → Keeps t (rule t).after) → ((t : Partition) → Tells t (rule t).told (rule t).after)
+core_at_each : (rule : Partition → Effect) → ((t : Partition) → Tells t (rule t).told (rule t).after)
     → (s : Core) → AtHome s.partitions → CoreTells s (told_at_each rule s) (at_each rule s)
 unfolding at_each told_at_each with_partitions
-core_at_each rule keeps tells s home = record {
+core_at_each rule tells s home = record {
   count = length-map s.partitions (λ t. (rule t).after);
   each = λ p h.
       let t = partition_at p s.partitions in
@@ -237,36 +196,34 @@ core_at_each rule keeps tells s home = record {
       (λ q l. let same : q ≡ 0 + q = omega arith in subst (λ (n : ℕ). AllFor n (rule (partition_at q s.partitions)).told) same
       (all_told (λ i. i.partition ≡ q) (rule (partition_at q s.partitions)).told ((tells (partition_at q s.partitions)).told_from (λ i. i.partition ≡ q) (home q)))) in
       let after : partition_at p (map (λ t. (rule t).after) s.partitions) ≡ (rule (partition_at p s.partitions)).after = get_or-map (λ t. (rule t).after) s.partitions p (new_partition 0) (new_partition 0) h in
-      subst (λ (u : Partition). Part (partition_at p s.partitions) (told_for p (flat_map (λ t. (rule t).told) s.partitions)) u) (sym after)
-      (subst (λ (x : List Told). Part (partition_at p s.partitions) x (rule (partition_at p s.partitions)).after) (sym told)
-      (part_of (partition_at p s.partitions) (rule (partition_at p s.partitions)).told (rule (partition_at p s.partitions)).after (keeps (partition_at p s.partitions)) (tells (partition_at p s.partitions))));
+      subst (λ (u : Partition). Tells (partition_at p s.partitions) (told_for p (flat_map (λ t. (rule t).told) s.partitions)) u) (sym after)
+      (subst (λ (x : List Told). Tells (partition_at p s.partitions) x (rule (partition_at p s.partitions)).after) (sym told)
+      (tells (partition_at p s.partitions)));
   requests = λ P h. all_filter P (is_live (map (λ t. (rule t).after) s.partitions)) s.requests h;
-  correlation = refl;
-  there = all_flat_places (λ (t : Told). t.item.partition < length s.partitions) (λ t. (rule t).told) s.partitions (new_partition 0)
-      (λ q l. all_told (λ i. i.partition < length s.partitions) (rule (partition_at q s.partitions)).told ((tells (partition_at q s.partitions)).told_from (λ i. i.partition < length s.partitions) (home_below s.partitions home q)));
+  there = all_places (λ (t : Told). t.item.partition < length s.partitions) (λ t. (rule t).told) s.partitions
+      (λ q. all_told (λ i. i.partition < length s.partitions) (rule (partition_at q s.partitions)).told ((tells (partition_at q s.partitions)).told_from (λ i. i.partition < length s.partitions) (home_below s.partitions home q)));
 }
 
-core_at_these : (ps : List ℕ) (rule : ℕ → Partition → Effect) → ((p : ℕ) (t : Partition) → Keeps t (rule p t).after) → (s : Core)
+core_at_these : (ps : List ℕ) (rule : ℕ → Partition → Effect) → (s : Core)
     → ((p : ℕ) → Tells (partition_at p s.partitions) (rule p (partition_at p s.partitions)).told (rule p (partition_at p s.partitions)).after) → Distinct ps → AtHome s.partitions → CoreTells s (told_at ps rule s) (at_these ps rule s)
 unfolding at_these told_at with_partitions
-core_at_these ps rule keeps s tells distinct home = record {
+core_at_these ps rule s tells distinct home = record {
   count = length-changed_at ps (λ p t. (rule p t).after) s.partitions;
   each = λ p h.
       let told : told_for p (flat_map (λ q. (rule q (partition_at q s.partitions)).told) ps) ≡ (if is_in p ps then (rule p (partition_at p s.partitions)).told else []) =
       told_these (λ q. (rule q (partition_at q s.partitions)).told)
       (λ q. all_told (λ i. i.partition ≡ q) (rule q (partition_at q s.partitions)).told ((tells q).told_from (λ i. i.partition ≡ q) (home q))) ps p distinct in
-      subst (λ (u : Partition). Part (partition_at p s.partitions) (told_for p (flat_map (λ q. (rule q (partition_at q s.partitions)).told) ps)) u) (sym (at-changed_at ps (λ p t. (rule p t).after) s.partitions p h))
-      (subst (λ (x : List Told). Part (partition_at p s.partitions) x (if is_in p ps then (rule p (partition_at p s.partitions)).after else partition_at p s.partitions)) (sym told)
+      subst (λ (u : Partition). Tells (partition_at p s.partitions) (told_for p (flat_map (λ q. (rule q (partition_at q s.partitions)).told) ps)) u) (sym (at-changed_at ps (λ p t. (rule p t).after) s.partitions p h))
+      (subst (λ (x : List Told). Tells (partition_at p s.partitions) x (if is_in p ps then (rule p (partition_at p s.partitions)).after else partition_at p s.partitions)) (sym told)
       (at_test p (is_in p ps)));
   requests = λ P h. all_filter P (is_live (changed_at ps (λ p t. (rule p t).after) s.partitions)) s.requests h;
-  correlation = refl;
-  there = all_flat (λ (t : Told). t.item.partition < length s.partitions) (λ q. (rule q (partition_at q s.partitions)).told)
-      (λ q. all_told (λ i. i.partition < length s.partitions) (rule q (partition_at q s.partitions)).told ((tells q).told_from (λ i. i.partition < length s.partitions) (home_below s.partitions home q))) ps;
+  there = all_flat_map (λ (t : Told). t.item.partition < length s.partitions) (λ q. (rule q (partition_at q s.partitions)).told) ps
+      (λ q c. all_told (λ i. i.partition < length s.partitions) (rule q (partition_at q s.partitions)).told ((tells q).told_from (λ i. i.partition < length s.partitions) (home_below s.partitions home q)));
 }
   where
-    at_test : (p : ℕ) (b : Bool) → Part (partition_at p s.partitions) (if b then (rule p (partition_at p s.partitions)).told else []) (if b then (rule p (partition_at p s.partitions)).after else partition_at p s.partitions)
-    at_test p true = part_of (partition_at p s.partitions) (rule p (partition_at p s.partitions)).told (rule p (partition_at p s.partitions)).after (keeps p (partition_at p s.partitions)) (tells p)
-    at_test p false = part_same (partition_at p s.partitions)
+    at_test : (p : ℕ) (b : Bool) → Tells (partition_at p s.partitions) (if b then (rule p (partition_at p s.partitions)).told else []) (if b then (rule p (partition_at p s.partitions)).after else partition_at p s.partitions)
+    at_test p true = tells p
+    at_test p false = tells_nothing (partition_at p s.partitions)
 
 -- ---- weighed
 
@@ -291,10 +248,7 @@ told_parts g n (t ∷ told) h =
     here = ap (λ (b : Bool). weigh g (cond b (t ∷ told_for t.item.partition told) (told_for t.item.partition told))) (eq-eqb t.item.partition t.item.partition refl) ∙ (let swap : g t + weigh g (told_for t.item.partition told) ≡ weigh g (told_for t.item.partition told) + g t = omega arith in swap)
 
     other : (p : ℕ) → (p == t.item.partition) ≡ false → weigh g (cond (t.item.partition == p) (t ∷ told_for p told) (told_for p told)) ≡ weigh g (told_for p told)
-    other p is = ap (λ (b : Bool). weigh g (cond b (t ∷ told_for p told) (told_for p told))) (apart t.item.partition p (λ (e : t.item.partition ≡ p). differ (eq-eqb p t.item.partition (sym e)) is))
-      where
-        differ : (p == t.item.partition) ≡ true → (p == t.item.partition) ≡ false → ⊥
-        differ same other = absurd cc
+    other p is = ap (λ (b : Bool). weigh g (cond b (t ∷ told_for p told) (told_for p told))) (ne_eqb t.item.partition p (λ (e : t.item.partition ≡ p). eqb-false p t.item.partition is (sym e)))
 
 -- place by place
 weigh_places : (f : Item → ℕ) (told : List Told) (k : ℕ) (ts ts' : List Partition) (d : Partition) → length ts' ≡ length ts
@@ -319,7 +273,7 @@ pub core_weighs : (s : Core) (told : List Told) (s' : Core) → CoreTells s told
     → weigh f (items_told told) + weigh f (flat_map untold s'.partitions) ≡ weigh f (flat_map untold s.partitions)
 core_weighs s told s' k f =
     let places : weigh (λ (t : Told). f t.item) (flat_map (λ p. told_for p told) (range_with_len 0 (length s.partitions))) + weigh f (flat_map untold s'.partitions) ≡ weigh f (flat_map untold s.partitions) =
-    weigh_places f told 0 s.partitions s'.partitions (new_partition 0) k.count (λ q l. let same : q ≡ 0 + q = omega arith in subst (λ (n : ℕ). weigh f (items_told (told_for n told)) + weigh f (untold (partition_at q s'.partitions)) ≡ weigh f (untold (partition_at q s.partitions))) same ((k.each q l).tells.weighs f)) in
+    weigh_places f told 0 s.partitions s'.partitions (new_partition 0) k.count (λ q l. let same : q ≡ 0 + q = omega arith in subst (λ (n : ℕ). weigh f (items_told (told_for n told)) + weigh f (untold (partition_at q s'.partitions)) ≡ weigh f (untold (partition_at q s.partitions))) same ((k.each q l).weighs f)) in
     let parts : weigh (λ (t : Told). f t.item) (flat_map (λ p. told_for p told) (range_with_len 0 (length s.partitions))) ≡ weigh (λ (t : Told). f t.item) told = told_parts (λ (t : Told). f t.item) (length s.partitions) told k.there in
     let items : weigh f (items_told told) ≡ weigh (λ (t : Told). f t.item) told = weigh_items f told in
     omega (arith, places, parts, items)
@@ -331,138 +285,68 @@ unfolding dropped
 home_dropped now s home = home_mapped (without_attempts now) (tells_dropped now) s.partitions home
 
 pub core_ticked : (now : ℕ) (s : Core) → AtHome s.partitions → CoreTells s (ticked now s).told (ticked now s).after
-unfolding ticked
-core_ticked now s home = at_end s.ended
-  where
-    at_test : (b : Bool) → CoreTells s (if b then ticked_from now true (dropped now s) else ticked_from now false s).told (if b then ticked_from now true (dropped now s) else ticked_from now false s).after
-    at_test true =
-        let u = dropped now s in
-        core_then s u (at_each (passed (dropped now s).config now) (dropped now s)) (told_at_each (passed (dropped now s).config now) (dropped now s)) (core_dropped now s)
-        (core_at_each (passed (dropped now s).config now) (keeps_passed (dropped now s).config now) (tells_passed (dropped now s).config now) (dropped now s) (home_dropped now s home))
-    at_test false = core_at_each (passed s.config now) (keeps_passed s.config now) (tells_passed s.config now) s home
-
-    at_end : (b : Bool) → CoreTells s (if b then not_ticked s else ticked_now now s).told (if b then not_ticked s else ticked_now now s).after
-    at_end true = core_nothing s
-    at_end false = at_test (has_timed_out now s)
-
-abbrev end_step : Core → Bool → Step (Unit {0})
-end_step s b = if b then (record { after = s; told = []; answer = tt }) else record { after = end_of s; told = told_at_each given_up s; answer = tt }
+core_ticked now s home = at_ticked (λ (x : Ticks). CoreTells s x.told x.after) now s (record {
+  ended = core_nothing s;
+  timed_out = core_then s (dropped now s) (at_each (passed (dropped now s).config now) (dropped now s)) (told_at_each (passed (dropped now s).config now) (dropped now s)) (core_dropped now s)
+      (core_at_each (passed (dropped now s).config now) (tells_passed (dropped now s).config now) (dropped now s) (home_dropped now s home));
+  on_time = core_at_each (passed s.config now) (tells_passed s.config now) s home;
+})
 
 pub core_ended : (s : Core) → AtHome s.partitions → CoreTells s (ended s).told (ended s).after
-unfolding ended
-core_ended s home = at_end s.ended
+core_ended s home = at_ended (λ (x : Step (Unit {0})). CoreTells s x.told x.after) s (core_nothing s) (record { count = k.count; each = k.each; requests = k.requests; there = k.there })
   where
     k : CoreTells s (told_at_each given_up s) (at_each given_up s)
-    k = core_at_each given_up keeps_given_up tells_given_up s home
-
-    at_end : (b : Bool) → CoreTells s (end_step s b).told (end_step s b).after
-    at_end true = core_nothing s
-    at_end false = record { count = k.count; each = k.each; requests = k.requests; correlation = k.correlation; there = k.there }
+    k = core_at_each given_up tells_given_up s home
 
 -- ---- a reply
 
-find_all : (P : Request → Type 0) (test : Request → Bool) (rs : List Request) (r : Request) → find test rs ≡ Some r → AllByRecursion P rs → P r
-find_all P test [] r e h = absurd cc
-find_all P test (x ∷ rs) r e h = at_test (test x) e (λ (e' : find test rs ≡ Some r). find_all P test rs r e' h.1)
+tells_answering : (now k : ℕ) (answers : Answers) (p : ℕ) (t : Partition)
+    → ((a : PartitionProduceResponse) (rest : Answers) → answers_for p answers ≡ a ∷ rest → (o : Open) → awaiting k t ≡ Some o → attempt_count k t.open_batches ≤ 1)
+    → Tells t (answering now k answers p t).told (answering now k answers p t).after
+tells_answering now k answers p t one = at_first (answers_for p answers) refl
   where
-    at_test : (b : Bool) → cond b (Some x) (find test rs) ≡ Some r → (find test rs ≡ Some r → P r) → P r
-    at_test true same later = let is : x ≡ r = cc in subst P is h.0
-    at_test false same later = later same
+    at_first : (xs : Answers) → answers_for p answers ≡ xs → Tells t (first_answered now k t xs).told (first_answered now k t xs).after
+    at_first [] is = tells_nothing t
+    at_first (a ∷ xs) is = tells_answered now k t a (one a xs is)
 
-awaited_batches : (P : Request → Type 0) (k : _) (s : Core) (r : Request) → awaited k s ≡ Batches r → AllByRecursion P s.requests → P r
-unfolding awaited
-awaited_batches P k s r e h = at_request (find (λ (x : Request). int_eq (pos x.correlation) k) s.requests) refl e
-  where
-    at_id : (q : IdRequest) (b : Bool) → (if b then Id q else Nothing) ≡ Batches r → ⊥
-    at_id q true e' = absurd cc
-    at_id q false e' = absurd cc
+-- where the response answers a batch of a partition, that is the only one of the partition in its request
+abbrev pub IsSingle : Core → Response → Type 0
+IsSingle s response = (p k : ℕ) (o : Open) (a : PartitionProduceResponse) → IsAnswered s response p o a → pos k ≡ response.correlation → attempt_count k (partition_at p s.partitions).open_batches ≤ 1
 
-    at_option : (o : Option IdRequest) → id_awaited k o ≡ Batches r → ⊥
-    at_option None e' = absurd cc
-    at_option (Some q) e' = at_id q (int_eq (pos q.correlation) k) e'
-
-    at_request : (o : Option Request) → find (λ (x : Request). int_eq (pos x.correlation) k) s.requests ≡ o → or_id k s o ≡ Batches r → P r
-    at_request (Some x) is e' = let same : x ≡ r = cc in subst P same (find_all P (λ (x : Request). int_eq (pos x.correlation) k) s.requests x is h)
-    at_request None is e' = absurd (at_option s.id_request e')
-
-keeps_answering : (now k : ℕ) (answers : Answers) (p : ℕ) (t : Partition) → Keeps t (answering now k answers p t).after
-keeps_answering now k answers p t = at_first (answers_for p answers)
-  where
-    at_first : (xs : Answers) → Keeps t (first_answered now k t xs).after
-    at_first [] = keeps_same t
-    at_first (a ∷ xs) = keeps_answered now k t a
-
-tells_answering : (now k : ℕ) (answers : Answers) (p : ℕ) (t : Partition) → attempt_count k t.open_batches ≤ 1 → Tells t (answering now k answers p t).told (answering now k answers p t).after
-tells_answering now k answers p t one = at_first (answers_for p answers)
-  where
-    at_first : (xs : Answers) → Tells t (first_answered now k t xs).told (first_answered now k t xs).after
-    at_first [] = tells_nothing t
-    at_first (a ∷ xs) = tells_answered now k t a one
-
-abbrev batches_step : ℕ → Request → Core → Answers → Bool → Replies
-batches_step now r s answers b = if b then batches_answered now r answers s else faulty Mismatch s
-
--- of each partition at most one batch is in a request
-abbrev pub AreSingle : List Partition → Type 0
-AreSingle ts = (p k : ℕ) → attempt_count k (partition_at p ts).open_batches ≤ 1
-
-core_batches : (now : ℕ) (r : Request) (s : Core) (o : Option Answers) → AreSingle s.partitions → Distinct r.partitions → AtHome s.partitions → CoreTells s (batches_replied now r s o).told (batches_replied now r s o).after
-core_batches now r s None single distinct home = core_nothing s
-core_batches now r s (Some answers) single distinct home = at_test (answer_batches r.correlation r.partitions s.partitions answers)
-  where
-    at_test : (b : Bool) → CoreTells s (batches_step now r s answers b).told (batches_step now r s answers b).after
-    at_test true = core_at_these r.partitions (answering now r.correlation answers) (keeps_answering now r.correlation answers) s (λ p. tells_answering now r.correlation answers p (partition_at p s.partitions) (single p r.correlation)) distinct home
-    at_test false = core_nothing s
-
-part_under : (id : ℕ) (t : Partition) → Part t [] (under id t)
+tells_under : (id : ℕ) (t : Partition) → Tells t [] (under id t)
 unfolding untold
-part_under id t = record { number = refl; opens = λ handed h. h; tells = tells_same t (under id t) refl refl (λ k. omega arith) }
+tells_under id t = tells_same t (under id t) refl refl
 
 core_given : (id : ℕ) (q : IdRequest) (s : Core) → CoreTells s [] (id_given id q s)
 core_given id q s = record {
   count = length-changed_at (q.partition ∷ []) (under_if_wanted id s) s.partitions;
-  each = λ p h. subst (Part (partition_at p s.partitions) []) (sym (at-changed_at (q.partition ∷ []) (under_if_wanted id s) s.partitions p h)) (at_place p (partition_at p s.partitions) (is_in p (q.partition ∷ [])));
+  each = λ p h. subst (Tells (partition_at p s.partitions) []) (sym (at-changed_at (q.partition ∷ []) (under_if_wanted id s) s.partitions p h)) (at_place p (partition_at p s.partitions) (is_in p (q.partition ∷ [])));
   requests = λ P h. h;
-  correlation = refl;
   there = tt;
 }
   where
-    at_want : (t : Partition) (b : Bool) → Part t [] (if b then under id t else t)
-    at_want t true = part_under id t
-    at_want t false = part_same t
+    at_want : (t : Partition) (b : Bool) → Tells t [] (if b then under id t else t)
+    at_want t true = tells_under id t
+    at_want t false = tells_nothing t
 
-    at_place : (p : ℕ) (t : Partition) (b : Bool) → Part t [] (if b then under_if_wanted id s p t else t)
+    at_place : (p : ℕ) (t : Partition) (b : Bool) → Tells t [] (if b then under_if_wanted id s p t else t)
     at_place p t true = at_want t (wants_id s.config t)
-    at_place p t false = part_same t
+    at_place p t false = tells_nothing t
 
-core_id : (now : ℕ) (q : IdRequest) (x : InitProducerIdResponse) (s : Core) → CoreTells s (id_replied now q x s).told (id_replied now q x s).after
-core_id now q x s = at_valid (answers_id x)
+core_id : (now : ℕ) (q : IdRequest) (x : InitProducerIdResponse) (s : Core) → CoreTells s [] (id_answered now q x s)
+core_id now q x s = at_given (is_given x)
   where
     at_given : (b : Bool) → CoreTells s [] (if b then id_given (nat_abs x.producer_id) q s else id_refused now s)
     at_given true = core_given (nat_abs x.producer_id) q s
-    at_given false = record { count = refl; each = λ p h. part_same (partition_at p s.partitions); requests = λ P h. h; correlation = refl; there = tt }
+    at_given false = core_alike s (id_refused now s) refl (λ P h. h)
 
-    at_valid : (b : Bool) → CoreTells s (if b then known (id_answered now q x s) [] else faulty Mismatch s).told (if b then known (id_answered now q x s) [] else faulty Mismatch s).after
-    at_valid true = at_given (is_given x)
-    at_valid false = core_nothing s
-
-abbrev reply_step : ℕ → Response → Core → Bool → Replies
-reply_step now response s b = if b then after_end s else replied_to now s (awaited response.correlation s) response.body
-
-pub core_replied : (now : ℕ) (response : Response) (s : Core) → AreSingle s.partitions → AllByRecursion (λ r. Distinct r.partitions) s.requests → AtHome s.partitions
+pub core_replied : (now : ℕ) (response : Response) (s : Core) → IsSingle s response → AllByRecursion (λ r. Distinct r.partitions) s.requests → AtHome s.partitions
     → CoreTells s (replied now response s).told (replied now response s).after
-unfolding replied
-core_replied now response s single distinct home = at_end s.ended
-  where
-    at_body : (who : Awaited) → awaited response.correlation s ≡ who → (body : ResponseBody) → CoreTells s (replied_to now s who body).told (replied_to now s who body).after
-    at_body Nothing is body = core_nothing s
-    at_body (Batches r) is (Produce x) = core_batches now r s (answers_of s.names.topic x.topics) single (awaited_batches (λ r. Distinct r.partitions) response.correlation s r is distinct) home
-    at_body (Batches r) is (Metadata x) = core_nothing s
-    at_body (Batches r) is (InitProducerId x) = core_nothing s
-    at_body (Id q) is (Produce x) = core_nothing s
-    at_body (Id q) is (Metadata x) = core_nothing s
-    at_body (Id q) is (InitProducerId x) = core_id now q x s
-
-    at_end : (b : Bool) → CoreTells s (reply_step now response s b).told (reply_step now response s b).after
-    at_end true = core_nothing s
-    at_end false = at_body (awaited response.correlation s) refl response.body
+core_replied now response s single distinct home = at_replied (λ (x : Replies). CoreTells s x.told x.after) now response s (record {
+  same = λ answer. core_nothing s;
+  batches = λ r produce answers it is topic valid.
+      core_at_these r.partitions (answering now r.correlation answers) s
+      (λ p. tells_answering now r.correlation answers p (partition_at p s.partitions) (λ a rest first o at. single p r.correlation o a (answered_so s response r produce answers it is topic p a rest first o at) (in_flight response.correlation s r it).1))
+      (all_at (λ r. Distinct r.partitions) s.requests r distinct (In-from_contains s.requests r (in_flight response.correlation s r it).0)) home;
+  id = λ r x it is valid. core_id now r x s;
+})

@@ -1,7 +1,7 @@
 -- Lists weighed: the sum of what each element weighs.
-use Rattle.std.proofs.Common.{◌≡◌, ℕ, zero, suc, ◌+◌, ◌<◌, ◌≤◌, Bool, true, false, cond, List, [], ◌∷◌, ◌++◌, map, refl, sym, subst, arith}
+use Rattle.std.proofs.Common.{◌≡◌, ℕ, zero, suc, ◌+◌, ◌<◌, ◌≤◌, Bool, true, false, List, [], ◌∷◌, ◌++◌, refl, sym, subst, arith}
 use Rattle.std.specs.Prelude.{flat_map, ◌==◌}
-use Rattle.std.specs.List.{AllByRecursion, filter, fold, range_with_len, sum_by}
+use Rattle.std.specs.List.{AllByRecursion, fold, range_with_len, sum_by}
 use Rattle.std.proofs.lemmas.Bool.{eqb-true, eq-eqb}
 
 abbrev pub weigh : {A : Type 0} → (A → ℕ) → List A → ℕ
@@ -11,18 +11,6 @@ weigh f (x ∷ xs) = f x + weigh f xs
 pub weigh-append : {A : Type 0} (f : A → ℕ) (xs ys : List A) → weigh f (xs ++ ys) ≡ weigh f xs + weigh f ys
 weigh-append f [] ys = omega arith
 weigh-append f (x ∷ xs) ys = let rest : weigh f (xs ++ ys) ≡ weigh f xs + weigh f ys = weigh-append f xs ys in omega (arith, rest)
-
-pub weigh_filter : {A : Type 0} (f : A → ℕ) (test : A → Bool) (xs : List A) → weigh f (filter test xs) ≤ weigh f xs
-weigh_filter f test [] = omega arith
-weigh_filter f test (x ∷ xs) = at_test (test x) (weigh_filter f test xs)
-  where
-    at_test : (b : Bool) → weigh f (filter test xs) ≤ weigh f xs → weigh f (cond b (x ∷ filter test xs) (filter test xs)) ≤ f x + weigh f xs
-    at_test true rest = omega (arith, rest)
-    at_test false rest = omega (arith, rest)
-
-pub weigh_map : {A : Type 0} (f : A → ℕ) (g : A → A) → ((x : A) → f (g x) ≤ f x) → (xs : List A) → weigh f (map g xs) ≤ weigh f xs
-weigh_map f g h [] = omega arith
-weigh_map f g h (x ∷ xs) = let here : f (g x) ≤ f x = h x in let rest : weigh f (map g xs) ≤ weigh f xs = weigh_map f g h xs in omega (arith, here, rest)
 
 pub weigh_agrees : {A : Type 0} (f g : A → ℕ) (xs : List A) → AllByRecursion (λ x. f x ≡ g x) xs → weigh f xs ≡ weigh g xs
 weigh_agrees f g [] h = refl
