@@ -23,7 +23,7 @@ use Rattle.kp_core.specs.Records.{Request, IdRequest, Core, Step}
 use Rattle.kp_core.specs.Telling.{told_at_each}
 use Rattle.kp_core.specs.Replies.{Replies, batches_answered, batches_replied, id_answered, replied_to, replied, after_end, faulty, known}
 use Rattle.kp_core.specs.Requesting.{Requested, nothing_out, goes_out, is_spent, requested_for, requested}
-use Rattle.kp_core.specs.Tick.{Ticks, has_timed_out, ticked_from, ticked_now, not_ticked, ticked, disconnected, closed}
+use Rattle.kp_core.specs.Tick.{Ticks, has_timed_out, ticked_from, ticked_now, not_ticked, ticked, disconnected, closed, passed}
 
 -- ---- an append
 
@@ -135,18 +135,18 @@ at_replied P now response s c =
 
 pub record OfTick {ℓ} (P : Ticks → Type ℓ) (now : ℕ) (s : Core) : Type ℓ where
   pub ended : P (not_ticked s)
-  pub timed_out : P (ticked_from now true (dropped now s))
-  pub on_time : P (ticked_from now false s)
+  pub timed_out : P (ticked_from passed now true (dropped now s))
+  pub on_time : P (ticked_from passed now false s)
 
 pub at_ticked {ℓ} : (P : Ticks → Type ℓ) (now : ℕ) (s : Core) → OfTick P now s → P (ticked now s)
 unfolding ticked
 at_ticked P now s c = at_end s.ended
   where
-    at_time : (b : Bool) → P (if b then ticked_from now true (dropped now s) else ticked_from now false s)
+    at_time : (b : Bool) → P (if b then ticked_from passed now true (dropped now s) else ticked_from passed now false s)
     at_time true = c.timed_out
     at_time false = c.on_time
 
-    at_end : (b : Bool) → P (if b then not_ticked s else ticked_now now s)
+    at_end : (b : Bool) → P (if b then not_ticked s else ticked_now passed now s)
     at_end true = c.ended
     at_end false = at_time (has_timed_out now s)
 

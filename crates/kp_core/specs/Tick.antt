@@ -61,28 +61,36 @@ passed c now t =
 abbrev pub Ticks : Type 0
 Ticks = Step Ticked
 
--- the partitions, upwards
-abbrev pub ticked_from : ℕ → Bool → Core → Ticks
-ticked_from now reconnect s =
-    let rule = passed s.config now in
-    let told = told_at_each rule s in
+-- what a tick does to a partition
+abbrev pub TickRule : Type 0
+TickRule = Config → ℕ → Partition → Effect
+
+-- the partitions by this rule, upwards
+abbrev pub ticked_from : TickRule → ℕ → Bool → Core → Ticks
+ticked_from rule now reconnect s =
+    let at = rule s.config now in
+    let told = told_at_each at s in
     record {
-      after = at_each rule s;
+      after = at_each at s;
       told = told;
       answer = record { reports = length told; reconnect = reconnect };
     }
 
 -- First, where a request has timed out, all attempts are dropped; then each partition, upwards.
-abbrev pub ticked_now : ℕ → Core → Ticks
-ticked_now now s =
-    if has_timed_out now s then ticked_from now true (dropped now s) else ticked_from now false s
+abbrev pub ticked_now : TickRule → ℕ → Core → Ticks
+ticked_now rule now s =
+    if has_timed_out now s then ticked_from rule now true (dropped now s)
+    else ticked_from rule now false s
 
 abbrev pub not_ticked : Core → Ticks
 not_ticked s = record { after = s; told = []; answer = record { reports = 0; reconnect = false } }
 
 -- After the end nothing happens.
+abbrev pub ticked_by : TickRule → ℕ → Core → Ticks
+ticked_by rule now s = if s.ended then not_ticked s else ticked_now rule now s
+
 unfoldable pub ticked : ℕ → Core → Ticks
-ticked now s = if s.ended then not_ticked s else ticked_now now s
+ticked now s = ticked_by passed now s
 
 -- ---- the connection is gone
 

@@ -359,7 +359,7 @@ left_dropped P now s = record {
   each = λ p h. at_all P s.ended (without_attempts now) (λ Q t. leaves_dropped Q s.ended now t) s.partitions p h;
 }
 
-left_passed : (P : ℕ → Batch → Type 0) (now : ℕ) (late : Bool) (s : Core) → CoreLeaves P s (ticked_from now late s).after
+left_passed : (P : ℕ → Batch → Type 0) (now : ℕ) (late : Bool) (s : Core) → CoreLeaves P s (ticked_from passed now late s).after
 unfolding at_each with_partitions
 left_passed P now late s = record {
   count = length-map s.partitions (λ t. (passed s.config now t).after);
@@ -375,7 +375,7 @@ unfolding dropped at_each with_partitions
 left_ticked P now s =
     at_ticked (λ (x : Ticks). CoreLeaves P s x.after) now s (record { ended = left_same P s; timed_out = timed_out; on_time = left_passed P now false s })
   where
-    timed_out : CoreLeaves P s (ticked_from now true (dropped now s)).after
+    timed_out : CoreLeaves P s (ticked_from passed now true (dropped now s)).after
     timed_out =
         let first = left_dropped P now s in
         let second = left_passed P now true (dropped now s) in
@@ -385,7 +385,7 @@ left_ticked P now s =
           ended = λ e. e;
           correlation = refl;
           asked = λ q e. first.asked q (second.asked q e);
-          each = λ p h. leaves_more (P p) s.ended (partition_at p s.partitions) (partition_at p (dropped now s).partitions) (partition_at p (ticked_from now true (dropped now s)).after.partitions)
+          each = λ p h. leaves_more (P p) s.ended (partition_at p s.partitions) (partition_at p (dropped now s).partitions) (partition_at p (ticked_from passed now true (dropped now s)).after.partitions)
               (first.each p h) (second.each p (subst (λ (n : ℕ). p < n) (sym first.count) h));
         }
 

@@ -11,7 +11,7 @@ use Rattle.kp_core.specs.Partitions.{is_empty, untold}
 use Rattle.kp_core.specs.Records.{Batch, Core}
 use Rattle.kp_core.specs.Replies.{replied}
 use Rattle.kp_core.specs.Requesting.{Outgoing, requested}
-use Rattle.kp_core.specs.Tick.{ticked, disconnected, closed}
+use Rattle.kp_core.specs.Tick.{Ticks, ticked, disconnected, closed}
 use Rattle.kp_world.specs.declared.event.Event.{Event}
 use Rattle.kp_world.specs.declared.event.Event.TheVariants as event
 use Rattle.kp_world.specs.Accepting.{accepting, item_for, accepted_by, taking, taken_by}
@@ -91,10 +91,12 @@ has_partition p w = nat_lt p (length w.logs)
 abbrev pub only_if : Bool → World → Option World
 only_if there w = if there then Some w else None
 
-abbrev pub ticking : World → World
-ticking w =
-    let step = ticked w.moment w.core in
+abbrev pub ticked_to : Ticks → World → World
+ticked_to step w =
     noted step.after (if step.answer.reconnect then Reconnect ∷ [] else []) step.told w
+
+abbrev pub ticking : World → World
+ticking w = ticked_to (ticked w.moment w.core) w
 
 abbrev pub ending : World → World
 ending w = let step = ended w.core in noted step.after [] step.told w

@@ -1,27 +1,25 @@
 -- Producers that go by all rules but one, and schedules in which this shows.
-use Rattle.std.specs.Prelude.{ℕ, ◌+◌, ℤ, pos, Bool, not, List, [], ◌∷◌, ◌++◌, map, filter, length, Some, option_map, unwrap_or, slice_get, nat_lt, ◌&&◌, if◌then◌else◌}
+use Rattle.std.specs.Prelude.{ℕ, ◌+◌, ℤ, pos, Bool, not, List, [], ◌∷◌, ◌++◌, map, filter, length, Some, option_map, unwrap_or, slice_get, nat_lt, ◌&&◌}
 use Rattle.std.specs.List.{enumerate_from}
 use Rattle.kp_accum.specs.declared.config.Config.{Config}
 use Rattle.kp_accum.specs.Config.{default_config}
 use Rattle.kp_accum.specs.Ready.{is_ready}
 use Rattle.kp_core.specs.declared.outcome.Outcome.TheVariants.{Unsent}
 use Rattle.kp_core.specs.declared.outcome.Reason.TheVariants.{Expired}
-use Rattle.kp_core.specs.Attempts.{awaiting, dropped}
+use Rattle.kp_core.specs.Attempts.{awaiting}
 use Rattle.kp_core.specs.Awaited.{Awaited, Nothing, awaited}
 use Rattle.kp_core.specs.MaySend.{HandOverRule, is_confirmed, is_in_span, is_within_limit, sends_by}
 use Rattle.kp_core.specs.Next.{batches_by, demand_with}
 use Rattle.kp_core.specs.Partitions.{items_open}
-use Rattle.kp_core.specs.Records.{Partition, Request, Core, Effect}
+use Rattle.kp_core.specs.Records.{Partition, Request, Core}
 use Rattle.kp_core.specs.Requesting.{Requested, requested_unless_ended}
-use Rattle.kp_core.specs.Telling.{told_all, at_each, told_at_each}
-use Rattle.kp_core.specs.Tick.{has_timed_out, is_open_late, expired_front}
+use Rattle.kp_core.specs.Telling.{told_all}
+use Rattle.kp_core.specs.Tick.{TickRule, is_open_late, expired_front, ticked_by}
 use Rattle.kp_world.specs.declared.event.Event.{Event}
 use Rattle.kp_world.specs.declared.event.Event.TheVariants as event
 use Rattle.kp_world.specs.declared.event.Treatment.TheVariants.{Judged}
-use Rattle.kp_world.specs.Client.{sending, replying, client}
-use Rattle.kp_world.specs.Line.{Reconnect}
+use Rattle.kp_world.specs.Client.{sending, replying, ticked_to, client}
 use Rattle.kp_world.specs.LogLaws.{partition_of}
-use Rattle.kp_world.specs.Noting.{noted}
 use Rattle.kp_world.specs.Reaching.{feed}
 use Rattle.kp_world.specs.Run.{Producer, StepsBy, RunBy, MayBegin}
 use Rattle.kp_world.specs.World.{PartAnswer, ReplyContent, Batches, Reply, World, opening}
@@ -99,12 +97,8 @@ to_oldest w r = to_oldest_if (awaited (pos r.correlation) w.core) w.core r
 -- ---- what the time does
 
 -- It does this at each partition.
-abbrev pub ticking_by : (Config → ℕ → Partition → Effect) → Producer
-ticking_by rule event.Tick w =
-    let timed_out = has_timed_out w.moment w.core in
-    let s = if timed_out then dropped w.moment w.core else w.core in
-    let at = rule s.config w.moment in
-    Some (noted (at_each at s) (if timed_out then Reconnect ∷ [] else []) (told_at_each at s) w)
+abbrev pub ticking_by : TickRule → Producer
+ticking_by rule event.Tick w = Some (ticked_to (ticked_by rule w.moment w.core) w)
 ticking_by rule e w = client e w
 
 abbrev pub without_late : Config → ℕ → Partition → Partition
@@ -112,7 +106,7 @@ without_late c now t =
     record t { open_batches = filter (λ o. not (is_open_late c now o)) t.open_batches }
 
 -- An open batch that is late expires, as those at the front of the queue do.
-abbrev pub open_expires : Config → ℕ → Partition → Effect
+abbrev pub open_expires : TickRule
 open_expires c now t =
     let late = items_open (filter (is_open_late c now) t.open_batches) in
     let queue = expired_front c now (without_late c now t) in

@@ -1,8 +1,27 @@
 //! That each rule is needed: a producer that goes by all rules but one breaks a law of every run.
 
+ghost use Rattle.std.specs.Prelude.{◌≡◌, ℕ};
+ghost use Rattle.kp_accum.specs.Queue.{Pending};
+ghost use Rattle.kp_accum.specs.declared.config.Config.{Config};
+ghost use Rattle.kp_accum.specs.declared.flags.Flags.{Flags};
+ghost use Rattle.kp_core.specs.MaySend.{is_in_span, may_hand_over};
+ghost use Rattle.kp_core.specs.Records.{Partition};
+ghost use Rattle.kp_core.specs.Tick.{passed};
 ghost use Rattle.kp_world.specs.Accounts.{IsNeverSent};
+ghost use Rattle.kp_world.specs.Client.{client};
 ghost use Rattle.kp_world.specs.LogLaws.{EachDeliveryHasItsOffset, IsPrefix, ToldOffsetsStand};
 ghost use Rattle.kp_world.specs.OtherRules.{Breaks, sending_by, with_window, counts_open, one_wider, without_waiting, hearing_as, at_sequences, to_oldest, ticking_by, open_expires, keeping_ids, one_each, two_an_id, six_on_their_way, second_comes_first, stored_behind_another, answered_again, stored_and_late, goes_on_under_an_id};
+ghost use Rattle.kp_world.specs.World.{World};
+ghost use Rattle.kp_world.specs.declared.event.Event.{Event};
+
+/// With the rule as it is, these producers are the producer.
+pub fn only_one_rule_is_changed()
+    ensures handing_over { (e : Event) (w : World) → sending_by may_hand_over e w ≡ client e w }
+    ensures window { (c : Config) (flags : Flags) (now : ℕ) (t : Partition) (front : Pending)
+        → with_window (λ c t. is_in_span c t.next_number t.open_batches) c flags now t front ≡ may_hand_over c flags now t front }
+    ensures hearing { (e : Event) (w : World) → hearing_as (λ w r. r) e w ≡ client e w }
+    ensures ticking { (e : Event) (w : World) → ticking_by passed e w ≡ client e w }
+{}
 
 /// Each of these producers goes by all rules but one, and through a schedule with an honest broker after which a law does
 /// not hold: one whose window counts the open batches, or is of one batch more; one whose second batch does not wait for
