@@ -3,7 +3,7 @@ use Rattle.std.proofs.Common.{◌≡◌, ℕ, suc, zero, ◌+◌, ◌<◌, ◌�
 use Rattle.std.specs.Prelude.{Option, Ok, unwrap_or, filter, flat_map, take, slice_get, ◌||◌}
 use Rattle.std.specs.List.{AllByRecursion, list_any}
 use Rattle.std.specs.Ordering.{int_eq}
-use Rattle.std.proofs.lemmas.Bool.{true≢false, eq-eqb}
+use Rattle.std.proofs.lemmas.Bool.{true≢false}
 use Rattle.std.specs.Str.{bytes_eq}
 use Rattle.std.proofs.lemmas.Slice.Eq.{bytes_eq-Decides}
 use Rattle.std.proofs.lemmas.List.{map-append}
@@ -28,6 +28,7 @@ use Rattle.kp_world.specs.Message.{sent_of}
 use Rattle.kp_world.specs.OtherRules.{Breaks}
 use Rattle.kp_world.specs.Run.{Producer, MayBegin}
 use Rattle.kp_world.specs.World.{World, opening}
+use Rattle.kp_world.proofs.ToldLemmas.{same_itself}
 use Rattle.kp_world.proofs.ChosenRuns.{Choice, are_there, AreHonest, end_of, run_of}
 
 -- ---- a world that breaks a law
@@ -76,14 +77,31 @@ unsent_is_sent w e law = at_items (items_handed 0 w) e law
     at_items [] e h = absurd cc
     at_items (i ∷ is) e h = at_items is (sym (ap (λ (b : Bool). b || list_any (λ i. is_among i (told_unsent w)) is) h.0) ∙ e) h.1
 
--- an item that was told an offset below its place among what was handed over
+-- an item that was told a wrong offset
 
-abbrev is_before_place : World → Item → Outcome → Bool
-is_before_place w i (Delivered (pos k)) = not (is_among i (take (k + 1) (items_handed i.partition w)))
-is_before_place w i _ = false
+abbrev at_offset : (ℕ → Bool) → Outcome → Bool
+at_offset test (Delivered (pos k)) = test k
+at_offset test o = false
 
-same_itself : (i : Item) → is_same i i ≡ true
-same_itself i = let s = eq-eqb i.sender i.sender refl in let p = eq-eqb i.partition i.partition refl in let n = eq-eqb i.number i.number refl in cc
+offset_passes : (test : ℕ → Bool) (o : Outcome) → at_offset test o ≡ true → (k : ℕ) × (o ≡ Delivered (pos k)) × (test k ≡ true)
+offset_passes test (Delivered (pos k)) e = (k, refl, e)
+offset_passes test (Delivered (negsuc k)) e = absurd cc
+offset_passes test DeliveredNoOffset e = absurd cc
+offset_passes test Unknown e = absurd cc
+offset_passes test (Rejected code) e = absurd cc
+offset_passes test (Unsent why) e = absurd cc
+
+offset_stands_not : (w : World) (is_wrong : Item → ℕ → Bool) → ((i : Item) (k : ℕ) → StandsAt w i (pos k) → is_wrong i k ≡ false)
+    → has_told (λ t. at_offset (is_wrong t.item) t.outcome) w ≡ true → ToldOffsetsStand w → ⊥
+offset_stands_not w is_wrong right e law =
+    let t = told_such (λ t. at_offset (is_wrong t.item) t.outcome) w e in
+    let k = offset_passes (is_wrong t.0.item) t.0.outcome t.2 in
+    absurd (true≢false (sym k.2 ∙ right t.0.item k.0 (law t.0 (pos k.0) t.1 k.1)))
+
+-- it is below the item's place among what was handed over
+
+abbrev is_before_place : World → Item → ℕ → Bool
+is_before_place w i k = not (is_among i (take (k + 1) (items_handed i.partition w)))
 
 among_first : (i : Item) (earlier later : List Item) (n : ℕ) → length earlier < n → is_among i (take n (earlier ++ i ∷ later)) ≡ true
 among_first i [] later zero l = absurd (omega (arith, l))
@@ -103,7 +121,7 @@ no_longer test (x ∷ xs) = at_test (test x) (no_longer test xs)
     at_test true l = omega (arith, l)
     at_test false l = omega (arith, l)
 
-place_is_above : (w : World) (i : Item) (k : ℕ) → StandsAt w i (pos k) → is_before_place w i (Delivered (pos k)) ≡ false
+place_is_above : (w : World) (i : Item) (k : ℕ) → StandsAt w i (pos k) → is_before_place w i k ≡ false
 unfolding own
 place_is_above w i k s =
     let own_before = no_longer (is_under (map pos (partition_of i.partition w).ids)) s.before in
@@ -111,56 +129,30 @@ place_is_above w i k s =
     let early : length s.earlier < k + 1 = omega (arith, own_before, before, s.place) in
     ap (λ is. not (is_among i (take (k + 1) is))) s.handed ∙ ap not (among_first i s.earlier s.later (k + 1) early)
 
-offset_stands_not : (is_wrong : World → Item → Outcome → Bool) → ((w : World) (i : Item) (k : ℕ) → StandsAt w i (pos k) → is_wrong w i (Delivered (pos k)) ≡ false)
-    → ((w : World) (i : Item) (o : Outcome) → is_wrong w i o ≡ true → (k : ℕ) × (o ≡ Delivered (pos k)))
-    → (w : World) → has_told (λ t. is_wrong w t.item t.outcome) w ≡ true → ToldOffsetsStand w → ⊥
-offset_stands_not is_wrong right only w e law =
-    let t = told_such (λ t. is_wrong w t.item t.outcome) w e in
-    let k = only w t.0.item t.0.outcome t.2 in
-    let no = right w t.0.item k.0 (law t.0 (pos k.0) t.1 k.1) in
-    absurd (true≢false (sym t.2 ∙ ap (is_wrong w t.0.item) k.1 ∙ no))
+pub offset_is_early : (w : World) → has_told (λ t. at_offset (is_before_place w t.item) t.outcome) w ≡ true → ToldOffsetsStand w → ⊥
+offset_is_early w e law = offset_stands_not w (is_before_place w) (place_is_above w) e law
 
-pub offset_is_early : (w : World) → has_told (λ t. is_before_place w t.item t.outcome) w ≡ true → ToldOffsetsStand w → ⊥
-offset_is_early w e law = offset_stands_not is_before_place place_is_above only w e law
-  where
-    only : (w : World) (i : Item) (o : Outcome) → is_before_place w i o ≡ true → (k : ℕ) × (o ≡ Delivered (pos k))
-    only w i (Delivered (pos k)) e = (k, refl)
-    only w i (Delivered (negsuc k)) e = absurd cc
-    only w i DeliveredNoOffset e = absurd cc
-    only w i Unknown e = absurd cc
-    only w i (Rejected code) e = absurd cc
-    only w i (Unsent why) e = absurd cc
-
--- an item that was told an offset where another producer's record stands
+-- another producer's record stands there
 
 abbrev is_of_none : Option Stored → Bool
 is_of_none (Some r) = int_eq r.producer_id NO_ID
 is_of_none None = false
 
-abbrev is_at_another : World → Item → Outcome → Bool
-is_at_another w i (Delivered (pos k)) = is_of_none (slice_get (log_at i.partition w.logs).records k)
-is_at_another w i _ = false
+abbrev is_anothers : World → Item → ℕ → Bool
+is_anothers w i k = is_of_none (slice_get (log_at i.partition w.logs).records k)
 
 element : {A : Type 0} (xs ys : List A) (x : A) (k : ℕ) → k ≡ length xs → slice_get (xs ++ x ∷ ys) k ≡ Some x
 element [] ys x k e = ap (slice_get (x ∷ ys)) e
 element (y ∷ xs) ys x zero e = absurd (omega (arith, e))
 element (y ∷ xs) ys x (suc k) e = element xs ys x k (omega (arith, e))
 
-own_is_there : (w : World) (i : Item) (k : ℕ) → StandsAt w i (pos k) → is_at_another w i (Delivered (pos k)) ≡ false
+own_is_there : (w : World) (i : Item) (k : ℕ) → StandsAt w i (pos k) → is_anothers w i k ≡ false
 own_is_there w i k s =
     let before : k ≡ length s.before = cc in
     ap is_of_none (ap (λ rs. slice_get rs k) s.record_is ∙ element s.before s.after _ k before)
 
-pub offset_is_anothers : (w : World) → has_told (λ t. is_at_another w t.item t.outcome) w ≡ true → ToldOffsetsStand w → ⊥
-offset_is_anothers w e law = offset_stands_not is_at_another own_is_there only w e law
-  where
-    only : (w : World) (i : Item) (o : Outcome) → is_at_another w i o ≡ true → (k : ℕ) × (o ≡ Delivered (pos k))
-    only w i (Delivered (pos k)) e = (k, refl)
-    only w i (Delivered (negsuc k)) e = absurd cc
-    only w i DeliveredNoOffset e = absurd cc
-    only w i Unknown e = absurd cc
-    only w i (Rejected code) e = absurd cc
-    only w i (Unsent why) e = absurd cc
+pub offset_is_anothers : (w : World) → has_told (λ t. at_offset (is_anothers w t.item) t.outcome) w ≡ true → ToldOffsetsStand w → ⊥
+offset_is_anothers w e law = offset_stands_not w (is_anothers w) (own_is_there w) e law
 
 -- a log that begins with another record than what was handed over
 

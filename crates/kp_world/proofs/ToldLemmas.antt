@@ -20,7 +20,7 @@ use Rattle.kp_world.proofs.ListLemmas.{all_front, all_weaker}
 abbrev count_of : Item → Item → ℕ
 count_of i j = if is_same i j then 1 else 0
 
-same_itself : (i : Item) → is_same i i ≡ true
+pub same_itself : (i : Item) → is_same i i ≡ true
 same_itself i =
     ap (λ (b : Bool). b && (i.partition == i.partition && (i.number == i.number))) (eq-eqb i.sender i.sender refl)
     ∙ ap (λ (b : Bool). b && (i.number == i.number)) (eq-eqb i.partition i.partition refl)
