@@ -150,9 +150,9 @@ AreHonest producer cs [] w = Unit {0}
 AreHonest producer cs (event.Deliver k how ∷ es) w = MayCome (first_of cs) w (slice_get w.packets k) × AreHonest producer (drop 1 cs) es (next producer (first_of cs) (event.Deliver k how) w)
 AreHonest producer cs (e ∷ es) w = AreHonest producer cs es (next producer (first_of cs) e w)
 
-some_is : (o : Option World) (w : World) → is_some o ≡ true → o ≡ Some (unwrap_or o w)
-some_is (Some v) w e = refl
-some_is None w e = absurd cc
+goes_on : (o : Option World) (w : World) (later : Bool) → is_some o && later ≡ true → (o ≡ Some (unwrap_or o w)) × (later ≡ true)
+goes_on (Some v) w later e = (refl, e)
+goes_on None w later e = absurd cc
 
 arrives : (c : Choice) (k : ℕ) (w : World) (o : Option Outgoing) → slice_get w.packets k ≡ o → MayCome c w o → Arrives w k (came c w o)
 arrives c k w (Some o) is h = record { packet = o; went_out = is; delivery = chosen c w o.demand; honest = is_honest c w o.demand h; after_is = refl }
@@ -164,24 +164,24 @@ run_of producer cs [] w t h = refl
 run_of producer cs (event.Deliver k how ∷ es) w t h =
     (_, arrives (first_of cs) k w (slice_get w.packets k) refl h.0, run_of producer (drop 1 cs) es _ (and_parts (is_there producer (event.Deliver k how) w) _ t).1 h.1)
 run_of producer cs (event.Other p n ∷ es) w t h =
-    let both = and_parts (is_there producer (event.Other p n) w) _ t in (_, some_is (with_others_at p n w) w both.0, run_of producer cs es _ both.1 h)
+    let on = goes_on (with_others_at p n w) w _ t in (_, on.0, run_of producer cs es _ on.1 h)
 run_of producer cs (event.Accept s p value ∷ es) w t h =
-    let both = and_parts (is_there producer (event.Accept s p value) w) _ t in (_, some_is (producer (event.Accept s p value) w) w both.0, run_of producer cs es _ both.1 h)
+    let on = goes_on (producer (event.Accept s p value) w) w _ t in (_, on.0, run_of producer cs es _ on.1 h)
 run_of producer cs (event.Take s ∷ es) w t h =
-    let both = and_parts (is_there producer (event.Take s) w) _ t in (_, some_is (producer (event.Take s) w) w both.0, run_of producer cs es _ both.1 h)
+    let on = goes_on (producer (event.Take s) w) w _ t in (_, on.0, run_of producer cs es _ on.1 h)
 run_of producer cs (event.Now moment ∷ es) w t h =
-    let both = and_parts (is_there producer (event.Now moment) w) _ t in (_, some_is (producer (event.Now moment) w) w both.0, run_of producer cs es _ both.1 h)
+    let on = goes_on (producer (event.Now moment) w) w _ t in (_, on.0, run_of producer cs es _ on.1 h)
 run_of producer cs (event.Tick ∷ es) w t h =
-    let both = and_parts (is_there producer event.Tick w) _ t in (_, some_is (producer event.Tick w) w both.0, run_of producer cs es _ both.1 h)
+    let on = goes_on (producer event.Tick w) w _ t in (_, on.0, run_of producer cs es _ on.1 h)
 run_of producer cs (event.Send ∷ es) w t h =
-    let both = and_parts (is_there producer event.Send w) _ t in (_, some_is (producer event.Send w) w both.0, run_of producer cs es _ both.1 h)
+    let on = goes_on (producer event.Send w) w _ t in (_, on.0, run_of producer cs es _ on.1 h)
 run_of producer cs (event.Reply j ∷ es) w t h =
-    let both = and_parts (is_there producer (event.Reply j) w) _ t in (_, some_is (producer (event.Reply j) w) w both.0, run_of producer cs es _ both.1 h)
+    let on = goes_on (producer (event.Reply j) w) w _ t in (_, on.0, run_of producer cs es _ on.1 h)
 run_of producer cs (event.Drop ∷ es) w t h =
-    let both = and_parts (is_there producer event.Drop w) _ t in (_, some_is (producer event.Drop w) w both.0, run_of producer cs es _ both.1 h)
+    let on = goes_on (producer event.Drop w) w _ t in (_, on.0, run_of producer cs es _ on.1 h)
 run_of producer cs (event.Close ∷ es) w t h =
-    let both = and_parts (is_there producer event.Close w) _ t in (_, some_is (producer event.Close w) w both.0, run_of producer cs es _ both.1 h)
+    let on = goes_on (producer event.Close w) w _ t in (_, on.0, run_of producer cs es _ on.1 h)
 run_of producer cs (event.End ∷ es) w t h =
-    let both = and_parts (is_there producer event.End w) _ t in (_, some_is (producer event.End w) w both.0, run_of producer cs es _ both.1 h)
+    let on = goes_on (producer event.End w) w _ t in (_, on.0, run_of producer cs es _ on.1 h)
 run_of producer cs (event.Flush ∷ es) w t h =
-    let both = and_parts (is_there producer event.Flush w) _ t in (_, some_is (producer event.Flush w) w both.0, run_of producer cs es _ both.1 h)
+    let on = goes_on (producer event.Flush w) w _ t in (_, on.0, run_of producer cs es _ on.1 h)
