@@ -5,6 +5,8 @@ use Rattle.std.specs.Prelude.{◌==◌, slice_set}
 use Rattle.std.proofs.lemmas.List.{length-set, length-map, get_or-set_same, get_or-set_other, map-append, append-nil}
 use Rattle.std.proofs.lemmas.List.Concat.{flat_map-append}
 use Rattle.std.proofs.lemmas.List.Elements.{All-contains}
+use Rattle.std.proofs.lemmas.List.Filters.{length-filter_both}
+use Rattle.std.proofs.lemmas.Bool.Decides.{eqb_tells}
 use Rattle.kp_log.specs.declared.stored.Stored.{Stored}
 use Rattle.kp_log.specs.BrokerStep.{Answered, MayAppend, IsOld, BrokerStep}
 use Rattle.kp_log.specs.HandedOver.{Follows, AreInSequence, IsStored}
@@ -25,8 +27,6 @@ use Rattle.kp_world.proofs.FlightLemmas.{Carried, PartHolds, Steady, part_grown,
 use Rattle.kp_world.proofs.PrefixLemmas.{Cut, Grown, lands, lands_at, grown_same, grown_appended}
 use Rattle.kp_world.proofs.SoundLemmas.{Sound, sents, sound_history}
 use Rattle.kp_world.proofs.ListLemmas.{In-map}
-use Rattle.std.proofs.lemmas.List.Filters.{length-filter_both}
-use Rattle.std.proofs.lemmas.Bool.Decides.{eqb_tells}
 
 -- ---- a batch that is old
 
@@ -53,7 +53,7 @@ not_before handed s b first first_later second second_later e f =
         omega (arith, split, parts, own, some, at_one, at_two)
 
 -- where five later batches were appended, its number is six below how many were handed over
-pub old_number : (ids : List ℕ) (t : Partition) (handed : List Batch) (h : History) → Sound ids t handed h → Cut t handed h → (b : Batch) → In b handed → IsOld h.batches (sent_of b) → b.number + 6 ≤ length handed
+old_number : (ids : List ℕ) (t : Partition) (handed : List Batch) (h : History) → Sound ids t handed h → Cut t handed h → (b : Batch) → In b handed → IsOld h.batches (sent_of b) → b.number + 6 ≤ length handed
 old_number ids t handed h s cut b i old =
     let all : sents handed ≡ h.batches ++ sents cut.rest = ap sents cut.split ∙ map-append sent_of cut.landed cut.rest ∙ ap (λ z. z ++ sents cut.rest) (sym cut.appended) in
     let split : sents handed ≡ old.earlier ++ sent_of b ∷ (old.later ++ sents cut.rest) = all ∙ ap (λ z. z ++ sents cut.rest) old.split ∙ append_assoc old.earlier (sent_of b ∷ old.later) (sents cut.rest) in
@@ -77,7 +77,7 @@ pub record Delivered (most p k : ℕ) (ids : List ℕ) (e : Bool) (next : ℕ) (
   pub more : List Stored
   pub records : h'.records ≡ h.records ++ more
 
-pub delivered : {most : ℕ} (p k : ℕ) (ids : List ℕ) (e : Bool) (next : ℕ) (t : Partition) (handed : List Batch) (h h' : History) (packets : List Outgoing) (replies : List Reply) (b : Batch) (a : Answered)
+delivered : {most : ℕ} (p k : ℕ) (ids : List ℕ) (e : Bool) (next : ℕ) (t : Partition) (handed : List Batch) (h h' : History) (packets : List Outgoing) (replies : List Reply) (b : Batch) (a : Answered)
     → Sound ids t handed h → Steady most p e next t handed h packets replies → In b handed → Carried p k packets b → BrokerStep h (sent_of b) a h' → Delivered most p k ids e next t handed h h' packets replies a
 delivered {most = most} p k ids e next t handed h h' packets replies b a s steady i carried step =
     let g : (Sound ids t handed h') × Grown t handed h h' = grown in

@@ -62,8 +62,7 @@ flies_same p next k packets b c f x =
 
 -- ---- open batches
 
--- an open batch of a partition with this present id, for which so many batches were handed over: it is one of the last so
--- many
+-- an open batch of a partition with this present id, for which so many batches were handed over: it is near the last
 pub record Aloft (most p id count next : ℕ) (packets : List Outgoing) (o : Open) : Type 0 where
   pub current : o.batch.id ≡ id
   pub near : count ≤ o.batch.number + most
@@ -71,7 +70,8 @@ pub record Aloft (most p id count next : ℕ) (packets : List Outgoing) (o : Ope
 
 -- ---- replies
 
--- the batch to which this was answered: it stands where the answer says; or it stands there, with five later ones
+-- the batch to which this was answered: it stands where the answer says; or it is called a duplicate, and then it is stored
+-- and five later ones were handed over
 pub record PartHolds (p count k : ℕ) (packets : List Outgoing) (records : List Stored) (a : Answered) : Type 0 where
   pub batch : Batch
   pub carried : Carried p k packets batch
@@ -176,7 +176,7 @@ pub record SentAgain (k : ℕ) (os : List Open) (lowest x : Open) : Type 0 where
   pub batch : x.batch ≡ it.batch
   pub attempt : (x.attempt ≡ it.attempt) ⊎ ((x.batch ≡ lowest.batch) × (x.attempt ≡ InFlight k))
 
-pub again_from : (k : ℕ) (os : List Open) (lowest : Open) → find is_waiting os ≡ Some lowest → (x : Open) → In x (sent_again_in k os) → SentAgain k os lowest x
+again_from : (k : ℕ) (os : List Open) (lowest : Open) → find is_waiting os ≡ Some lowest → (x : Open) → In x (sent_again_in k os) → SentAgain k os lowest x
 unfolding sent_again_in
 again_from k [] lowest e x i = absurd cc
 again_from k (y ∷ os) lowest e x i = at_test (is_waiting y) e i (λ (e' : find is_waiting os ≡ Some lowest) (j : In x (sent_again_in k os)). again_from k os lowest e' x j)

@@ -8,6 +8,8 @@ use Rattle.std.proofs.lemmas.Bool.{and_parts, not-true}
 use Rattle.std.proofs.lemmas.Bool.Decides.{Decides-int_eq}
 use Rattle.kp_frames.specs.declared.produce.PartitionProduceResponse.{PartitionProduceResponse}
 use Rattle.kp_frames.specs.declared.producer_id.InitProducerIdResponse.{InitProducerIdResponse}
+use Rattle.kp_frames.specs.declared.produce.ProduceResponse.{ProduceResponse}
+use Rattle.kp_frames.specs.declared.response.ResponseBody.TheVariants.{Produce, InitProducerId}
 use Rattle.kp_log.specs.BrokerStep.{Stands, NO_ERROR, DUPLICATE_SEQUENCE_NUMBER}
 use Rattle.kp_log.specs.HandedOver.{IsStored}
 use Rattle.kp_log.specs.History.{History}
@@ -23,21 +25,19 @@ use Rattle.kp_core.specs.Records.{Batch, Open, Partition, Request, IdRequest, Co
 use Rattle.kp_core.specs.Replies.{first_answered, answering, batches_answered, under, under_if_wanted, id_given, id_refused, id_answered, replied, Replies}
 use Rattle.kp_core.specs.Requesting.{Outgoing}
 use Rattle.kp_core.specs.Telling.{at_these, with_partitions}
+use Rattle.kp_core.proofs.CallLemmas.{OfReply, at_replied_going}
 use Rattle.kp_world.specs.Client.{handed_at}
 use Rattle.kp_world.specs.Delivering.{log_at, given}
 use Rattle.kp_world.specs.Message.{sent_of, part_response, epoch_for, body_of_reply, response_of}
 use Rattle.kp_world.specs.World.{PartAnswer, ReplyContent, Batches as Parts, Id as GivenId, Reply, names}
+use Rattle.kp_world.proofs.BrokerLemmas.{Agrees}
 use Rattle.kp_world.proofs.FlightLemmas.{PartHolds, ContentHolds, Steady, flies_same, steady_fresh}
 use Rattle.kp_world.proofs.KeepingLemmas.{length-changed_at, at-changed_at}
 use Rattle.kp_world.proofs.LawfulLemmas.{Lawful, StoredAt, lawful_core}
 use Rattle.kp_world.proofs.LeavingLemmas.{Leaves, leaves_same, leaves_answered, SettlesOnly, at_some, left_in, found, left_alike}
-use Rattle.kp_world.proofs.BrokerLemmas.{Agrees}
 use Rattle.kp_world.proofs.PrefixLemmas.{follows}
 use Rattle.kp_world.proofs.SoundLemmas.{Sound, sound_fresh}
 use Rattle.kp_world.proofs.ListLemmas.{all_at}
-use Rattle.kp_core.proofs.CallLemmas.{OfReply, at_replied_going}
-use Rattle.kp_frames.specs.declared.produce.ProduceResponse.{ProduceResponse}
-use Rattle.kp_frames.specs.declared.response.ResponseBody.TheVariants.{Produce, InitProducerId}
 
 -- ---- which request a reply names
 

@@ -197,7 +197,7 @@ keeps_queued c i t = record {
 -- ---- all partitions
 
 -- what a function of places makes of a list, at a place
-pub by_place : {X Y : Type 0} (g : (ℕ × X) → Y) (xs : List X) (k p : ℕ) (d : Y) (e : X)
+by_place : {X Y : Type 0} (g : (ℕ × X) → Y) (xs : List X) (k p : ℕ) (d : Y) (e : X)
     → p < length xs → get_or (map g (enumerate_from k xs)) p d ≡ g (k + p, get_or xs p e)
 by_place g [] k p d e h = absurd (omega arith)
 by_place g (x ∷ xs) k zero d e h =
@@ -207,7 +207,7 @@ by_place g (x ∷ xs) k (suc p) d e h =
     let same : k + 1 + p ≡ k + suc p = omega arith in
     by_place g xs (k + 1) p d e within ∙ ap (λ (n : ℕ). g (n, get_or xs p e)) same
 
-pub length-enumerated : {X Y : Type 0} (g : (ℕ × X) → Y) (xs : List X) (k : ℕ)
+length-enumerated : {X Y : Type 0} (g : (ℕ × X) → Y) (xs : List X) (k : ℕ)
     → length (map g (enumerate_from k xs)) ≡ length xs
 length-enumerated g [] k = refl
 length-enumerated g (x ∷ xs) k = ap suc (length-enumerated g xs (k + 1))

@@ -18,6 +18,7 @@ use Rattle.kp_core.specs.Next.{Sending, Demand, Produce, InitProducerId, flags_o
 use Rattle.kp_core.specs.Partitions.{partition_at, is_in}
 use Rattle.kp_core.specs.Records.{Batch, Open, Partition, IdRequest, Core}
 use Rattle.kp_core.specs.Requesting.{Outgoing, Requested, goes_out, requested, partitions_in, sent_out}
+use Rattle.kp_core.proofs.CallLemmas.{at_requested}
 use Rattle.kp_world.specs.Client.{grown_by, handed_at, with_sendings, sending}
 use Rattle.kp_world.specs.Delivering.{log_at, given}
 use Rattle.kp_world.specs.Message.{sent_of}
@@ -25,10 +26,9 @@ use Rattle.kp_world.specs.Noting.{noted}
 use Rattle.kp_world.specs.World.{Reply, World}
 use Rattle.kp_world.proofs.BrokerLemmas.{AllAgree, Agrees}
 use Rattle.kp_world.proofs.FlightLemmas.{Says, Steady, steady_kept, steady_passed_by, steady_again, steady_handed, Carries, says_same}
-use Rattle.kp_world.proofs.RequestLemmas.{Only, not_in_request, at_sent_out, grown_known, grown_new, length-with_sendings}
-use Rattle.kp_core.proofs.CallLemmas.{at_requested}
 use Rattle.kp_world.proofs.KeepingLemmas.{length-changed_at}
 use Rattle.kp_world.proofs.LeavingLemmas.{CoreLeaves}
+use Rattle.kp_world.proofs.RequestLemmas.{Only, not_in_request, at_sent_out, grown_known, grown_new, length-with_sendings}
 use Rattle.kp_world.proofs.SendingLemmas.{find_open, opens_again, IsSent, demand_is_sent}
 use Rattle.kp_world.proofs.SoundLemmas.{Sound, sound_kept, sound_handed}
 use Rattle.kp_world.proofs.ListLemmas.{all_at, all_in, all_weaker, one_more}

@@ -24,8 +24,8 @@ use Rattle.kp_core.specs.Partitions.{partition_at, changed_at, new_partition, is
 use Rattle.kp_core.specs.Records.{Batch, Open, Partition, IdRequest, Core, Step}
 use Rattle.kp_core.specs.Telling.{with_partitions, at_each, told_at_each}
 use Rattle.kp_core.specs.Tick.{Ticks, expired_front, is_open_late, passed, ticked_from, ticked, disconnected, closed}
-use Rattle.kp_world.proofs.KeepingLemmas.{Keeps, keeps_same, keeps_more, keeps_dropped, keeps_marked, keeps_queued, keeps_fenced, keeps_given_up, keeps_expired, keeps_without, keeps_settled, length-changed_at, at-changed_at}
 use Rattle.kp_core.proofs.CallLemmas.{at_appended, at_ticked}
+use Rattle.kp_world.proofs.KeepingLemmas.{Keeps, keeps_same, keeps_more, keeps_dropped, keeps_marked, keeps_queued, keeps_fenced, keeps_given_up, keeps_expired, keeps_without, keeps_settled, length-changed_at, at-changed_at}
 
 -- ---- open batches
 
@@ -74,7 +74,7 @@ leaves_same P e t = record {
   keeps = keeps_same t;
 }
 
-pub leaves_more : (P : Batch → Type 0) (e : Bool) (t u v : Partition) → Leaves P e t u → Leaves P e u v → Leaves P e t v
+leaves_more : (P : Batch → Type 0) (e : Bool) (t u v : Partition) → Leaves P e t u → Leaves P e u v → Leaves P e t v
 leaves_more P e t u v k l = record {
   opens = λ o i. let m = l.opens o i in let n = k.opens m.it m.there in
       record { it = n.it; there = n.there; batch = m.batch ∙ n.batch; flight = λ q a. n.flight q (m.flight q a) };
@@ -185,13 +185,13 @@ alike_dropped now = record { batch = λ o. refl; flight = λ o k e. at_attempt o
     at_attempt (InFlight c) k e = absurd cc
     at_attempt (Waiting since) k e = absurd cc
 
-pub leaves_dropped : (P : Batch → Type 0) (e : Bool) (now : ℕ) (t : Partition) → Leaves P e t (without_attempts now t)
+leaves_dropped : (P : Batch → Type 0) (e : Bool) (now : ℕ) (t : Partition) → Leaves P e t (without_attempts now t)
 leaves_dropped P e now t = leaves_mapped P e (dropped_batch now) (alike_dropped now) t (without_attempts now t) refl refl refl (keeps_dropped now t)
 
-pub leaves_marked : (P : Batch → Type 0) (e : Bool) (t : Partition) → Leaves P e t (with_marks t)
+leaves_marked : (P : Batch → Type 0) (e : Bool) (t : Partition) → Leaves P e t (with_marks t)
 leaves_marked P e t = leaves_mapped P e marked_open (record { batch = λ o. refl; flight = λ o k a. a }) t (with_marks t) refl refl refl (keeps_marked t)
 
-pub leaves_queued : (P : Batch → Type 0) (e : Bool) (c : Config) (i : Item) (t : Partition) → Leaves P e t (with_queued c i t)
+leaves_queued : (P : Batch → Type 0) (e : Bool) (c : Config) (i : Item) (t : Partition) → Leaves P e t (with_queued c i t)
 leaves_queued P e c i t = record {
   opens = (leaves_same P e t).opens;
   rises = λ r. r;
@@ -201,7 +201,7 @@ leaves_queued P e c i t = record {
   keeps = keeps_queued c i t;
 }
 
-pub leaves_fenced : (P : Batch → Type 0) (e : Bool) (t : Partition) → Leaves P e t (fenced t).after
+leaves_fenced : (P : Batch → Type 0) (e : Bool) (t : Partition) → Leaves P e t (fenced t).after
 unfolding fenced
 leaves_fenced P e t = record {
   opens = λ o i. absurd (In-nil o i);
@@ -212,7 +212,7 @@ leaves_fenced P e t = record {
   keeps = keeps_fenced t;
 }
 
-pub leaves_given_up : (P : Batch → Type 0) (t : Partition) → Leaves P true t (given_up t).after
+leaves_given_up : (P : Batch → Type 0) (t : Partition) → Leaves P true t (given_up t).after
 unfolding given_up
 leaves_given_up P t = record {
   opens = λ o i. absurd (In-nil o i);
@@ -223,7 +223,7 @@ leaves_given_up P t = record {
   keeps = keeps_given_up t;
 }
 
-pub leaves_passed : (P : Batch → Type 0) (e : Bool) (c : Config) (now : ℕ) (t : Partition) → Leaves P e t (passed c now t).after
+leaves_passed : (P : Batch → Type 0) (e : Bool) (c : Config) (now : ℕ) (t : Partition) → Leaves P e t (passed c now t).after
 unfolding passed
 leaves_passed P e c now t = at_test (list_any (is_open_late c now) t.open_batches)
   where

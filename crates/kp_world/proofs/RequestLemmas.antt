@@ -20,7 +20,7 @@ use Rattle.kp_world.proofs.ListLemmas.{all_at, all_in, all_weaker}
 
 -- ---- which partitions are in a request
 
-pub part_in : (xs : List Sending) (x : Sending) → In x xs → is_in x.partition (partitions_in xs) ≡ true
+part_in : (xs : List Sending) (x : Sending) → In x xs → is_in x.partition (partitions_in xs) ≡ true
 part_in [] x i = absurd (In-nil x i)
 part_in (y ∷ xs) x i =
     ⊎_elim
@@ -32,7 +32,7 @@ part_in (y ∷ xs) x i =
     at_test true e = refl
     at_test false e = e
 
-pub in_part : (xs : List Sending) (p : ℕ) → is_in p (partitions_in xs) ≡ true → (x : Sending) × In x xs × (x.partition ≡ p)
+in_part : (xs : List Sending) (p : ℕ) → is_in p (partitions_in xs) ≡ true → (x : Sending) × In x xs × (x.partition ≡ p)
 in_part [] p e = absurd cc
 in_part (y ∷ xs) p e = at_test (y.partition == p) refl e (in_part xs p)
   where

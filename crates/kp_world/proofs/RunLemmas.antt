@@ -31,6 +31,7 @@ use Rattle.kp_world.specs.Noting.{noted}
 use Rattle.kp_world.specs.Run.{with_delivery, Steps, IsReached}
 use Rattle.kp_world.specs.World.{PartAnswer, ReplyContent, Batches, Id, Reply, World, opening, FIRST_ID, FIRST_CORRELATION}
 use Rattle.kp_world.proofs.BrokerLemmas.{Agrees, AllAgree, Known, PartsDelivered, parts_delivered, agree_set}
+use Rattle.kp_world.proofs.EventLemmas.{OfEvent, at_step, OfStep, at_run}
 use Rattle.kp_world.proofs.FlightLemmas.{Carries, PartHolds, ContentHolds, Steady, steady_new, steady_grown, steady_replied}
 use Rattle.kp_world.proofs.HearingLemmas.{lawful_reply}
 use Rattle.kp_world.proofs.LawfulLemmas.{Lawful, IsLawful, StoredAt, lawful_core, lawful_sending, IsLawfulWithin, PartsIn, Given}
@@ -38,7 +39,6 @@ use Rattle.kp_world.proofs.LeavingLemmas.{CoreLeaves, left_appended, left_ticked
 use Rattle.kp_world.proofs.PrefixLemmas.{grown_others}
 use Rattle.kp_world.proofs.SoundLemmas.{Sound, sents, sound_new, sound_history, sound_drawn}
 use Rattle.kp_world.proofs.ListLemmas.{all_at, in_at, one_more}
-use Rattle.kp_world.proofs.EventLemmas.{OfEvent, at_step, OfStep, at_run}
 
 -- ---- a packet comes
 
