@@ -24,7 +24,7 @@ use Rattle.kp_world.specs.Delivering.{log_at, given}
 use Rattle.kp_world.specs.Message.{sent_of}
 use Rattle.kp_world.specs.Noting.{noted}
 use Rattle.kp_world.specs.World.{Reply, World}
-use Rattle.kp_world.proofs.BrokerLemmas.{AllAgree, Agrees}
+use Rattle.kp_world.proofs.BrokerLemmas.{AllAgree, Agrees, PartAgrees}
 use Rattle.kp_world.proofs.FlightLemmas.{Says, Steady, steady_kept, steady_passed_by, steady_again, steady_handed, Carries, says_same}
 use Rattle.kp_world.proofs.KeepingLemmas.{length-changed_at}
 use Rattle.kp_world.proofs.LeavingLemmas.{CoreLeaves}
@@ -155,8 +155,7 @@ sends_cases c f now k t b e = at_fence t.fenced e
 
 -- What is sent for it was handed over.
 record Agreed (most p : ℕ) (ids : List ℕ) (e : Bool) (next : ℕ) (t t' : Partition) (handed handed' : List Batch) (h : History) (packets : List Outgoing) (replies : List Reply) (o : Outgoing) : Type 0 where
-  pub sound : Sound ids t' handed' h
-  pub steady : Steady most p e (next + 1) t' handed' h (packets ++ o ∷ []) replies
+  pub agrees : PartAgrees most p ids e (next + 1) t' handed' h (packets ++ o ∷ []) replies
   pub more : (c : Batch) → In c handed → In c handed'
   pub known : (c : Batch) → Carries p c o.demand → In c handed'
   pub same_ids : t'.ids ≡ t.ids
@@ -167,8 +166,10 @@ agreed_again : {most : ℕ} (p : ℕ) (ids : List ℕ) (e : Bool) (next : ℕ) (
 agreed_again {most = most} p ids e next t handed h packets replies o b s k below named says a =
     subst (λ (bs : List Batch). Agreed most p ids e next t (sent_in next t) handed bs h packets replies o) (sym (grown_known b handed (s.numbers b known)))
     (subst (λ (u : Partition). Agreed most p ids e next t u handed handed h packets replies o) (sym a.after_is) (record {
-      sound = sound_kept ids t (record t { open_batches = sent_again_in next t.open_batches }) handed h s (record { number = refl; sequence = refl; ids = refl; opens = λ bs all. opens_again next bs t.open_batches all; queue = λ q. q });
-      steady = steady_again p next e t handed h packets replies o a.lowest k below named a.waits (subst (λ (c : Batch). Says p c o.demand) (sym a.batch) says);
+      agrees = record {
+        sound = sound_kept ids t (record t { open_batches = sent_again_in next t.open_batches }) handed h s (record { number = refl; sequence = refl; ids = refl; opens = λ bs all. opens_again next bs t.open_batches all; queue = λ q. q });
+        steady = steady_again p next e t handed h packets replies o a.lowest k below named a.waits (subst (λ (c : Batch). Says p c o.demand) (sym a.batch) says);
+      };
       more = λ c i. i;
       same_ids = refl;
       known = λ c carries. subst (λ (x : Batch). In x handed) (sym (says_same p b c o.demand says carries)) known;
@@ -184,9 +185,10 @@ unfolding handed_over_in
 agreed_first {most = most} p ids c e next t handed h packets replies o b few some s k below named says a =
     subst (λ (bs : List Batch). Agreed most p ids e next t (sent_in next t) handed bs h packets replies o) (sym grown)
     (subst (λ (u : Partition). Agreed most p ids e next t u handed (handed ++ b ∷ []) h packets replies o) (sym a.after_is) (record {
-      sound = subst (λ (x : Batch). Sound ids (handed_over_in next t (a.front ∷ a.queue)) (handed ++ x ∷ []) h) (sym a.batch) (sound_handed ids t handed h next a.front a.queue s a.queue_is);
-      steady = subst (λ (x : Batch). Steady most p e (next + 1) (handed_over_in next t (a.front ∷ a.queue)) (handed ++ x ∷ []) h (packets ++ o ∷ []) replies) (sym a.batch)
-          (steady_handed p next ids c e t handed h packets replies o a.front a.queue few some s k below named a.confirmed a.in_span (subst (λ (x : Batch). Says p x o.demand) a.batch says));
+      agrees = subst (λ (x : Batch). PartAgrees most p ids e (next + 1) (handed_over_in next t (a.front ∷ a.queue)) (handed ++ x ∷ []) h (packets ++ o ∷ []) replies) (sym a.batch) (record {
+        sound = sound_handed ids t handed h next a.front a.queue s a.queue_is;
+        steady = steady_handed p next ids c e t handed h packets replies o a.front a.queue few some s k below named a.confirmed a.in_span (subst (λ (x : Batch). Says p x o.demand) a.batch says);
+      });
       more = λ x i. In-append_left x handed (b ∷ []) i;
       same_ids = refl;
       known = λ c carries. subst (λ (x : Batch). In x (handed ++ b ∷ [])) (sym (says_same p b c o.demand says carries)) (In-append_right b handed (b ∷ []) (In-head b []));
@@ -209,7 +211,7 @@ lawful_batches {most = most} n now s logs handed packets replies ids xs g all = 
   logs_count = g.logs_count;
   window = g.window;
   some = g.some;
-  agree = λ p h. record { sound = (at p h).sound; steady = (at p h).steady };
+  agree = λ p h. (at p h).agrees;
   went = λ o i. ⊎_elim (λ (j : In o packets). earlier o (g.went o j)) (λ (same : o ≡ packet s (Produce xs)). subst (Went n (with_sendings xs handed) (sent_out now s (Produce xs))) (sym same) newest) (one_more packets (packet s (Produce xs)) o i);
   gave = λ r i. let w = g.gave r i in record {
     before = let b : r.correlation < s.correlation = w.before in omega arith;
@@ -234,8 +236,7 @@ lawful_batches {most = most} n now s logs handed packets replies ids xs g all = 
 
         passed_by : is_in p (partitions_in xs) ≡ false → Agreed most p ids s.ended s.correlation (partition_at p s.partitions) (partition_at p s.partitions) (handed_at p handed) (handed_at p handed) (log_at p logs) packets replies (packet s (Produce xs))
         passed_by is = record {
-          sound = mine.sound;
-          steady = steady_passed_by p s.correlation s.ended (partition_at p s.partitions) (handed_at p handed) (log_at p logs) packets replies (packet s (Produce xs)) mine.steady refl;
+          agrees = record { sound = mine.sound; steady = steady_passed_by p s.correlation s.ended (partition_at p s.partitions) (handed_at p handed) (log_at p logs) packets replies (packet s (Produce xs)) mine.steady refl };
           more = λ c i. i;
           known = λ c carries. absurd (not_in_request xs p is carries.0 carries.1 carries.2);
           same_ids = refl;
