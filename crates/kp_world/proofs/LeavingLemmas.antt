@@ -26,6 +26,7 @@ use Rattle.kp_core.specs.Telling.{with_partitions, at_each, told_at_each}
 use Rattle.kp_core.specs.Tick.{Ticks, expired_front, is_open_late, passed, ticked_from, ticked, disconnected, closed}
 use Rattle.kp_core.proofs.CallLemmas.{at_appended, at_ticked}
 use Rattle.kp_world.proofs.KeepingLemmas.{Keeps, keeps_same, keeps_more, keeps_dropped, keeps_marked, keeps_queued, keeps_fenced, keeps_given_up, keeps_expired, keeps_without, keeps_settled, length-changed_at, at-changed_at}
+use Rattle.kp_world.proofs.ListLemmas.{all_filter, all_map}
 
 -- ---- open batches
 
@@ -116,13 +117,12 @@ mapped_open f a (x ∷ os) o i = ⊎_elim (λ (same : o ≡ x). subst (λ (y : O
     further : IsOpen (map f os) o.batch → IsOpen (f x ∷ map f os) o.batch
     further c = record { it = c.it; there = In-tail c.it (f x) (map f os) c.there; batch = c.batch }
 
-above_mapped : (f : Open → Open) → Alike f → (n : ℕ) (os : List Open) → AllByRecursion (λ (x : Open). n < x.batch.number) os → AllByRecursion (λ (x : Open). n < x.batch.number) (map f os)
-above_mapped f a n [] h = tt
-above_mapped f a n (x ∷ os) h = (subst (λ (b : Batch). n < b.number) (sym (a.batch x)) h.0, above_mapped f a n os h.1)
-
 rising_mapped : (f : Open → Open) → Alike f → (os : List Open) → Rising os → Rising (map f os)
 rising_mapped f a [] h = tt
-rising_mapped f a (x ∷ os) h = (subst (λ (b : Batch). AllByRecursion (λ (y : Open). b.number < y.batch.number) (map f os)) (sym (a.batch x)) (above_mapped f a x.batch.number os h.0), rising_mapped f a os h.1)
+rising_mapped f a (x ∷ os) h = (
+  all_map (λ (y : Open). x.batch.number < y.batch.number) (λ (y : Open). (f x).batch.number < y.batch.number) f (λ y less. subst (λ (b : Batch). b.number < (f y).batch.number) (sym (a.batch x)) (subst (λ (b : Batch). x.batch.number < b.number) (sym (a.batch y)) less)) os h.0,
+  rising_mapped f a os h.1,
+)
 
 leaves_mapped : (P : Batch → Type 0) (e : Bool) (f : Open → Open) → Alike f → (t t' : Partition) → t'.open_batches ≡ map f t.open_batches → t'.fenced ≡ t.fenced → t'.acknowledged ≡ t.acknowledged → Keeps t t' → Leaves P e t t'
 leaves_mapped P e f a t t' opens fence acked keeps = record {
@@ -143,20 +143,12 @@ left_in {A = A} p (y ∷ xs) x i = at_test (p y) refl i (left_in p xs x)
     at_test true is j later = ⊎_elim (λ (same : x ≡ y). (subst (λ (z : A). In z (y ∷ xs)) (sym same) (In-head y xs), ap p same ∙ is)) (λ (k : In x (filter p xs)). let l = later k in (In-tail x y xs l.0, l.1)) (In-cons x y (filter p xs) j)
     at_test false is j later = let l = later j in (In-tail x y xs l.0, l.1)
 
-above_left : (p : Open → Bool) (n : ℕ) (os : List Open) → AllByRecursion (λ (x : Open). n < x.batch.number) os → AllByRecursion (λ (x : Open). n < x.batch.number) (filter p os)
-above_left p n [] h = tt
-above_left p n (x ∷ os) h = at_test (p x) (above_left p n os h.1)
-  where
-    at_test : (b : Bool) → AllByRecursion (λ (y : Open). n < y.batch.number) (filter p os) → AllByRecursion (λ (y : Open). n < y.batch.number) (cond b (x ∷ filter p os) (filter p os))
-    at_test true rest = (h.0, rest)
-    at_test false rest = rest
-
 rising_left : (p : Open → Bool) (os : List Open) → Rising os → Rising (filter p os)
 rising_left p [] h = tt
 rising_left p (x ∷ os) h = at_test (p x) (rising_left p os h.1)
   where
     at_test : (b : Bool) → Rising (filter p os) → Rising (cond b (x ∷ filter p os) (filter p os))
-    at_test true rest = (above_left p x.batch.number os h.0, rest)
+    at_test true rest = (all_filter (λ (y : Open). x.batch.number < y.batch.number) p os h.0, rest)
     at_test false rest = rest
 
 -- ---- the attempt that a reply names

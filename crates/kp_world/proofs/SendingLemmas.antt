@@ -21,15 +21,18 @@ use Rattle.kp_world.proofs.ListLemmas.{all_at, all_drop, all_take, all_weaker}
 pub find_open : (handed : List Batch) (os : List Open) (o : Open) → find is_waiting os ≡ Some o → OpenIn handed os → In o.batch handed
 find_open handed os o e h = all_at (λ (x : Open). In x.batch handed) os o h (found is_waiting os o e).0
 
-pub opens_again : (k : ℕ) (handed : List Batch) (os : List Open) → OpenIn handed os → OpenIn handed (sent_again_in k os)
+-- what holds of the open batches holds of them still
+pub all_again : (P : Batch → Type 0) (k : ℕ) (os : List Open) → AllByRecursion (λ (o : Open). P o.batch) os → AllByRecursion (λ (o : Open). P o.batch) (sent_again_in k os)
 unfolding sent_again_in
-opens_again k handed [] h = tt
-opens_again k handed (o ∷ os) h = at_test (is_waiting o) (opens_again k handed os h.1)
+all_again P k [] h = tt
+all_again P k (o ∷ os) h = at_test (is_waiting o) (all_again P k os h.1)
   where
-    at_test : (b : Bool) → OpenIn handed (sent_again_in k os)
-        → OpenIn handed (if b then again_in k o ∷ os else o ∷ sent_again_in k os)
-    at_test true rest = (h.0, h.1)
+    at_test : (b : Bool) → AllByRecursion (λ (x : Open). P x.batch) (sent_again_in k os) → AllByRecursion (λ (x : Open). P x.batch) (if b then again_in k o ∷ os else o ∷ sent_again_in k os)
+    at_test true rest = h
     at_test false rest = (h.0, rest)
+
+pub opens_again : (k : ℕ) (handed : List Batch) (os : List Open) → OpenIn handed os → OpenIn handed (sent_again_in k os)
+opens_again k handed os h = all_again (λ (b : Batch). In b handed) k os h
 
 -- ---- the batches of a request
 
