@@ -5,6 +5,8 @@ use Rattle.std.specs.Prelude.{◌==◌, slice_set}
 use Rattle.std.proofs.lemmas.List.{length-set, length-map, get_or-set_same, get_or-set_other, map-append, append-nil}
 use Rattle.std.proofs.lemmas.List.Concat.{flat_map-append}
 use Rattle.std.proofs.lemmas.List.Elements.{All-contains}
+use Rattle.std.proofs.lemmas.List.Filters.{length-filter_both}
+use Rattle.std.proofs.lemmas.Bool.Decides.{eqb_tells}
 use Rattle.kp_log.specs.declared.stored.Stored.{Stored}
 use Rattle.kp_log.specs.BrokerStep.{Answered, MayAppend, IsOld, BrokerStep}
 use Rattle.kp_log.specs.HandedOver.{Follows, AreInSequence, IsStored}
@@ -25,8 +27,6 @@ use Rattle.kp_world.proofs.FlightLemmas.{Carried, PartHolds, Steady, part_grown,
 use Rattle.kp_world.proofs.PrefixLemmas.{Cut, Grown, lands, lands_at, grown_same, grown_appended}
 use Rattle.kp_world.proofs.SoundLemmas.{Sound, sents, sound_history}
 use Rattle.kp_world.proofs.ListLemmas.{In-map}
-use Rattle.std.proofs.lemmas.List.Filters.{length-filter_both}
-use Rattle.std.proofs.lemmas.Bool.Decides.{eqb_tells}
 
 -- ---- a batch that is old
 
@@ -53,7 +53,7 @@ not_before handed s b first first_later second second_later e f =
         omega (arith, split, parts, own, some, at_one, at_two)
 
 -- where five later batches were appended, its number is six below how many were handed over
-pub old_number : (ids : List ℕ) (t : Partition) (handed : List Batch) (h : History) → Sound ids t handed h → Cut t handed h → (b : Batch) → In b handed → IsOld h.batches (sent_of b) → b.number + 6 ≤ length handed
+old_number : (ids : List ℕ) (t : Partition) (handed : List Batch) (h : History) → Sound ids t handed h → Cut t handed h → (b : Batch) → In b handed → IsOld h.batches (sent_of b) → b.number + 6 ≤ length handed
 old_number ids t handed h s cut b i old =
     let all : sents handed ≡ h.batches ++ sents cut.rest = ap sents cut.split ∙ map-append sent_of cut.landed cut.rest ∙ ap (λ z. z ++ sents cut.rest) (sym cut.appended) in
     let split : sents handed ≡ old.earlier ++ sent_of b ∷ (old.later ++ sents cut.rest) = all ∙ ap (λ z. z ++ sents cut.rest) old.split ∙ append_assoc old.earlier (sent_of b ∷ old.later) (sents cut.rest) in
@@ -70,21 +70,23 @@ old_number ids t handed h s cut b i old =
 
 -- ---- one part of a packet
 
+-- A partition, what was handed over for it, its log, and all packets and replies.
+pub record PartAgrees (most p : ℕ) (ids : List ℕ) (ended : Bool) (next : ℕ) (t : Partition) (handed : List Batch) (h : History) (packets : List Outgoing) (replies : List Reply) : Type 0 where
+  pub sound : Sound ids t handed h
+  pub steady : Steady most p ended next t handed h packets replies
+
 pub record Delivered (most p k : ℕ) (ids : List ℕ) (e : Bool) (next : ℕ) (t : Partition) (handed : List Batch) (h h' : History) (packets : List Outgoing) (replies : List Reply) (a : Answered) : Type 0 where
-  pub sound : Sound ids t handed h'
-  pub steady : Steady most p e next t handed h' packets replies
+  pub agrees : PartAgrees most p ids e next t handed h' packets replies
   pub part : PartHolds p (length handed) k packets h'.records a
   pub more : List Stored
   pub records : h'.records ≡ h.records ++ more
 
-pub delivered : {most : ℕ} (p k : ℕ) (ids : List ℕ) (e : Bool) (next : ℕ) (t : Partition) (handed : List Batch) (h h' : History) (packets : List Outgoing) (replies : List Reply) (b : Batch) (a : Answered)
-    → Sound ids t handed h → Steady most p e next t handed h packets replies → In b handed → Carried p k packets b → BrokerStep h (sent_of b) a h' → Delivered most p k ids e next t handed h h' packets replies a
-delivered {most = most} p k ids e next t handed h h' packets replies b a s steady i carried step =
+delivered : {most : ℕ} (p k : ℕ) (ids : List ℕ) (e : Bool) (next : ℕ) (t : Partition) (handed : List Batch) (h h' : History) (packets : List Outgoing) (replies : List Reply) (b : Batch) (a : Answered)
+    → PartAgrees most p ids e next t handed h packets replies → In b handed → Carried p k packets b → BrokerStep h (sent_of b) a h' → Delivered most p k ids e next t handed h h' packets replies a
+delivered {most = most} p k ids e next t handed h h' packets replies b a before i carried step =
     let g : (Sound ids t handed h') × Grown t handed h h' = grown in
-    let after : Steady most p e next t handed h' packets replies = steady_grown p next e t handed h h' packets replies steady g.1 in
     record {
-      sound = g.0;
-      steady = after;
+      agrees = record { sound = g.0; steady = steady_grown p next e t handed h h' packets replies before.steady g.1 };
       part = record { batch = b; carried = carried; stored = step.stands; kept = λ d. kept g.0 (step.is_old d); old = λ d. old_number ids t handed h' g.0 g.1.cut b i (step.is_old d) };
       more = g.1.more;
       records = g.1.records;
@@ -93,48 +95,45 @@ delivered {most = most} p k ids e next t handed h h' packets replies b a s stead
     kept : Sound ids t handed h' → IsOld h'.batches (sent_of b) → IsStored h'.records (sent_of b)
     kept after old = All-contains (IsStored h'.records) h'.batches (sent_of b) after.came.whole (contains_from_In h'.batches (sent_of b) (record { earlier = old.earlier; later = old.later; split = old.split }))
 
-    appended : (later : List Batch) → steady.cut.rest ≡ b ∷ later → (Sound ids t handed (with_batch (sent_of b) h)) × Grown t handed h (with_batch (sent_of b) h)
+    appended : (later : List Batch) → before.steady.cut.rest ≡ b ∷ later → (Sound ids t handed (with_batch (sent_of b) h)) × Grown t handed h (with_batch (sent_of b) h)
     appended later is = (
-      sound_history ids t handed h (with_batch (sent_of b) h) s (came_appended (sents handed) h (sent_of b) s.in_sequence s.came (contains_from_In (sents handed) (sent_of b) (In-map sent_of b handed i)) (lands_at ids t handed h s steady.cut b later is)),
-      grown_appended ids t handed h s steady.cut b later is i,
+      sound_history ids t handed h (with_batch (sent_of b) h) before.sound (came_appended (sents handed) h (sent_of b) before.sound.in_sequence before.sound.came (contains_from_In (sents handed) (sent_of b) (In-map sent_of b handed i)) (lands_at ids t handed h before.sound before.steady.cut b later is)),
+      grown_appended ids t handed h before.sound before.steady.cut b later is i,
     )
 
     grown : (Sound ids t handed h') × Grown t handed h h'
     grown =
         ⊎_elim
-        (λ (same : h' ≡ h). subst (λ (l : History). (Sound ids t handed l) × Grown t handed h l) (sym same) (s, grown_same t handed h steady.cut))
+        (λ (same : h' ≡ h). subst (λ (l : History). (Sound ids t handed l) × Grown t handed h l) (sym same) (before.sound, grown_same t handed h before.steady.cut))
         (λ (may : MayAppend h (sent_of b) × (h' ≡ with_batch (sent_of b) h)).
-        let head = lands ids t handed h s steady.cut b i may.0 in
+        let head = lands ids t handed h before.sound before.steady.cut b i may.0 in
         subst (λ (l : History). (Sound ids t handed l) × Grown t handed h l) (sym may.1) (appended head.0 head.1))
         step.change
 
 -- ---- all parts of a packet
 
-pub record Agrees (most n : ℕ) (ids : List ℕ) (core : Core) (handed : List (List Batch)) (logs : List History) (packets : List Outgoing) (replies : List Reply) (p : ℕ) : Type 0 where
-  pub sound : Sound ids (partition_at p core.partitions) (handed_at p handed) (log_at p logs)
-  pub steady : Steady most p core.ended core.correlation (partition_at p core.partitions) (handed_at p handed) (log_at p logs) packets replies
+abbrev pub Agrees : ℕ → ℕ → List ℕ → Core → List (List Batch) → List History → List Outgoing → List Reply → ℕ → Type 0
+Agrees most n ids core handed logs packets replies p = PartAgrees most p ids core.ended core.correlation (partition_at p core.partitions) (handed_at p handed) (log_at p logs) packets replies
 
 abbrev pub AllAgree : ℕ → ℕ → List ℕ → Core → List (List Batch) → List History → List Outgoing → List Reply → Type 0
 AllAgree most n ids core handed logs packets replies = (p : ℕ) → p < n → Agrees most n ids core handed logs packets replies p
 
 -- one partition's log is another one now, and agrees
 pub agree_set : {most : ℕ} (n : ℕ) (ids : List ℕ) (core : Core) (handed : List (List Batch)) (logs : List History) (packets : List Outgoing) (replies : List Reply) (p : ℕ) (log : History)
-    → p < length logs → AllAgree most n ids core handed logs packets replies → Sound ids (partition_at p core.partitions) (handed_at p handed) log
-    → Steady most p core.ended core.correlation (partition_at p core.partitions) (handed_at p handed) log packets replies → AllAgree most n ids core handed (slice_set logs p log) packets replies
-agree_set {most = most} n ids core handed logs packets replies p log within all sound steady q h =
+    → p < length logs → AllAgree most n ids core handed logs packets replies → PartAgrees most p ids core.ended core.correlation (partition_at p core.partitions) (handed_at p handed) log packets replies
+    → AllAgree most n ids core handed (slice_set logs p log) packets replies
+agree_set {most = most} n ids core handed logs packets replies p log within all agrees q h =
     ⊎_elim
-    (λ (k : (eqb q p ≡ true) × (q ≡ p)). subst (Agrees most n ids core handed (slice_set logs p log) packets replies) (sym k.1) (record {
-      sound = subst (Sound ids (partition_at p core.partitions) (handed_at p handed)) (sym here) sound;
-      steady = subst (λ (l : History). Steady most p core.ended core.correlation (partition_at p core.partitions) (handed_at p handed) l packets replies) (sym here) steady;
-    }))
-    (λ (k : (eqb q p ≡ false) × (q ≡ p → ⊥)). let other : log_at q (slice_set logs p log) ≡ log_at q logs = get_or-set_other logs p q log empty_history k.1 in record {
-      sound = subst (Sound ids (partition_at q core.partitions) (handed_at q handed)) (sym other) (all q h).sound;
-      steady = subst (λ (l : History). Steady most q core.ended core.correlation (partition_at q core.partitions) (handed_at q handed) l packets replies) (sym other) (all q h).steady;
-    })
+    (λ (k : (eqb q p ≡ true) × (q ≡ p)). subst (Agrees most n ids core handed (slice_set logs p log) packets replies) (sym k.1) (on_log p (sym here) agrees))
+    (λ (k : (eqb q p ≡ false) × (q ≡ p → ⊥)). on_log q (sym (get_or-set_other logs p q log empty_history k.1)) (all q h))
     (eqb_tells q p)
   where
     here : log_at p (slice_set logs p log) ≡ log
     here = get_or-set_same logs p log empty_history within
+
+    on_log : (r : ℕ) {l l' : History} → l ≡ l' → PartAgrees most r ids core.ended core.correlation (partition_at r core.partitions) (handed_at r handed) l packets replies
+        → PartAgrees most r ids core.ended core.correlation (partition_at r core.partitions) (handed_at r handed) l' packets replies
+    on_log r e a = subst (λ (l : History). PartAgrees most r ids core.ended core.correlation (partition_at r core.partitions) (handed_at r handed) l packets replies) e a
 
 -- each part is there, was handed over, and went out with this correlation id
 abbrev pub Known : ℕ → ℕ → List (List Batch) → List Outgoing → List Sending → Type 0
@@ -174,7 +173,7 @@ parts_delivered {most = most} n k ids core handed logs logs' packets replies (x 
     within = subst (λ (m : ℕ). x.partition < m) (sym size) mine.0
 
     here : Delivered most x.partition k ids core.ended core.correlation (partition_at x.partition core.partitions) (handed_at x.partition handed) (log_at x.partition logs) step.log packets replies a.answer
-    here = delivered x.partition k ids core.ended core.correlation (partition_at x.partition core.partitions) (handed_at x.partition handed) (log_at x.partition logs) step.log packets replies x.batch a.answer (all x.partition mine.0).sound (all x.partition mine.0).steady mine.1 mine.2 step.step
+    here = delivered x.partition k ids core.ended core.correlation (partition_at x.partition core.partitions) (handed_at x.partition handed) (log_at x.partition logs) step.log packets replies x.batch a.answer (all x.partition mine.0) mine.1 mine.2 step.step
 
     here_is : log_at x.partition d.0 ≡ step.log
     here_is = ap (log_at x.partition) step.after_is ∙ get_or-set_same logs x.partition step.log empty_history within
@@ -188,7 +187,7 @@ parts_delivered {most = most} n k ids core handed logs logs' packets replies (x 
     one : PartsDelivered most n k ids core handed logs d.0 packets replies []
     one = record {
       count = ap length step.after_is ∙ length-set logs x.partition step.log;
-      agree = subst (λ (ls : List History). AllAgree most n ids core handed ls packets replies) (sym step.after_is) (agree_set n ids core handed logs packets replies x.partition step.log within all here.sound here.steady);
+      agree = subst (λ (ls : List History). AllAgree most n ids core handed ls packets replies) (sym step.after_is) (agree_set n ids core handed logs packets replies x.partition step.log within all here.agrees);
       parts = λ b i. absurd (In-nil b i);
       grown = λ p. ⊎_elim (λ (k : (eqb p x.partition ≡ true) × (p ≡ x.partition)). subst (λ (q : ℕ). (m : List Stored) × ((log_at q d.0).records ≡ (log_at q logs).records ++ m)) (sym k.1) (here.more, ap (λ (l : History). l.records) here_is ∙ here.records))
           (λ (k : (eqb p x.partition ≡ false) × (p ≡ x.partition → ⊥)). ([], ap (λ (l : History). l.records) (other_is p k.1) ∙ sym (append-nil (log_at p logs).records))) (eqb_tells p x.partition);

@@ -1,18 +1,18 @@
 -- The partitions of a request are distinct.
-use Rattle.std.proofs.Common.{◌≡◌, ℕ, ◌+◌, ◌-◌, ◌≤◌, Bool, true, false, List, [], ◌∷◌, ◌++◌, take, drop, Some, None, refl, sym, ap, ◌∙◌, subst, arith}
+use Rattle.std.proofs.Common.{◌≡◌, ℕ, ◌+◌, ◌-◌, Bool, true, false, List, [], ◌∷◌, ◌++◌, take, drop, Some, None, refl, sym, ap, ◌∙◌, subst, arith}
 use Rattle.std.specs.Prelude.{Option, if◌then◌else◌, option_map, filter_map, nat_le, ◌||◌}
 use Rattle.std.specs.List.{AllByRecursion, cons_option, enumerate_from}
 use Rattle.std.proofs.lemmas.Bool.{ne_eqb}
-use Rattle.std.proofs.lemmas.List.{take-append-drop}
+use Rattle.std.proofs.lemmas.List.{append-nil, take-append-drop}
 use Rattle.kp_accum.specs.Queue.{size_of}
 use Rattle.kp_core.specs.MaySend.{sends}
 use Rattle.kp_core.specs.Next.{Sending, Produce, flags_of, used_up_to, in_turn, sending_by, fitting, next_batches, next_demand}
-use Rattle.kp_core.specs.Partitions.{is_in}
+use Rattle.kp_core.specs.Partitions.{new_partition, is_in}
 use Rattle.kp_core.specs.Records.{Batch, Partition, Core}
 use Rattle.kp_core.specs.Requesting.{partitions_in}
-use Rattle.kp_world.proofs.SendingLemmas.{all_fitting, demand_is_next}
-use Rattle.kp_world.proofs.TellingLemmas.{Distinct}
 use Rattle.kp_core.proofs.ListLemmas.{all_append}
+use Rattle.kp_world.proofs.SendingLemmas.{IsPlace, places, all_filter_map, all_fitting, demand_is_next}
+use Rattle.kp_world.proofs.TellingLemmas.{Distinct}
 use Rattle.kp_world.proofs.ListLemmas.{all_back, all_front, all_weaker}
 
 -- ---- lists of which no two have one key
@@ -33,21 +33,13 @@ apart_last key (y ∷ ys) x xs a b h = (
 
 -- what stands first may stand last
 apart_turned : {A : Type 0} (key : A → ℕ) (xs ys : List A) → Apart key (xs ++ ys) → Apart key (ys ++ xs)
-apart_turned key [] ys h = behind ys h
-  where
-    behind : (ys : List _) → Apart key ys → Apart key (ys ++ [])
-    behind [] h = tt
-    behind (y ∷ ys) h = (all_append (Differ key y) ys [] h.0 tt, behind ys h.1)
+apart_turned key [] ys h = subst (Apart key) (sym (append-nil ys)) h
 apart_turned key (x ∷ xs) ys h = apart_last key ys x xs (all_back (Differ key x) xs ys h.0) (all_front (Differ key x) xs ys h.0) (apart_turned key xs ys h.1)
-
-places_from : (k : ℕ) (xs : List Partition) → AllByRecursion (λ (y : ℕ × Partition). k ≤ y.0) (enumerate_from k xs)
-places_from k [] = tt
-places_from k (x ∷ xs) = (omega arith, all_weaker (λ (y : ℕ × Partition). k + 1 ≤ y.0) (λ (y : ℕ × Partition). k ≤ y.0) (λ y h. omega (arith, h)) (enumerate_from (k + 1) xs) (places_from (k + 1) xs))
 
 places_apart : (k : ℕ) (xs : List Partition) → Apart (λ (y : ℕ × Partition). y.0) (enumerate_from k xs)
 places_apart k [] = tt
 places_apart k (x ∷ xs) = (
-  all_weaker (λ (y : ℕ × Partition). k + 1 ≤ y.0) (λ (y : ℕ × Partition). k ≡ y.0 → ⊥) (λ y h e. omega (arith, h, e)) (enumerate_from (k + 1) xs) (places_from (k + 1) xs),
+  all_weaker (IsPlace (k + 1) xs (new_partition 0)) (λ (y : ℕ × Partition). k ≡ y.0 → ⊥) (λ y place e. omega (arith, place.least, e)) (enumerate_from (k + 1) xs) (places (k + 1) xs (new_partition 0)),
   places_apart (k + 1) xs,
 )
 
@@ -68,13 +60,8 @@ sending_place now s y x e = at_option (sends s.config (flags_of s) now y.1) e
 
 differ_all : (now : ℕ) (s : Core) (y : ℕ × Partition) (x : Sending) → x.partition ≡ y.0 → (ys : List (ℕ × Partition)) → AllByRecursion (Differ place y) ys
     → AllByRecursion (Differ partition_of x) (filter_map (sending_by sends s now) ys)
-differ_all now s y x e [] h = tt
-differ_all now s y x e (z ∷ ys) h = at_option (sending_by sends s now z) refl (differ_all now s y x e ys h.1)
-  where
-    at_option : (o : Option Sending) → sending_by sends s now z ≡ o → AllByRecursion (Differ partition_of x) (filter_map (sending_by sends s now) ys)
-        → AllByRecursion (Differ partition_of x) (cons_option o (filter_map (sending_by sends s now) ys))
-    at_option None is rest = rest
-    at_option (Some u) is rest = ((λ (same : x.partition ≡ u.partition). h.0 (sym e ∙ same ∙ sending_place now s z u is)), rest)
+differ_all now s y x e ys h =
+    all_filter_map (Differ partition_of x) (Differ place y) (sending_by sends s now) (λ z u apart is same. apart (sym e ∙ same ∙ sending_place now s z u is)) ys h
 
 sendings_apart : (now : ℕ) (s : Core) (ys : List (ℕ × Partition)) → Apart place ys → Apart partition_of (filter_map (sending_by sends s now) ys)
 sendings_apart now s [] h = tt

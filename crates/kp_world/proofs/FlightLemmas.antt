@@ -2,7 +2,6 @@
 -- agree, whatever happens.
 use Rattle.std.proofs.Common.{◌≡◌, ◌⊎◌, ℕ, ◌+◌, ◌-◌, ◌<◌, ◌≤◌, Bool, true, false, cond, List, [], ◌∷◌, ◌++◌, length, Some, refl, sym, ap, ◌∙◌, subst, inl, inr, ⊎_elim, arith, length-append}
 use Rattle.std.specs.Prelude.{find, if◌then◌else◌}
-use Rattle.std.specs.List.{AllByRecursion}
 use Rattle.std.proofs.lemmas.Bool.{ltb-true}
 use Rattle.kp_accum.specs.declared.config.Config.{Config}
 use Rattle.kp_accum.specs.Queue.{Pending}
@@ -21,10 +20,12 @@ use Rattle.kp_core.specs.Partitions.{new_partition, present_id}
 use Rattle.kp_core.specs.Records.{Batch, Open, Partition}
 use Rattle.kp_core.specs.Replies.{under}
 use Rattle.kp_core.specs.Requesting.{Outgoing}
+use Rattle.kp_core.proofs.ListLemmas.{all_append}
 use Rattle.kp_world.specs.Message.{sent_of}
 use Rattle.kp_world.specs.World.{PartAnswer, ReplyContent, Batches, Id, Reply}
 use Rattle.kp_world.proofs.LeavingLemmas.{Rising, CameFrom, IsOpen, Leaves}
 use Rattle.kp_world.proofs.PrefixLemmas.{Cut, Grown, cut_empty, cut_kept, cut_handed, cut_fresh, stored_landed}
+use Rattle.kp_world.proofs.SendingLemmas.{all_again}
 use Rattle.kp_world.proofs.SoundLemmas.{Sound}
 use Rattle.kp_world.proofs.ListLemmas.{all_at, one_more}
 
@@ -62,8 +63,7 @@ flies_same p next k packets b c f x =
 
 -- ---- open batches
 
--- an open batch of a partition with this present id, for which so many batches were handed over: it is one of the last so
--- many
+-- an open batch of a partition with this present id, for which so many batches were handed over: it is near the last
 pub record Aloft (most p id count next : ℕ) (packets : List Outgoing) (o : Open) : Type 0 where
   pub current : o.batch.id ≡ id
   pub near : count ≤ o.batch.number + most
@@ -71,7 +71,8 @@ pub record Aloft (most p id count next : ℕ) (packets : List Outgoing) (o : Ope
 
 -- ---- replies
 
--- the batch to which this was answered: it stands where the answer says; or it stands there, with five later ones
+-- the batch to which this was answered: it stands where the answer says; or it is called a duplicate, and then it is stored
+-- and five later ones were handed over
 pub record PartHolds (p count k : ℕ) (packets : List Outgoing) (records : List Stored) (a : Answered) : Type 0 where
   pub batch : Batch
   pub carried : Carried p k packets batch
@@ -176,7 +177,7 @@ pub record SentAgain (k : ℕ) (os : List Open) (lowest x : Open) : Type 0 where
   pub batch : x.batch ≡ it.batch
   pub attempt : (x.attempt ≡ it.attempt) ⊎ ((x.batch ≡ lowest.batch) × (x.attempt ≡ InFlight k))
 
-pub again_from : (k : ℕ) (os : List Open) (lowest : Open) → find is_waiting os ≡ Some lowest → (x : Open) → In x (sent_again_in k os) → SentAgain k os lowest x
+again_from : (k : ℕ) (os : List Open) (lowest : Open) → find is_waiting os ≡ Some lowest → (x : Open) → In x (sent_again_in k os) → SentAgain k os lowest x
 unfolding sent_again_in
 again_from k [] lowest e x i = absurd cc
 again_from k (y ∷ os) lowest e x i = at_test (is_waiting y) e i (λ (e' : find is_waiting os ≡ Some lowest) (j : In x (sent_again_in k os)). again_from k os lowest e' x j)
@@ -215,15 +216,6 @@ again_open k (y ∷ os) b x = at_test (is_waiting y) (λ (z : IsOpen os b). agai
         (λ (l : In x.it os). let m = later (record { it = x.it; there = l; batch = x.batch }) in record { it = m.it; there = In-tail m.it y (sent_again_in k os) m.there; batch = m.batch })
         (In-cons x.it y os x.there)
 
-above_again : (k n : ℕ) (os : List Open) → AllByRecursion (λ (x : Open). n < x.batch.number) os → AllByRecursion (λ (x : Open). n < x.batch.number) (sent_again_in k os)
-unfolding sent_again_in
-above_again k n [] a = tt
-above_again k n (y ∷ os) a = at_test (is_waiting y) (above_again k n os a.1)
-  where
-    at_test : (w : Bool) → AllByRecursion (λ (x : Open). n < x.batch.number) (sent_again_in k os) → AllByRecursion (λ (x : Open). n < x.batch.number) (if w then again_in k y ∷ os else y ∷ sent_again_in k os)
-    at_test true rest = a
-    at_test false rest = (a.0, rest)
-
 rising_again : (k : ℕ) (os : List Open) → Rising os → Rising (sent_again_in k os)
 unfolding sent_again_in
 rising_again k [] r = tt
@@ -231,7 +223,7 @@ rising_again k (y ∷ os) r = at_test (is_waiting y) (rising_again k os r.1)
   where
     at_test : (w : Bool) → Rising (sent_again_in k os) → Rising (if w then again_in k y ∷ os else y ∷ sent_again_in k os)
     at_test true rest = r
-    at_test false rest = (above_again k y.batch.number os r.0, rest)
+    at_test false rest = (all_again (λ (b : Batch). y.batch.number < b.number) k os r.0, rest)
 
 pub steady_again : {most : ℕ} (p next : ℕ) (e : Bool) (t : Partition) (handed : List Batch) (h : History) (packets : List Outgoing) (replies : List Reply) (o : Outgoing) (lowest : Open)
     → Steady most p e next t handed h packets replies → ((x : Outgoing) → In x packets → x.correlation < next) → o.correlation ≡ next → lowest_waiting t ≡ Some lowest → Says p lowest.batch o.demand
@@ -282,11 +274,8 @@ lowest_is_near c count (o ∷ os) e = ltb-true (count - o.batch.number) c.max_in
 
 rising_last : (os : List Open) (o : Open) → Rising os → ((x : Open) → In x os → x.batch.number < o.batch.number) → Rising (os ++ o ∷ [])
 rising_last [] o r below = (tt, tt)
-rising_last (y ∷ os) o r below = (above os r.0, rising_last os o r.1 (λ x i. below x (In-tail x y os i)))
-  where
-    above : (xs : List Open) → AllByRecursion (λ (x : Open). y.batch.number < x.batch.number) xs → AllByRecursion (λ (x : Open). y.batch.number < x.batch.number) (xs ++ o ∷ [])
-    above [] a = (below y (In-head y os), tt)
-    above (x ∷ xs) a = (a.0, above xs a.1)
+rising_last (y ∷ os) o r below =
+    (all_append (λ (x : Open). y.batch.number < x.batch.number) os (o ∷ []) r.0 (below y (In-head y os), tt), rising_last os o r.1 (λ x i. below x (In-tail x y os i)))
 
 open_more : (os : List Open) (o : Open) (b : Batch) → IsOpen os b → IsOpen (os ++ o ∷ []) b
 open_more os o b x = record { it = x.it; there = In-append_left x.it os (o ∷ []) x.there; batch = x.batch }

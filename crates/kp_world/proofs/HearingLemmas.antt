@@ -6,8 +6,11 @@ use Rattle.std.specs.Ordering.{int_eq}
 use Rattle.std.specs.Str.{bytes_eq}
 use Rattle.std.proofs.lemmas.Bool.{and_parts, not-true}
 use Rattle.std.proofs.lemmas.Bool.Decides.{Decides-int_eq}
+use Rattle.kp_accum.specs.declared.config.Config.{Config}
 use Rattle.kp_frames.specs.declared.produce.PartitionProduceResponse.{PartitionProduceResponse}
 use Rattle.kp_frames.specs.declared.producer_id.InitProducerIdResponse.{InitProducerIdResponse}
+use Rattle.kp_frames.specs.declared.produce.ProduceResponse.{ProduceResponse}
+use Rattle.kp_frames.specs.declared.response.ResponseBody.TheVariants.{Produce, InitProducerId}
 use Rattle.kp_log.specs.BrokerStep.{Stands, NO_ERROR, DUPLICATE_SEQUENCE_NUMBER}
 use Rattle.kp_log.specs.HandedOver.{IsStored}
 use Rattle.kp_log.specs.History.{History}
@@ -23,21 +26,19 @@ use Rattle.kp_core.specs.Records.{Batch, Open, Partition, Request, IdRequest, Co
 use Rattle.kp_core.specs.Replies.{first_answered, answering, batches_answered, under, under_if_wanted, id_given, id_refused, id_answered, replied, Replies}
 use Rattle.kp_core.specs.Requesting.{Outgoing}
 use Rattle.kp_core.specs.Telling.{at_these, with_partitions}
+use Rattle.kp_core.proofs.CallLemmas.{OfReply, at_replied_going}
 use Rattle.kp_world.specs.Client.{handed_at}
 use Rattle.kp_world.specs.Delivering.{log_at, given}
 use Rattle.kp_world.specs.Message.{sent_of, part_response, epoch_for, body_of_reply, response_of}
 use Rattle.kp_world.specs.World.{PartAnswer, ReplyContent, Batches as Parts, Id as GivenId, Reply, names}
+use Rattle.kp_world.proofs.BrokerLemmas.{PartAgrees}
 use Rattle.kp_world.proofs.FlightLemmas.{PartHolds, ContentHolds, Steady, flies_same, steady_fresh}
 use Rattle.kp_world.proofs.KeepingLemmas.{length-changed_at, at-changed_at}
 use Rattle.kp_world.proofs.LawfulLemmas.{Lawful, StoredAt, lawful_core}
 use Rattle.kp_world.proofs.LeavingLemmas.{Leaves, leaves_same, leaves_answered, SettlesOnly, at_some, left_in, found, left_alike}
-use Rattle.kp_world.proofs.BrokerLemmas.{Agrees}
 use Rattle.kp_world.proofs.PrefixLemmas.{follows}
 use Rattle.kp_world.proofs.SoundLemmas.{Sound, sound_fresh}
 use Rattle.kp_world.proofs.ListLemmas.{all_at}
-use Rattle.kp_core.proofs.CallLemmas.{OfReply, at_replied_going}
-use Rattle.kp_frames.specs.declared.produce.ProduceResponse.{ProduceResponse}
-use Rattle.kp_frames.specs.declared.response.ResponseBody.TheVariants.{Produce, InitProducerId}
 
 -- ---- which request a reply names
 
@@ -185,35 +186,28 @@ is_none [] e = refl
 is_none (o ∷ os) e = absurd cc
 
 -- The partition goes on under the id, where it wants one still.
-agrees_fresh : {most : ℕ} (n p id : ℕ) (s : Core) (logs : List History) (handed : List (List Batch)) (packets : List Outgoing) (replies : List Reply) (ids : List ℕ)
-    → Agrees most n ids s handed logs packets replies p → s.ended ≡ false → In id ids → (In id (partition_at p s.partitions).ids → ⊥)
-    → (Sound ids (under_if_wanted id s p (partition_at p s.partitions)) (handed_at p handed) (log_at p logs))
-    × Steady most p s.ended s.correlation (under_if_wanted id s p (partition_at p s.partitions)) (handed_at p handed) (log_at p logs) packets replies
+agrees_fresh : {most : ℕ} (p next id : ℕ) (c : Config) (t : Partition) (handed : List Batch) (h : History) (packets : List Outgoing) (replies : List Reply) (ids : List ℕ)
+    → PartAgrees most p ids false next t handed h packets replies → In id ids → (In id t.ids → ⊥) → PartAgrees most p ids false next (if wants_id c t then under id t else t) handed h packets replies
 unfolding wants_id
-agrees_fresh {most = most} n p id s logs handed packets replies ids a going drawn spare = at_test (wants_id s.config (partition_at p s.partitions)) refl
+agrees_fresh {most = most} p next id c t handed h packets replies ids a drawn spare = at_test (wants_id c t) refl
   where
-    at_test : (b : Bool) → wants_id s.config (partition_at p s.partitions) ≡ b → (Sound ids (if b then under id (partition_at p s.partitions) else partition_at p s.partitions) (handed_at p handed) (log_at p logs))
-        × Steady most p s.ended s.correlation (if b then under id (partition_at p s.partitions) else partition_at p s.partitions) (handed_at p handed) (log_at p logs) packets replies
-    at_test false w = (a.sound, a.steady)
+    at_test : (b : Bool) → wants_id c t ≡ b → PartAgrees most p ids false next (if b then under id t else t) handed h packets replies
+    at_test false w = a
     at_test true w =
-        let two = and_parts (not (partition_at p s.partitions).fenced && is_empty (partition_at p s.partitions).open_batches) (front_is_past_limit s.config (partition_at p s.partitions) (partition_at p s.partitions).queue) w in
-        let one = and_parts (not (partition_at p s.partitions).fenced) (is_empty (partition_at p s.partitions).open_batches) two.0 in
-        let sound : Sound ids (under id (partition_at p s.partitions)) (handed_at p handed) (log_at p logs) = sound_fresh ids id (partition_at p s.partitions) (handed_at p handed) (log_at p logs) a.sound drawn spare in (
-          sound,
-          subst (λ (e : Bool). Steady most p e s.correlation (under id (partition_at p s.partitions)) (handed_at p handed) (log_at p logs) packets replies) (sym going)
-              (steady_fresh ids (partition_at p s.partitions) (handed_at p handed) (log_at p logs) p s.correlation id packets replies a.sound sound
-              (subst (λ (e : Bool). Steady most p e s.correlation (partition_at p s.partitions) (handed_at p handed) (log_at p logs) packets replies) going a.steady) (is_none (partition_at p s.partitions).open_batches one.1) (not-true (partition_at p s.partitions).fenced one.0)),
-        )
+        let two = and_parts (not t.fenced && is_empty t.open_batches) (front_is_past_limit c t t.queue) w in
+        let one = and_parts (not t.fenced) (is_empty t.open_batches) two.0 in
+        let sound : Sound ids (under id t) handed h = sound_fresh ids id t handed h a.sound drawn spare in
+        record { sound = sound; steady = steady_fresh ids t handed h p next id packets replies a.sound sound a.steady (is_none t.open_batches one.1) (not-true t.fenced one.0) }
 
 lawful_given : {most : ℕ} (n id : ℕ) (s : Core) (logs : List History) (handed : List (List Batch)) (packets : List Outgoing) (replies : List Reply) (ids : List ℕ) (q : IdRequest) (r : Reply)
     → Lawful most n s logs handed packets replies ids → s.ended ≡ false → In r replies → r.content ≡ given id → s.id_request ≡ Some q → q.correlation ≡ r.correlation → Lawful most n (id_given id q s) logs handed packets replies ids
-lawful_given {most = most} n id s logs handed packets replies ids q r g going i is asked named = record {
+lawful_given {most = most} n id s logs handed packets replies ids q r g going i content asked named = record {
   count = length-changed_at (q.partition ∷ []) (under_if_wanted id s) s.partitions ∙ g.count;
   handed_count = g.handed_count;
   logs_count = g.logs_count;
   window = g.window;
   some = g.some;
-  agree = λ p h. let both = each p h in record { sound = both.0; steady = both.1 };
+  agree = each;
   went = λ o j. let w = g.went o j in record { before = w.before; parts = w.parts };
   gave = λ x j. let w = g.gave x j in record { before = w.before; drawn = w.drawn; spare = λ m a b c d p h at. absurd (nobody a c) };
   asked = λ a e. absurd (nobody a e);
@@ -222,20 +216,21 @@ lawful_given {most = most} n id s logs handed packets replies ids q r g going i 
     nobody : (a : IdRequest) → None ≡ Some a → ⊥
     nobody a e = absurd cc
 
-    fresh : (p : ℕ) → p < n → (Sound ids (under_if_wanted id s p (partition_at p s.partitions)) (handed_at p handed) (log_at p logs))
-        × Steady most p s.ended s.correlation (under_if_wanted id s p (partition_at p s.partitions)) (handed_at p handed) (log_at p logs) packets replies
-    fresh p h = agrees_fresh n p id s logs handed packets replies ids (g.agree p h) going ((g.gave r i).drawn id is) (λ at. (g.gave r i).spare id q is asked named p h at)
+    fresh : (p : ℕ) → p < n → PartAgrees most p ids s.ended s.correlation (under_if_wanted id s p (partition_at p s.partitions)) (handed_at p handed) (log_at p logs) packets replies
+    fresh p h =
+        subst (λ (e : Bool). PartAgrees most p ids e s.correlation (under_if_wanted id s p (partition_at p s.partitions)) (handed_at p handed) (log_at p logs) packets replies) (sym going)
+        (agrees_fresh p s.correlation id s.config (partition_at p s.partitions) (handed_at p handed) (log_at p logs) packets replies ids
+        (subst (λ (e : Bool). PartAgrees most p ids e s.correlation (partition_at p s.partitions) (handed_at p handed) (log_at p logs) packets replies) going (g.agree p h)) ((g.gave r i).drawn id content) (λ at. (g.gave r i).spare id q content asked named p h at))
 
-    each : (p : ℕ) → p < n → (Sound ids (partition_at p (id_given id q s).partitions) (handed_at p handed) (log_at p logs)) × Steady most p s.ended s.correlation (partition_at p (id_given id q s).partitions) (handed_at p handed) (log_at p logs) packets replies
+    each : (p : ℕ) → p < n → PartAgrees most p ids s.ended s.correlation (partition_at p (id_given id q s).partitions) (handed_at p handed) (log_at p logs) packets replies
     each p h =
-        subst (λ (u : Partition). (Sound ids u (handed_at p handed) (log_at p logs)) × Steady most p s.ended s.correlation u (handed_at p handed) (log_at p logs) packets replies)
+        subst (λ (u : Partition). PartAgrees most p ids s.ended s.correlation u (handed_at p handed) (log_at p logs) packets replies)
         (sym (at-changed_at (q.partition ∷ []) (under_if_wanted id s) s.partitions p (subst (λ (m : ℕ). p < m) (sym g.count) h)))
         (at_test (is_in p (q.partition ∷ [])))
       where
-        at_test : (b : Bool) → (Sound ids (if b then under_if_wanted id s p (partition_at p s.partitions) else partition_at p s.partitions) (handed_at p handed) (log_at p logs))
-            × Steady most p s.ended s.correlation (if b then under_if_wanted id s p (partition_at p s.partitions) else partition_at p s.partitions) (handed_at p handed) (log_at p logs) packets replies
+        at_test : (b : Bool) → PartAgrees most p ids s.ended s.correlation (if b then under_if_wanted id s p (partition_at p s.partitions) else partition_at p s.partitions) (handed_at p handed) (log_at p logs) packets replies
         at_test true = fresh p h
-        at_test false = ((g.agree p h).sound, (g.agree p h).steady)
+        at_test false = g.agree p h
 
 abbrev pub answer_of : ℤ → ℤ → InitProducerIdResponse
 answer_of code id = record { throttle_time_ms = pos 0; error_code = code; producer_id = id; producer_epoch = epoch_for code }

@@ -1,7 +1,7 @@
 -- What a rule leaves as it is in a partition: what was handed over, and that what is open was.
-use Rattle.std.proofs.Common.{◌≡◌, ℕ, suc, zero, ◌+◌, ◌<◌, Bool, true, false, not, cond, List, [], ◌∷◌, length, get_or, map, Some, None, refl, sym, ap, ◌∙◌, subst, arith, length-append}
+use Rattle.std.proofs.Common.{◌≡◌, ℕ, suc, zero, ◌+◌, ◌<◌, Bool, true, false, not, List, [], ◌∷◌, length, get_or, map, Some, None, refl, sym, ap, ◌∙◌, subst, arith, length-append}
 use Rattle.std.specs.Prelude.{Option, if◌then◌else◌}
-use Rattle.std.specs.List.{AllByRecursion, filter, enumerate_from, list_any}
+use Rattle.std.specs.List.{AllByRecursion, enumerate_from, list_any}
 use Rattle.kp_accum.specs.declared.config.Config.{Config}
 use Rattle.kp_accum.specs.declared.item.Item.{Item}
 use Rattle.kp_accum.specs.Queue.{Pending, joins, with_item, joined_by, begun_by, marked_by_flush}
@@ -19,6 +19,7 @@ use Rattle.kp_core.specs.Flush.{marked_open, with_marks}
 use Rattle.kp_core.specs.Partitions.{partition_at, changed_at, new_partition, is_in}
 use Rattle.kp_core.specs.Records.{Batch, Open, Partition}
 use Rattle.kp_core.specs.Tick.{behind_late, expired_front, is_open_late, passed}
+use Rattle.kp_world.proofs.ListLemmas.{all_filter, all_map}
 
 -- ---- one partition
 
@@ -49,20 +50,8 @@ keeps_more t u v k l = record {
   queue = λ h. l.queue (k.queue h);
 }
 
-opens_map : (f : Open → Open) → ((o : Open) → (f o).batch ≡ o.batch)
-    → (handed : List Batch) (os : List Open) → OpenIn handed os → OpenIn handed (map f os)
-opens_map f same handed [] h = tt
-opens_map f same handed (o ∷ os) h =
-    (subst (λ b. In b handed) (sym (same o)) h.0, opens_map f same handed os h.1)
-
-opens_filter : (p : Open → Bool) (handed : List Batch) (os : List Open) → OpenIn handed os
-    → OpenIn handed (filter p os)
-opens_filter p handed [] h = tt
-opens_filter p handed (o ∷ os) h = at_test (p o) (opens_filter p handed os h.1)
-  where
-    at_test : (b : Bool) → OpenIn handed (filter p os) → OpenIn handed (cond b (o ∷ filter p os) (filter p os))
-    at_test true rest = (h.0, rest)
-    at_test false rest = rest
+opens_map : (f : Open → Open) → ((o : Open) → (f o).batch ≡ o.batch) → (handed : List Batch) (os : List Open) → OpenIn handed os → OpenIn handed (map f os)
+opens_map f same handed os h = all_map (λ (o : Open). In o.batch handed) (λ (o : Open). In o.batch handed) f (λ o i. subst (λ (b : Batch). In b handed) (sym (same o)) i) os h
 
 pub keeps_dropped : (now : ℕ) (t : Partition) → Keeps t (without_attempts now t)
 keeps_dropped now t = record {
@@ -123,7 +112,7 @@ keeps_without k t = record {
   number = refl;
   sequence = refl;
   ids = refl;
-  opens = λ handed h. opens_filter (λ o. not (awaits k o)) handed t.open_batches h;
+  opens = λ handed h. all_filter (λ (o : Open). In o.batch handed) (λ (o : Open). not (awaits k o)) t.open_batches h;
   queue = λ h. h;
 }
 
@@ -161,17 +150,13 @@ keeps_answered now k t a = at_option (awaiting k t)
     at_option None = keeps_same t
     at_option (Some o) = keeps_settled now k t o a (verdict_of a.error_code)
 
-queue_marked : (q : List Pending) → AllByRecursion HasItems q → AllByRecursion HasItems (map marked_by_flush q)
-queue_marked [] h = tt
-queue_marked (b ∷ q) h = (h.0, queue_marked q h.1)
-
 pub keeps_marked : (t : Partition) → Keeps t (with_marks t)
 keeps_marked t = record {
   number = refl;
   sequence = refl;
   ids = refl;
   opens = λ handed h. opens_map marked_open (λ o. refl) handed t.open_batches h;
-  queue = λ h. queue_marked t.queue h;
+  queue = λ h. all_map HasItems HasItems marked_by_flush (λ b some. some) t.queue h;
 }
 
 queue_with_item : (c : Config) (i : Item) (q : List Pending) → AllByRecursion HasItems q
@@ -197,7 +182,7 @@ keeps_queued c i t = record {
 -- ---- all partitions
 
 -- what a function of places makes of a list, at a place
-pub by_place : {X Y : Type 0} (g : (ℕ × X) → Y) (xs : List X) (k p : ℕ) (d : Y) (e : X)
+by_place : {X Y : Type 0} (g : (ℕ × X) → Y) (xs : List X) (k p : ℕ) (d : Y) (e : X)
     → p < length xs → get_or (map g (enumerate_from k xs)) p d ≡ g (k + p, get_or xs p e)
 by_place g [] k p d e h = absurd (omega arith)
 by_place g (x ∷ xs) k zero d e h =
@@ -207,7 +192,7 @@ by_place g (x ∷ xs) k (suc p) d e h =
     let same : k + 1 + p ≡ k + suc p = omega arith in
     by_place g xs (k + 1) p d e within ∙ ap (λ (n : ℕ). g (n, get_or xs p e)) same
 
-pub length-enumerated : {X Y : Type 0} (g : (ℕ × X) → Y) (xs : List X) (k : ℕ)
+length-enumerated : {X Y : Type 0} (g : (ℕ × X) → Y) (xs : List X) (k : ℕ)
     → length (map g (enumerate_from k xs)) ≡ length xs
 length-enumerated g [] k = refl
 length-enumerated g (x ∷ xs) k = ap suc (length-enumerated g xs (k + 1))

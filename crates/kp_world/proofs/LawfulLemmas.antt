@@ -18,17 +18,17 @@ use Rattle.kp_core.specs.Next.{Sending, Demand, Produce, InitProducerId, flags_o
 use Rattle.kp_core.specs.Partitions.{partition_at, is_in}
 use Rattle.kp_core.specs.Records.{Batch, Open, Partition, IdRequest, Core}
 use Rattle.kp_core.specs.Requesting.{Outgoing, Requested, goes_out, requested, partitions_in, sent_out}
+use Rattle.kp_core.proofs.CallLemmas.{at_requested}
 use Rattle.kp_world.specs.Client.{grown_by, handed_at, with_sendings, sending}
 use Rattle.kp_world.specs.Delivering.{log_at, given}
 use Rattle.kp_world.specs.Message.{sent_of}
 use Rattle.kp_world.specs.Noting.{noted}
 use Rattle.kp_world.specs.World.{Reply, World}
-use Rattle.kp_world.proofs.BrokerLemmas.{AllAgree}
-use Rattle.kp_world.proofs.FlightLemmas.{Says, Steady, steady_kept, steady_passed_by, steady_again, steady_handed}
-use Rattle.kp_world.proofs.RequestLemmas.{part_in, in_part, Only, only_this, none_here, grown_known, grown_new, length-with_sendings, at-with_sendings}
-use Rattle.kp_core.proofs.CallLemmas.{at_requested}
-use Rattle.kp_world.proofs.KeepingLemmas.{length-changed_at, at-changed_at}
+use Rattle.kp_world.proofs.BrokerLemmas.{AllAgree, Agrees, PartAgrees}
+use Rattle.kp_world.proofs.FlightLemmas.{Says, Steady, steady_kept, steady_passed_by, steady_again, steady_handed, Carries, says_same}
+use Rattle.kp_world.proofs.KeepingLemmas.{length-changed_at}
 use Rattle.kp_world.proofs.LeavingLemmas.{CoreLeaves}
+use Rattle.kp_world.proofs.RequestLemmas.{Only, not_in_request, at_sent_out, grown_known, grown_new, length-with_sendings}
 use Rattle.kp_world.proofs.SendingLemmas.{find_open, opens_again, IsSent, demand_is_sent}
 use Rattle.kp_world.proofs.SoundLemmas.{Sound, sound_kept, sound_handed}
 use Rattle.kp_world.proofs.ListLemmas.{all_at, all_in, all_weaker, one_more}
@@ -153,30 +153,26 @@ sends_cases c f now k t b e = at_fence t.fenced e
 
 -- ---- a partition once a request has gone out
 
+-- What is sent for it was handed over.
 record Agreed (most p : ℕ) (ids : List ℕ) (e : Bool) (next : ℕ) (t t' : Partition) (handed handed' : List Batch) (h : History) (packets : List Outgoing) (replies : List Reply) (o : Outgoing) : Type 0 where
-  pub sound : Sound ids t' handed' h
-  pub steady : Steady most p e (next + 1) t' handed' h (packets ++ o ∷ []) replies
+  pub agrees : PartAgrees most p ids e (next + 1) t' handed' h (packets ++ o ∷ []) replies
   pub more : (c : Batch) → In c handed → In c handed'
+  pub known : (c : Batch) → Carries p c o.demand → In c handed'
   pub same_ids : t'.ids ≡ t.ids
-
--- with the batch that has gone out
-record AgreedWith (most p : ℕ) (ids : List ℕ) (e : Bool) (next : ℕ) (t t' : Partition) (handed handed' : List Batch) (h : History) (packets : List Outgoing) (replies : List Reply) (o : Outgoing) (b : Batch) : Type 0 where
-  pub all : Agreed most p ids e next t t' handed handed' h packets replies o
-  pub known : In b handed'
 
 agreed_again : {most : ℕ} (p : ℕ) (ids : List ℕ) (e : Bool) (next : ℕ) (t : Partition) (handed : List Batch) (h : History) (packets : List Outgoing) (replies : List Reply) (o : Outgoing) (b : Batch)
     → Sound ids t handed h → Steady most p e next t handed h packets replies → ((x : Outgoing) → In x packets → x.correlation < next) → o.correlation ≡ next → Says p b o.demand → GoesAgain next t b
-    → AgreedWith most p ids e next t (sent_in next t) handed (grown_by b handed) h packets replies o b
+    → Agreed most p ids e next t (sent_in next t) handed (grown_by b handed) h packets replies o
 agreed_again {most = most} p ids e next t handed h packets replies o b s k below named says a =
-    subst (λ (bs : List Batch). AgreedWith most p ids e next t (sent_in next t) handed bs h packets replies o b) (sym (grown_known b handed (s.numbers b known)))
-    (subst (λ (u : Partition). AgreedWith most p ids e next t u handed handed h packets replies o b) (sym a.after_is) (record {
-      all = record {
+    subst (λ (bs : List Batch). Agreed most p ids e next t (sent_in next t) handed bs h packets replies o) (sym (grown_known b handed (s.numbers b known)))
+    (subst (λ (u : Partition). Agreed most p ids e next t u handed handed h packets replies o) (sym a.after_is) (record {
+      agrees = record {
         sound = sound_kept ids t (record t { open_batches = sent_again_in next t.open_batches }) handed h s (record { number = refl; sequence = refl; ids = refl; opens = λ bs all. opens_again next bs t.open_batches all; queue = λ q. q });
         steady = steady_again p next e t handed h packets replies o a.lowest k below named a.waits (subst (λ (c : Batch). Says p c o.demand) (sym a.batch) says);
-        more = λ c i. i;
-        same_ids = refl;
       };
-      known = known;
+      more = λ c i. i;
+      same_ids = refl;
+      known = λ c carries. subst (λ (x : Batch). In x handed) (sym (says_same p b c o.demand says carries)) known;
     }))
   where
     known : In b handed
@@ -184,19 +180,18 @@ agreed_again {most = most} p ids e next t handed h packets replies o b s k below
 
 agreed_first : {most : ℕ} (p : ℕ) (ids : List ℕ) (c : Config) (e : Bool) (next : ℕ) (t : Partition) (handed : List Batch) (h : History) (packets : List Outgoing) (replies : List Reply) (o : Outgoing) (b : Batch)
     → c.max_in_flight_requests_per_connection ≤ most → 0 < most → Sound ids t handed h → Steady most p e next t handed h packets replies → ((x : Outgoing) → In x packets → x.correlation < next) → o.correlation ≡ next → Says p b o.demand → GoesFirst next c t b
-    → AgreedWith most p ids e next t (sent_in next t) handed (grown_by b handed) h packets replies o b
+    → Agreed most p ids e next t (sent_in next t) handed (grown_by b handed) h packets replies o
 unfolding handed_over_in
 agreed_first {most = most} p ids c e next t handed h packets replies o b few some s k below named says a =
-    subst (λ (bs : List Batch). AgreedWith most p ids e next t (sent_in next t) handed bs h packets replies o b) (sym grown)
-    (subst (λ (u : Partition). AgreedWith most p ids e next t u handed (handed ++ b ∷ []) h packets replies o b) (sym a.after_is) (record {
-      all = record {
-        sound = subst (λ (x : Batch). Sound ids (handed_over_in next t (a.front ∷ a.queue)) (handed ++ x ∷ []) h) (sym a.batch) (sound_handed ids t handed h next a.front a.queue s a.queue_is);
-        steady = subst (λ (x : Batch). Steady most p e (next + 1) (handed_over_in next t (a.front ∷ a.queue)) (handed ++ x ∷ []) h (packets ++ o ∷ []) replies) (sym a.batch)
-            (steady_handed p next ids c e t handed h packets replies o a.front a.queue few some s k below named a.confirmed a.in_span (subst (λ (x : Batch). Says p x o.demand) a.batch says));
-        more = λ x i. In-append_left x handed (b ∷ []) i;
-        same_ids = refl;
-      };
-      known = In-append_right b handed (b ∷ []) (In-head b []);
+    subst (λ (bs : List Batch). Agreed most p ids e next t (sent_in next t) handed bs h packets replies o) (sym grown)
+    (subst (λ (u : Partition). Agreed most p ids e next t u handed (handed ++ b ∷ []) h packets replies o) (sym a.after_is) (record {
+      agrees = subst (λ (x : Batch). PartAgrees most p ids e (next + 1) (handed_over_in next t (a.front ∷ a.queue)) (handed ++ x ∷ []) h (packets ++ o ∷ []) replies) (sym a.batch) (record {
+        sound = sound_handed ids t handed h next a.front a.queue s a.queue_is;
+        steady = steady_handed p next ids c e t handed h packets replies o a.front a.queue few some s k below named a.confirmed a.in_span (subst (λ (x : Batch). Says p x o.demand) a.batch says);
+      });
+      more = λ x i. In-append_left x handed (b ∷ []) i;
+      same_ids = refl;
+      known = λ c carries. subst (λ (x : Batch). In x (handed ++ b ∷ [])) (sym (says_same p b c o.demand says carries)) (In-append_right b handed (b ∷ []) (In-head b []));
     }))
   where
     grown : grown_by b handed ≡ handed ++ b ∷ []
@@ -216,7 +211,7 @@ lawful_batches {most = most} n now s logs handed packets replies ids xs g all = 
   logs_count = g.logs_count;
   window = g.window;
   some = g.some;
-  agree = λ p h. record { sound = (at p h).sound; steady = (at p h).steady };
+  agree = λ p h. (at p h).agrees;
   went = λ o i. ⊎_elim (λ (j : In o packets). earlier o (g.went o j)) (λ (same : o ≡ packet s (Produce xs)). subst (Went n (with_sendings xs handed) (sent_out now s (Produce xs))) (sym same) newest) (one_more packets (packet s (Produce xs)) o i);
   gave = λ r i. let w = g.gave r i in record {
     before = let b : r.correlation < s.correlation = w.before in omega arith;
@@ -232,59 +227,29 @@ lawful_batches {most = most} n now s logs handed packets replies ids xs g all = 
     within : (p : ℕ) → p < n → p < length s.partitions
     within p h = subst (λ (m : ℕ). p < m) (sym g.count) h
 
-    inside : AllByRecursion (λ (x : Sending). x.partition < length handed) xs
-    inside = all_weaker (IsSent now s) (λ (x : Sending). x.partition < length handed) (λ x k. subst (λ (m : ℕ). x.partition < m) (g.count ∙ sym g.handed_count) k.there) xs all
-
-    sent_is : (x : Sending) → In x xs → IsSent now s x
-    sent_is x i = all_at (IsSent now s) xs x all i
-
-    changed : (p : ℕ) → p < n → partition_at p (sent_out now s (Produce xs)).partitions ≡ (if is_in p (partitions_in xs) then sent_in s.correlation (partition_at p s.partitions) else partition_at p s.partitions)
-    changed p h = at-changed_at (partitions_in xs) (λ q u. sent_in s.correlation u) s.partitions p (within p h)
-
-    with_it : (x : Sending) → In x xs → (h : x.partition < n)
-        → AgreedWith most x.partition ids s.ended s.correlation (partition_at x.partition s.partitions) (partition_at x.partition (sent_out now s (Produce xs)).partitions) (handed_at x.partition handed) (handed_at x.partition (with_sendings xs handed)) (log_at x.partition logs) packets replies (packet s (Produce xs)) x.batch
-    with_it x i h =
-        let is : is_in x.partition (partitions_in xs) ≡ true = part_in xs x i in
-        let only : Only x.partition x.batch xs = only_this now s xs x all (sent_is x i) in
-        let grown : handed_at x.partition (with_sendings xs handed) ≡ grown_by x.batch (handed_at x.partition handed) = at-with_sendings xs handed x.partition x.batch only inside ∙ ap (λ (b : Bool). if b then grown_by x.batch (handed_at x.partition handed) else handed_at x.partition handed) is in
-        let after : partition_at x.partition (sent_out now s (Produce xs)).partitions ≡ sent_in s.correlation (partition_at x.partition s.partitions) = changed x.partition h ∙ ap (λ (b : Bool). if b then sent_in s.correlation (partition_at x.partition s.partitions) else partition_at x.partition s.partitions) is in
-        let says : Says x.partition x.batch (Produce xs) = λ y j e. all_at (λ (z : Sending). z.partition ≡ x.partition → z.batch ≡ x.batch) xs y only j e in
-        let both = g.agree x.partition h in
-        let it : AgreedWith most x.partition ids s.ended s.correlation (partition_at x.partition s.partitions) (sent_in s.correlation (partition_at x.partition s.partitions)) (handed_at x.partition handed) (grown_by x.batch (handed_at x.partition handed)) (log_at x.partition logs) packets replies (packet s (Produce xs)) x.batch =
-        ⊎_elim
-        (λ (a : GoesAgain s.correlation (partition_at x.partition s.partitions) x.batch). agreed_again x.partition ids s.ended s.correlation (partition_at x.partition s.partitions) (handed_at x.partition handed) (log_at x.partition logs) packets replies (packet s (Produce xs)) x.batch both.sound both.steady below refl says a)
-        (λ (a : GoesFirst s.correlation s.config (partition_at x.partition s.partitions) x.batch). agreed_first x.partition ids s.config s.ended s.correlation (partition_at x.partition s.partitions) (handed_at x.partition handed) (log_at x.partition logs) packets replies (packet s (Produce xs)) x.batch g.window g.some both.sound both.steady below refl says a)
-        (sends_cases s.config (flags_of s) now s.correlation (partition_at x.partition s.partitions) x.batch (sent_is x i).sends) in
-        subst (λ (hs : List Batch). AgreedWith most x.partition ids s.ended s.correlation (partition_at x.partition s.partitions) (partition_at x.partition (sent_out now s (Produce xs)).partitions) (handed_at x.partition handed) hs (log_at x.partition logs) packets replies (packet s (Produce xs)) x.batch) (sym grown)
-        (subst (λ (u : Partition). AgreedWith most x.partition ids s.ended s.correlation (partition_at x.partition s.partitions) u (handed_at x.partition handed) (grown_by x.batch (handed_at x.partition handed)) (log_at x.partition logs) packets replies (packet s (Produce xs)) x.batch) (sym after) it)
-
-    without : (p : ℕ) → p < n → is_in p (partitions_in xs) ≡ false
-        → Agreed most p ids s.ended s.correlation (partition_at p s.partitions) (partition_at p (sent_out now s (Produce xs)).partitions) (handed_at p handed) (handed_at p (with_sendings xs handed)) (log_at p logs) packets replies (packet s (Produce xs))
-    without p h is =
-        let b : Batch = record { number = 0; id = 0; sequence = 0; items = [] } in
-        let only : Only p b xs = none_here now s p b xs is in
-        let grown : handed_at p (with_sendings xs handed) ≡ handed_at p handed = at-with_sendings xs handed p b only inside ∙ ap (λ (c : Bool). if c then grown_by b (handed_at p handed) else handed_at p handed) is in
-        let after : partition_at p (sent_out now s (Produce xs)).partitions ≡ partition_at p s.partitions = changed p h ∙ ap (λ (c : Bool). if c then sent_in s.correlation (partition_at p s.partitions) else partition_at p s.partitions) is in
-        subst (λ (hs : List Batch). Agreed most p ids s.ended s.correlation (partition_at p s.partitions) (partition_at p (sent_out now s (Produce xs)).partitions) (handed_at p handed) hs (log_at p logs) packets replies (packet s (Produce xs))) (sym grown)
-        (subst (λ (u : Partition). Agreed most p ids s.ended s.correlation (partition_at p s.partitions) u (handed_at p handed) (handed_at p handed) (log_at p logs) packets replies (packet s (Produce xs))) (sym after)
-        (record {
-          sound = (g.agree p h).sound;
-          steady = steady_passed_by p s.correlation s.ended (partition_at p s.partitions) (handed_at p handed) (log_at p logs) packets replies (packet s (Produce xs)) (g.agree p h).steady refl;
-          more = λ c i. i;
-          same_ids = refl;
-        }))
-
     at : (p : ℕ) → p < n
         → Agreed most p ids s.ended s.correlation (partition_at p s.partitions) (partition_at p (sent_out now s (Produce xs)).partitions) (handed_at p handed) (handed_at p (with_sendings xs handed)) (log_at p logs) packets replies (packet s (Produce xs))
-    at p h = at_test (is_in p (partitions_in xs)) refl
+    at p h = at_sent_out (λ (u : Partition) (hs : List Batch). Agreed most p ids s.ended s.correlation (partition_at p s.partitions) u (handed_at p handed) hs (log_at p logs) packets replies (packet s (Produce xs))) now s xs handed p all (g.count ∙ sym g.handed_count) (within p h) (record { passed_by = passed_by; sent = sent })
       where
-        at_test : (b : Bool) → is_in p (partitions_in xs) ≡ b
-            → Agreed most p ids s.ended s.correlation (partition_at p s.partitions) (partition_at p (sent_out now s (Produce xs)).partitions) (handed_at p handed) (handed_at p (with_sendings xs handed)) (log_at p logs) packets replies (packet s (Produce xs))
-        at_test true is =
-            let x = in_part xs p is in
-            subst (λ (q : ℕ). Agreed most q ids s.ended s.correlation (partition_at q s.partitions) (partition_at q (sent_out now s (Produce xs)).partitions) (handed_at q handed) (handed_at q (with_sendings xs handed)) (log_at q logs) packets replies (packet s (Produce xs))) x.2
-            (with_it x.0 x.1 (subst (λ (q : ℕ). q < n) (sym x.2) h)).all
-        at_test false is = without p h is
+        mine : Agrees most n ids s handed logs packets replies p
+        mine = g.agree p h
+
+        passed_by : is_in p (partitions_in xs) ≡ false → Agreed most p ids s.ended s.correlation (partition_at p s.partitions) (partition_at p s.partitions) (handed_at p handed) (handed_at p handed) (log_at p logs) packets replies (packet s (Produce xs))
+        passed_by is = record {
+          agrees = record { sound = mine.sound; steady = steady_passed_by p s.correlation s.ended (partition_at p s.partitions) (handed_at p handed) (log_at p logs) packets replies (packet s (Produce xs)) mine.steady refl };
+          more = λ c i. i;
+          known = λ c carries. absurd (not_in_request xs p is carries.0 carries.1 carries.2);
+          same_ids = refl;
+        }
+
+        sent : (b : Batch) → sends s.config (flags_of s) now (partition_at p s.partitions) ≡ Some b → Only p b xs
+            → Agreed most p ids s.ended s.correlation (partition_at p s.partitions) (sent_in s.correlation (partition_at p s.partitions)) (handed_at p handed) (grown_by b (handed_at p handed)) (log_at p logs) packets replies (packet s (Produce xs))
+        sent b goes only =
+            let says : Says p b (Produce xs) = λ y j e. all_at (λ (z : Sending). z.partition ≡ p → z.batch ≡ b) xs y only j e in
+            ⊎_elim
+            (λ (a : GoesAgain s.correlation (partition_at p s.partitions) b). agreed_again p ids s.ended s.correlation (partition_at p s.partitions) (handed_at p handed) (log_at p logs) packets replies (packet s (Produce xs)) b mine.sound mine.steady below refl says a)
+            (λ (a : GoesFirst s.correlation s.config (partition_at p s.partitions) b). agreed_first p ids s.config s.ended s.correlation (partition_at p s.partitions) (handed_at p handed) (log_at p logs) packets replies (packet s (Produce xs)) b g.window g.some mine.sound mine.steady below refl says a)
+            (sends_cases s.config (flags_of s) now s.correlation (partition_at p s.partitions) b goes)
 
     more_parts : (d : Demand) → PartsIn n handed d → PartsIn n (with_sendings xs handed) d
     more_parts (Produce ys) h = all_weaker (λ (x : Sending). (x.partition < n) × In x.batch (handed_at x.partition handed)) (λ (x : Sending). (x.partition < n) × In x.batch (handed_at x.partition (with_sendings xs handed))) (λ x k. (k.0, (at x.partition k.0).more x.batch k.1)) ys h
@@ -296,7 +261,7 @@ lawful_batches {most = most} n now s logs handed packets replies ids xs g all = 
     newest : Went n (with_sendings xs handed) (sent_out now s (Produce xs)) (packet s (Produce xs))
     newest = record {
       before = omega arith;
-      parts = all_in (λ (x : Sending). (x.partition < n) × In x.batch (handed_at x.partition (with_sendings xs handed))) xs (λ x i. let h : x.partition < n = subst (λ (m : ℕ). x.partition < m) g.count (sent_is x i).there in (h, (with_it x i h).known));
+      parts = all_in (λ (x : Sending). (x.partition < n) × In x.batch (handed_at x.partition (with_sendings xs handed))) xs (λ x i. let h : x.partition < n = subst (λ (m : ℕ). x.partition < m) g.count (all_at (IsSent now s) xs x all i).there in (h, (at x.partition h).known x.batch (x, i, refl, refl)));
     }
 
 lawful_id : {most : ℕ} (n now : ℕ) (s : Core) (logs : List History) (handed : List (List Batch)) (packets : List Outgoing) (replies : List Reply) (ids : List ℕ) (p : ℕ)

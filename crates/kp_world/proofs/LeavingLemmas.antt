@@ -24,8 +24,9 @@ use Rattle.kp_core.specs.Partitions.{partition_at, changed_at, new_partition, is
 use Rattle.kp_core.specs.Records.{Batch, Open, Partition, IdRequest, Core, Step}
 use Rattle.kp_core.specs.Telling.{with_partitions, at_each, told_at_each}
 use Rattle.kp_core.specs.Tick.{Ticks, expired_front, is_open_late, passed, ticked_from, ticked, disconnected, closed}
-use Rattle.kp_world.proofs.KeepingLemmas.{Keeps, keeps_same, keeps_more, keeps_dropped, keeps_marked, keeps_queued, keeps_fenced, keeps_given_up, keeps_expired, keeps_without, keeps_settled, length-changed_at, at-changed_at}
 use Rattle.kp_core.proofs.CallLemmas.{at_appended, at_ticked}
+use Rattle.kp_world.proofs.KeepingLemmas.{Keeps, keeps_same, keeps_more, keeps_dropped, keeps_marked, keeps_queued, keeps_fenced, keeps_given_up, keeps_expired, keeps_without, keeps_settled, length-changed_at, at-changed_at}
+use Rattle.kp_world.proofs.ListLemmas.{all_filter, all_map}
 
 -- ---- open batches
 
@@ -74,7 +75,7 @@ leaves_same P e t = record {
   keeps = keeps_same t;
 }
 
-pub leaves_more : (P : Batch → Type 0) (e : Bool) (t u v : Partition) → Leaves P e t u → Leaves P e u v → Leaves P e t v
+leaves_more : (P : Batch → Type 0) (e : Bool) (t u v : Partition) → Leaves P e t u → Leaves P e u v → Leaves P e t v
 leaves_more P e t u v k l = record {
   opens = λ o i. let m = l.opens o i in let n = k.opens m.it m.there in
       record { it = n.it; there = n.there; batch = m.batch ∙ n.batch; flight = λ q a. n.flight q (m.flight q a) };
@@ -116,13 +117,12 @@ mapped_open f a (x ∷ os) o i = ⊎_elim (λ (same : o ≡ x). subst (λ (y : O
     further : IsOpen (map f os) o.batch → IsOpen (f x ∷ map f os) o.batch
     further c = record { it = c.it; there = In-tail c.it (f x) (map f os) c.there; batch = c.batch }
 
-above_mapped : (f : Open → Open) → Alike f → (n : ℕ) (os : List Open) → AllByRecursion (λ (x : Open). n < x.batch.number) os → AllByRecursion (λ (x : Open). n < x.batch.number) (map f os)
-above_mapped f a n [] h = tt
-above_mapped f a n (x ∷ os) h = (subst (λ (b : Batch). n < b.number) (sym (a.batch x)) h.0, above_mapped f a n os h.1)
-
 rising_mapped : (f : Open → Open) → Alike f → (os : List Open) → Rising os → Rising (map f os)
 rising_mapped f a [] h = tt
-rising_mapped f a (x ∷ os) h = (subst (λ (b : Batch). AllByRecursion (λ (y : Open). b.number < y.batch.number) (map f os)) (sym (a.batch x)) (above_mapped f a x.batch.number os h.0), rising_mapped f a os h.1)
+rising_mapped f a (x ∷ os) h = (
+  all_map (λ (y : Open). x.batch.number < y.batch.number) (λ (y : Open). (f x).batch.number < y.batch.number) f (λ y less. subst (λ (b : Batch). b.number < (f y).batch.number) (sym (a.batch x)) (subst (λ (b : Batch). x.batch.number < b.number) (sym (a.batch y)) less)) os h.0,
+  rising_mapped f a os h.1,
+)
 
 leaves_mapped : (P : Batch → Type 0) (e : Bool) (f : Open → Open) → Alike f → (t t' : Partition) → t'.open_batches ≡ map f t.open_batches → t'.fenced ≡ t.fenced → t'.acknowledged ≡ t.acknowledged → Keeps t t' → Leaves P e t t'
 leaves_mapped P e f a t t' opens fence acked keeps = record {
@@ -143,20 +143,12 @@ left_in {A = A} p (y ∷ xs) x i = at_test (p y) refl i (left_in p xs x)
     at_test true is j later = ⊎_elim (λ (same : x ≡ y). (subst (λ (z : A). In z (y ∷ xs)) (sym same) (In-head y xs), ap p same ∙ is)) (λ (k : In x (filter p xs)). let l = later k in (In-tail x y xs l.0, l.1)) (In-cons x y (filter p xs) j)
     at_test false is j later = let l = later j in (In-tail x y xs l.0, l.1)
 
-above_left : (p : Open → Bool) (n : ℕ) (os : List Open) → AllByRecursion (λ (x : Open). n < x.batch.number) os → AllByRecursion (λ (x : Open). n < x.batch.number) (filter p os)
-above_left p n [] h = tt
-above_left p n (x ∷ os) h = at_test (p x) (above_left p n os h.1)
-  where
-    at_test : (b : Bool) → AllByRecursion (λ (y : Open). n < y.batch.number) (filter p os) → AllByRecursion (λ (y : Open). n < y.batch.number) (cond b (x ∷ filter p os) (filter p os))
-    at_test true rest = (h.0, rest)
-    at_test false rest = rest
-
 rising_left : (p : Open → Bool) (os : List Open) → Rising os → Rising (filter p os)
 rising_left p [] h = tt
 rising_left p (x ∷ os) h = at_test (p x) (rising_left p os h.1)
   where
     at_test : (b : Bool) → Rising (filter p os) → Rising (cond b (x ∷ filter p os) (filter p os))
-    at_test true rest = (above_left p x.batch.number os h.0, rest)
+    at_test true rest = (all_filter (λ (y : Open). x.batch.number < y.batch.number) p os h.0, rest)
     at_test false rest = rest
 
 -- ---- the attempt that a reply names
@@ -185,13 +177,13 @@ alike_dropped now = record { batch = λ o. refl; flight = λ o k e. at_attempt o
     at_attempt (InFlight c) k e = absurd cc
     at_attempt (Waiting since) k e = absurd cc
 
-pub leaves_dropped : (P : Batch → Type 0) (e : Bool) (now : ℕ) (t : Partition) → Leaves P e t (without_attempts now t)
+leaves_dropped : (P : Batch → Type 0) (e : Bool) (now : ℕ) (t : Partition) → Leaves P e t (without_attempts now t)
 leaves_dropped P e now t = leaves_mapped P e (dropped_batch now) (alike_dropped now) t (without_attempts now t) refl refl refl (keeps_dropped now t)
 
-pub leaves_marked : (P : Batch → Type 0) (e : Bool) (t : Partition) → Leaves P e t (with_marks t)
+leaves_marked : (P : Batch → Type 0) (e : Bool) (t : Partition) → Leaves P e t (with_marks t)
 leaves_marked P e t = leaves_mapped P e marked_open (record { batch = λ o. refl; flight = λ o k a. a }) t (with_marks t) refl refl refl (keeps_marked t)
 
-pub leaves_queued : (P : Batch → Type 0) (e : Bool) (c : Config) (i : Item) (t : Partition) → Leaves P e t (with_queued c i t)
+leaves_queued : (P : Batch → Type 0) (e : Bool) (c : Config) (i : Item) (t : Partition) → Leaves P e t (with_queued c i t)
 leaves_queued P e c i t = record {
   opens = (leaves_same P e t).opens;
   rises = λ r. r;
@@ -201,7 +193,7 @@ leaves_queued P e c i t = record {
   keeps = keeps_queued c i t;
 }
 
-pub leaves_fenced : (P : Batch → Type 0) (e : Bool) (t : Partition) → Leaves P e t (fenced t).after
+leaves_fenced : (P : Batch → Type 0) (e : Bool) (t : Partition) → Leaves P e t (fenced t).after
 unfolding fenced
 leaves_fenced P e t = record {
   opens = λ o i. absurd (In-nil o i);
@@ -212,7 +204,7 @@ leaves_fenced P e t = record {
   keeps = keeps_fenced t;
 }
 
-pub leaves_given_up : (P : Batch → Type 0) (t : Partition) → Leaves P true t (given_up t).after
+leaves_given_up : (P : Batch → Type 0) (t : Partition) → Leaves P true t (given_up t).after
 unfolding given_up
 leaves_given_up P t = record {
   opens = λ o i. absurd (In-nil o i);
@@ -223,7 +215,7 @@ leaves_given_up P t = record {
   keeps = keeps_given_up t;
 }
 
-pub leaves_passed : (P : Batch → Type 0) (e : Bool) (c : Config) (now : ℕ) (t : Partition) → Leaves P e t (passed c now t).after
+leaves_passed : (P : Batch → Type 0) (e : Bool) (c : Config) (now : ℕ) (t : Partition) → Leaves P e t (passed c now t).after
 unfolding passed
 leaves_passed P e c now t = at_test (list_any (is_open_late c now) t.open_batches)
   where

@@ -29,6 +29,10 @@ all_filter P test (x ∷ xs) h = at_test (test x) (all_filter P test xs h.1)
     at_test true rest = (h.0, rest)
     at_test false rest = rest
 
+pub all_map : {A B : Type 0} (P : A → Type 0) (Q : B → Type 0) (f : A → B) → ((x : A) → P x → Q (f x)) → (xs : List A) → AllByRecursion P xs → AllByRecursion Q (map f xs)
+all_map P Q f k [] h = tt
+all_map P Q f k (x ∷ xs) h = (k x h.0, all_map P Q f k xs h.1)
+
 pub all_take : {A : Type 0} (P : A → Type 0) (n : ℕ) (xs : List A) → AllByRecursion P xs → AllByRecursion P (take n xs)
 all_take P zero xs h = tt
 all_take P (suc n) [] h = tt

@@ -95,7 +95,7 @@ size b = length (sent_of b).bodies
 under-append : (id : ℕ) (xs ys : List Batch) → records_under id (xs ++ ys) ≡ records_under id xs + records_under id ys
 under-append id xs ys = ap (λ z. count_of (pos id) (records_of z)) (map-append sent_of xs ys) ∙ ap (count_of (pos id)) (flat_map-append stored_of (sents xs) (sents ys)) ∙ count_of-append (pos id) (records_of (sents xs)) (records_of (sents ys))
 
-pub under_more : (id : ℕ) (xs ys : List Batch) (b : Batch) → b.id ≡ id → records_under id (xs ++ b ∷ ys) ≡ records_under id xs + (size b + records_under id ys)
+under_more : (id : ℕ) (xs ys : List Batch) (b : Batch) → b.id ≡ id → records_under id (xs ++ b ∷ ys) ≡ records_under id xs + (size b + records_under id ys)
 under_more id xs ys b same =
     let first : count_of (pos id) (stored_of (sent_of b)) ≡ size b = ap (λ (n : ℕ). count_of (pos n) (stored_of (sent_of b))) (sym same) ∙ count_of_own (pos b.id) (sent_of b).bodies in
     let later : records_under id (b ∷ ys) ≡ count_of (pos id) (stored_of (sent_of b)) + records_under id ys = count_of-append (pos id) (stored_of (sent_of b)) (records_of (sents ys)) in
@@ -120,7 +120,7 @@ pub follows : (ids : List ℕ) (t : Partition) (handed : List Batch) (h : Histor
 follows ids t handed h s earlier later b e = s.in_sequence.each (sents earlier) (sents later) (sent_of b) (ap sents e ∙ map-append sent_of earlier (b ∷ later))
 
 -- the count of an id's records in the log
-pub counted : (ids : List ℕ) (t : Partition) (handed : List Batch) (h : History) → Sound ids t handed h → (cut : Cut t handed h) → (id : ℕ) → count_of (pos id) h.records ≡ records_under id cut.landed
+counted : (ids : List ℕ) (t : Partition) (handed : List Batch) (h : History) → Sound ids t handed h → (cut : Cut t handed h) → (id : ℕ) → count_of (pos id) h.records ≡ records_under id cut.landed
 counted ids t handed h s cut id =
     s.came.counted id ∙ ap (λ z. count_of (pos id) (records_of z)) cut.appended
 

@@ -16,7 +16,7 @@ abbrev pub told_in_replay : Result World ℕ → Option (List Outcome)
 told_in_replay (Ok w) = Some (outcomes_in w)
 told_in_replay (Err n) = None
 
-pub may_begin : MayBegin default_config 1 1
+may_begin : MayBegin default_config 1 1
 unfolding checked is_outside
 may_begin = record { config = refl; some_partitions = omega arith; partition_limit = omega arith; some_senders = omega arith; sender_limit = omega arith }
 

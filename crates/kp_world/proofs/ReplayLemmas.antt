@@ -32,11 +32,11 @@ use Rattle.kp_world.specs.Run.{with_delivery, with_others_at, Arrives, Steps, Ru
 use Rattle.kp_world.specs.World.{Reply, World, opening}
 use Rattle.kp_world.proofs.BrokerLemmas.{AllAgree, Known, PartsDelivered, parts_delivered}
 use Rattle.kp_world.proofs.EventLemmas.{OfEvent, at_client, at_only_if}
+use Rattle.kp_world.proofs.FlightLemmas.{Carried}
 use Rattle.kp_world.proofs.LawfulLemmas.{IsLawfulWithin}
-use Rattle.kp_world.proofs.ListLemmas.{In-map, all_weaker, in_at}
 use Rattle.kp_world.proofs.RunLemmas.{parts_known, lawful_step, lawful_opening_within}
 use Rattle.kp_world.proofs.SoundLemmas.{Sound, sents}
-use Rattle.kp_world.proofs.FlightLemmas.{Carried}
+use Rattle.kp_world.proofs.ListLemmas.{In-map, all_weaker, in_at}
 
 -- ---- batches
 

@@ -5,20 +5,22 @@ use Rattle.std.specs.List.{AllByRecursion}
 use Rattle.std.proofs.lemmas.Bool.{eqb-true, eq-eqb, eqb-false}
 use Rattle.std.proofs.lemmas.List.{length-set, get_or-set_same, get_or-set_other}
 use Rattle.kp_log.proofs.PlaceLemmas.{In, In-nil, In-cons, In-head, In-tail}
+use Rattle.kp_core.specs.HandingOver.{sent_in}
 use Rattle.kp_core.specs.MaySend.{sends}
-use Rattle.kp_core.specs.Next.{Sending, Demand, flags_of, next_demand}
+use Rattle.kp_core.specs.Next.{Sending, Demand, Produce, flags_of, next_demand}
 use Rattle.kp_core.specs.Partitions.{partition_at, is_in}
-use Rattle.kp_core.specs.Records.{Batch, Core}
-use Rattle.kp_core.specs.Requesting.{Requested, nothing_out, goes_out, requested_for, partitions_in}
+use Rattle.kp_core.specs.Records.{Batch, Partition, Core}
+use Rattle.kp_core.specs.Requesting.{Requested, nothing_out, goes_out, requested_for, partitions_in, sent_out}
 use Rattle.kp_core.specs.declared.fault.CoreFault.TheVariants as fault
 use Rattle.kp_world.specs.Client.{grown_by, handed_at, with_sending, with_sendings}
 use Rattle.kp_world.specs.World.{World}
+use Rattle.kp_world.proofs.KeepingLemmas.{at-changed_at}
 use Rattle.kp_world.proofs.SendingLemmas.{IsSent}
 use Rattle.kp_world.proofs.ListLemmas.{all_at, all_in, all_weaker}
 
 -- ---- which partitions are in a request
 
-pub part_in : (xs : List Sending) (x : Sending) → In x xs → is_in x.partition (partitions_in xs) ≡ true
+part_in : (xs : List Sending) (x : Sending) → In x xs → is_in x.partition (partitions_in xs) ≡ true
 part_in [] x i = absurd (In-nil x i)
 part_in (y ∷ xs) x i =
     ⊎_elim
@@ -30,7 +32,7 @@ part_in (y ∷ xs) x i =
     at_test true e = refl
     at_test false e = e
 
-pub in_part : (xs : List Sending) (p : ℕ) → is_in p (partitions_in xs) ≡ true → (x : Sending) × In x xs × (x.partition ≡ p)
+in_part : (xs : List Sending) (p : ℕ) → is_in p (partitions_in xs) ≡ true → (x : Sending) × In x xs × (x.partition ≡ p)
 in_part [] p e = absurd cc
 in_part (y ∷ xs) p e = at_test (y.partition == p) refl e (in_part xs p)
   where
@@ -42,6 +44,12 @@ in_part (y ∷ xs) p e = at_test (y.partition == p) refl e (in_part xs p)
 pub in_request : (now : ℕ) (s : Core) (xs : List Sending) (p : ℕ) → AllByRecursion (IsSent now s) xs → is_in p (partitions_in xs) ≡ true → (x : Sending) × IsSent now s x × (x.partition ≡ p)
 in_request now s xs p all e =
     let x = in_part xs p e in (x.0, all_at (IsSent now s) xs x.0 all x.1, x.2)
+
+pub not_in_request : (xs : List Sending) (p : ℕ) → is_in p (partitions_in xs) ≡ false → (x : Sending) → In x xs → x.partition ≡ p → ⊥
+not_in_request xs p is x i same =
+    let there : is_in p (partitions_in xs) ≡ true = subst (λ (n : ℕ). is_in n (partitions_in xs) ≡ true) same (part_in xs x i) in
+    let both : false ≡ true = sym is ∙ there in
+    cc
 
 -- ---- all parts of a partition have one batch
 
@@ -58,13 +66,7 @@ only_this now s xs x all is = all_weaker (IsSent now s) (λ (y : Sending). y.par
         cc
 
 pub none_here : (now : ℕ) (s : Core) (p : ℕ) (b : Batch) (xs : List Sending) → is_in p (partitions_in xs) ≡ false → Only p b xs
-none_here now s p b xs e = all_in (λ (x : Sending). x.partition ≡ p → x.batch ≡ b) xs (λ x i same. absurd (nothing x i same))
-  where
-    nothing : (x : Sending) → In x xs → x.partition ≡ p → ⊥
-    nothing x i same =
-        let there : is_in p (partitions_in xs) ≡ true = subst (λ (n : ℕ). is_in n (partitions_in xs) ≡ true) same (part_in xs x i) in
-        let both : false ≡ true = sym e ∙ there in
-        cc
+none_here now s p b xs is = all_in (λ (x : Sending). x.partition ≡ p → x.batch ≡ b) xs (λ x i same. absurd (not_in_request xs p is x i same))
 
 -- ---- a partition's batches, with one that has gone out
 
@@ -142,6 +144,39 @@ at-with_sendings (x ∷ xs) handed p b only within =
     at_test true is false e = e ∙ same (eqb-true x.partition p is)
     at_test false is true e = e ∙ ap (grown_by b) (other (eqb-false x.partition p is))
     at_test false is false e = e ∙ other (eqb-false x.partition p is)
+
+-- ---- a partition when a request goes out
+
+-- It is not in the request, or a batch of it goes out.
+pub record OfPart (Q : Partition → List Batch → Type 0) (now : ℕ) (s : Core) (xs : List Sending) (handed : List (List Batch)) (p : ℕ) : Type 0 where
+  pub passed_by : is_in p (partitions_in xs) ≡ false → Q (partition_at p s.partitions) (handed_at p handed)
+  pub sent : (b : Batch) → sends s.config (flags_of s) now (partition_at p s.partitions) ≡ Some b → Only p b xs → Q (sent_in s.correlation (partition_at p s.partitions)) (grown_by b (handed_at p handed))
+
+pub at_sent_out : (Q : Partition → List Batch → Type 0) (now : ℕ) (s : Core) (xs : List Sending) (handed : List (List Batch)) (p : ℕ) → AllByRecursion (IsSent now s) xs → length s.partitions ≡ length handed → p < length s.partitions → OfPart Q now s xs handed p
+    → Q (partition_at p (sent_out now s (Produce xs)).partitions) (handed_at p (with_sendings xs handed))
+at_sent_out Q now s xs handed p all size within c = at_test (is_in p (partitions_in xs)) refl
+  where
+    inside : Within handed xs
+    inside = all_weaker (IsSent now s) (λ (x : Sending). x.partition < length handed) (λ x k. subst (λ (n : ℕ). x.partition < n) size k.there) xs all
+
+    changed : partition_at p (sent_out now s (Produce xs)).partitions ≡ (if is_in p (partitions_in xs) then sent_in s.correlation (partition_at p s.partitions) else partition_at p s.partitions)
+    changed = at-changed_at (partitions_in xs) (λ q t. sent_in s.correlation t) s.partitions p within
+
+    both : (t : Bool) (b : Batch) → is_in p (partitions_in xs) ≡ t → Only p b xs → Q (if t then sent_in s.correlation (partition_at p s.partitions) else partition_at p s.partitions) (if t then grown_by b (handed_at p handed) else handed_at p handed)
+        → Q (partition_at p (sent_out now s (Produce xs)).partitions) (handed_at p (with_sendings xs handed))
+    both t b is only q =
+        subst (λ (u : Partition). Q u (handed_at p (with_sendings xs handed))) (sym (changed ∙ ap (λ (i : Bool). if i then sent_in s.correlation (partition_at p s.partitions) else partition_at p s.partitions) is))
+        (subst (Q (if t then sent_in s.correlation (partition_at p s.partitions) else partition_at p s.partitions)) (sym (at-with_sendings xs handed p b only inside ∙ ap (λ (i : Bool). if i then grown_by b (handed_at p handed) else handed_at p handed) is)) q)
+
+    at_test : (t : Bool) → is_in p (partitions_in xs) ≡ t → Q (partition_at p (sent_out now s (Produce xs)).partitions) (handed_at p (with_sendings xs handed))
+    at_test true is =
+        let x = in_request now s xs p all is in
+        let goes : sends s.config (flags_of s) now (partition_at p s.partitions) ≡ Some x.0.batch = subst (λ (n : ℕ). sends s.config (flags_of s) now (partition_at n s.partitions) ≡ Some x.0.batch) x.2 x.1.sends in
+        let only : Only p x.0.batch xs = subst (λ (n : ℕ). Only n x.0.batch xs) x.2 (only_this now s xs x.0 all x.1) in
+        both true x.0.batch is only (c.sent x.0.batch goes only)
+    at_test false is =
+        let none : Batch = record { number = 0; id = 0; sequence = 0; items = [] } in
+        both false none is (none_here now s p none xs is) (c.passed_by is)
 
 -- ---- the cases of a request
 

@@ -30,15 +30,15 @@ use Rattle.kp_world.specs.Loopback.{other_record, logs_with_others}
 use Rattle.kp_world.specs.Noting.{noted}
 use Rattle.kp_world.specs.Run.{with_delivery, Steps, IsReached}
 use Rattle.kp_world.specs.World.{PartAnswer, ReplyContent, Batches, Id, Reply, World, opening, FIRST_ID, FIRST_CORRELATION}
-use Rattle.kp_world.proofs.BrokerLemmas.{Agrees, AllAgree, Known, PartsDelivered, parts_delivered, agree_set}
-use Rattle.kp_world.proofs.FlightLemmas.{Carries, PartHolds, ContentHolds, Steady, steady_new, steady_grown, steady_replied}
+use Rattle.kp_world.proofs.BrokerLemmas.{Agrees, AllAgree, Known, PartsDelivered, parts_delivered, agree_set, PartAgrees}
+use Rattle.kp_world.proofs.EventLemmas.{OfEvent, at_step, OfStep, at_run}
+use Rattle.kp_world.proofs.FlightLemmas.{Carries, PartHolds, ContentHolds, steady_new, steady_grown, steady_replied}
 use Rattle.kp_world.proofs.HearingLemmas.{lawful_reply}
 use Rattle.kp_world.proofs.LawfulLemmas.{Lawful, IsLawful, StoredAt, lawful_core, lawful_sending, IsLawfulWithin, PartsIn, Given}
 use Rattle.kp_world.proofs.LeavingLemmas.{CoreLeaves, left_appended, left_ticked, left_ended, left_flushed, left_disconnected, left_closed}
 use Rattle.kp_world.proofs.PrefixLemmas.{grown_others}
-use Rattle.kp_world.proofs.SoundLemmas.{Sound, sents, sound_new, sound_history, sound_drawn}
+use Rattle.kp_world.proofs.SoundLemmas.{sents, sound_new, sound_history, sound_drawn}
 use Rattle.kp_world.proofs.ListLemmas.{all_at, in_at, one_more}
-use Rattle.kp_world.proofs.EventLemmas.{OfEvent, at_step, OfStep, at_run}
 
 -- ---- a packet comes
 
@@ -168,9 +168,10 @@ lawful_others {most = most} n p m core logs handed packets replies ids within g 
   logs_count = length-set logs p (with_others m other_record (log_at p logs)) ∙ g.logs_count;
   window = g.window;
   some = g.some;
-  agree = agree_set n ids core handed logs packets replies p (with_others m other_record (log_at p logs)) within g.agree
-      (sound_history ids (partition_at p core.partitions) (handed_at p handed) (log_at p logs) (with_others m other_record (log_at p logs)) mine.sound (came_others (sents (handed_at p handed)) (log_at p logs) m other_record mine.sound.came))
-      (steady_grown p core.correlation core.ended (partition_at p core.partitions) (handed_at p handed) (log_at p logs) (with_others m other_record (log_at p logs)) packets replies mine.steady (grown_others (partition_at p core.partitions) (handed_at p handed) (log_at p logs) m other_record mine.steady.cut));
+  agree = agree_set n ids core handed logs packets replies p (with_others m other_record (log_at p logs)) within g.agree (record {
+    sound = sound_history ids (partition_at p core.partitions) (handed_at p handed) (log_at p logs) (with_others m other_record (log_at p logs)) mine.sound (came_others (sents (handed_at p handed)) (log_at p logs) m other_record mine.sound.came);
+    steady = steady_grown p core.correlation core.ended (partition_at p core.partitions) (handed_at p handed) (log_at p logs) (with_others m other_record (log_at p logs)) packets replies mine.steady (grown_others (partition_at p core.partitions) (handed_at p handed) (log_at p logs) m other_record mine.steady.cut);
+  });
   went = g.went;
   gave = g.gave;
   asked = g.asked;
@@ -261,18 +262,17 @@ lawful_opening_within {most = most} c partitions senders few some = record {
   logs_count = length-replicate partitions empty_history;
   window = few;
   some = some;
-  agree = λ p h. let both = each p h in record { sound = both.0; steady = both.1 };
+  agree = each;
   went = λ o i. absurd (In-nil o i);
   gave = λ r i. absurd (In-nil r i);
   asked = λ q e. absurd cc;
 }
   where
-    each : (p : ℕ) → p < partitions → (Sound (FIRST_ID ∷ []) (partition_at p (replicate partitions (new_partition FIRST_ID))) (handed_at p (replicate partitions [])) (log_at p (replicate partitions empty_history)))
-        × Steady most p false FIRST_CORRELATION (partition_at p (replicate partitions (new_partition FIRST_ID))) (handed_at p (replicate partitions [])) (log_at p (replicate partitions empty_history)) [] []
+    each : (p : ℕ) → p < partitions → PartAgrees most p (FIRST_ID ∷ []) false FIRST_CORRELATION (partition_at p (replicate partitions (new_partition FIRST_ID))) (handed_at p (replicate partitions [])) (log_at p (replicate partitions empty_history)) [] []
     each p h =
-        subst (λ (u : Partition). (Sound (FIRST_ID ∷ []) u (handed_at p (replicate partitions [])) (log_at p (replicate partitions empty_history))) × Steady most p false FIRST_CORRELATION u (handed_at p (replicate partitions [])) (log_at p (replicate partitions empty_history)) [] []) (sym (get_or-replicate partitions p (new_partition FIRST_ID) (new_partition 0) h))
-        (subst (λ (hs : List Batch). (Sound (FIRST_ID ∷ []) (new_partition FIRST_ID) hs (log_at p (replicate partitions empty_history))) × Steady most p false FIRST_CORRELATION (new_partition FIRST_ID) hs (log_at p (replicate partitions empty_history)) [] []) (sym (get_or-replicate {A = List Batch} partitions p [] [] h))
-        (subst (λ (l : History). (Sound (FIRST_ID ∷ []) (new_partition FIRST_ID) [] l) × Steady most p false FIRST_CORRELATION (new_partition FIRST_ID) [] l [] []) (sym (get_or-replicate partitions p empty_history empty_history h)) (sound_new FIRST_ID, steady_new p FIRST_CORRELATION FIRST_ID)))
+        subst (λ (u : Partition). PartAgrees most p (FIRST_ID ∷ []) false FIRST_CORRELATION u (handed_at p (replicate partitions [])) (log_at p (replicate partitions empty_history)) [] []) (sym (get_or-replicate partitions p (new_partition FIRST_ID) (new_partition 0) h))
+        (subst (λ (hs : List Batch). PartAgrees most p (FIRST_ID ∷ []) false FIRST_CORRELATION (new_partition FIRST_ID) hs (log_at p (replicate partitions empty_history)) [] []) (sym (get_or-replicate {A = List Batch} partitions p [] [] h))
+        (subst (λ (l : History). PartAgrees most p (FIRST_ID ∷ []) false FIRST_CORRELATION (new_partition FIRST_ID) [] l [] []) (sym (get_or-replicate partitions p empty_history empty_history h)) (record { sound = sound_new FIRST_ID; steady = steady_new p FIRST_CORRELATION FIRST_ID })))
 
 pub lawful_opening : (c : Config) (partitions senders : ℕ) → c.max_in_flight_requests_per_connection ≤ 5 → IsLawful partitions (opening c partitions senders)
 lawful_opening c partitions senders five = lawful_opening_within c partitions senders five (omega arith)

@@ -1,4 +1,5 @@
--- The batches of a request are those that their partitions may send.
+-- The batches of a request are those that their partitions may send; and the open batches of a partition, of which one
+-- goes out again.
 use Rattle.std.proofs.Common.{◌≡◌, ℕ, suc, ◌+◌, ◌-◌, ◌<◌, ◌≤◌, Bool, true, false, List, [], ◌∷◌, length, get_or, take, drop, Some, None, refl, sym, ap, ◌∙◌, subst, arith}
 use Rattle.std.specs.Prelude.{Option, if◌then◌else◌, find, option_map, filter_map, nat_le}
 use Rattle.std.specs.List.{AllByRecursion, enumerate_from, cons_option}
@@ -10,27 +11,30 @@ use Rattle.kp_core.specs.MaySend.{sends}
 use Rattle.kp_core.specs.Next.{Sending, Produce, flags_of, used_up_to, in_turn, sending_by, fitting, next_batches, next_asking, produce_of, demand_of, next_demand}
 use Rattle.kp_core.specs.Partitions.{partition_at, new_partition}
 use Rattle.kp_core.specs.Records.{Batch, Open, Partition, Core}
-use Rattle.kp_world.proofs.KeepingLemmas.{OpenIn}
 use Rattle.kp_core.proofs.ListLemmas.{all_append}
+use Rattle.kp_world.proofs.KeepingLemmas.{OpenIn}
 use Rattle.kp_world.proofs.LeavingLemmas.{found}
 use Rattle.kp_world.proofs.ListLemmas.{all_at, all_drop, all_take, all_weaker}
 
--- ---- one partition
+-- ---- a batch goes out again
 
 pub find_open : (handed : List Batch) (os : List Open) (o : Open) → find is_waiting os ≡ Some o → OpenIn handed os → In o.batch handed
 find_open handed os o e h = all_at (λ (x : Open). In x.batch handed) os o h (found is_waiting os o e).0
 
-pub opens_again : (k : ℕ) (handed : List Batch) (os : List Open) → OpenIn handed os → OpenIn handed (sent_again_in k os)
+-- what holds of the open batches holds of them still
+pub all_again : (P : Batch → Type 0) (k : ℕ) (os : List Open) → AllByRecursion (λ (o : Open). P o.batch) os → AllByRecursion (λ (o : Open). P o.batch) (sent_again_in k os)
 unfolding sent_again_in
-opens_again k handed [] h = tt
-opens_again k handed (o ∷ os) h = at_test (is_waiting o) (opens_again k handed os h.1)
+all_again P k [] h = tt
+all_again P k (o ∷ os) h = at_test (is_waiting o) (all_again P k os h.1)
   where
-    at_test : (b : Bool) → OpenIn handed (sent_again_in k os)
-        → OpenIn handed (if b then again_in k o ∷ os else o ∷ sent_again_in k os)
-    at_test true rest = (h.0, h.1)
+    at_test : (b : Bool) → AllByRecursion (λ (x : Open). P x.batch) (sent_again_in k os) → AllByRecursion (λ (x : Open). P x.batch) (if b then again_in k o ∷ os else o ∷ sent_again_in k os)
+    at_test true rest = h
     at_test false rest = (h.0, rest)
 
--- ---- all of a request
+pub opens_again : (k : ℕ) (handed : List Batch) (os : List Open) → OpenIn handed os → OpenIn handed (sent_again_in k os)
+opens_again k handed os h = all_again (λ (b : Batch). In b handed) k os h
+
+-- ---- the batches of a request
 
 -- the partition is there, and may send this batch
 pub record IsSent (now : ℕ) (s : Core) (x : Sending) : Type 0 where
@@ -42,7 +46,7 @@ pub record IsPlace {A : Type 0} (k : ℕ) (xs : List A) (d : A) (y : ℕ × A) :
   pub most : y.0 < k + length xs
   pub there : get_or xs (y.0 - k) d ≡ y.1
 
-places : {A : Type 0} (k : ℕ) (xs : List A) (d : A) → AllByRecursion (IsPlace k xs d) (enumerate_from k xs)
+pub places : {A : Type 0} (k : ℕ) (xs : List A) (d : A) → AllByRecursion (IsPlace k xs d) (enumerate_from k xs)
 places k [] d = tt
 places {A = A} k (x ∷ xs) d =
     let here : k - k ≡ 0 = omega arith in (
@@ -58,7 +62,7 @@ places {A = A} k (x ∷ xs) d =
         let n : y.0 - k ≡ suc (y.0 - (k + 1)) = omega arith in
         record { least = omega arith; most = omega arith; there = ap (λ (i : ℕ). get_or (x ∷ xs) i d) n ∙ h.there }
 
-all_filter_map : {A B : Type 0} (P : B → Type 0) (Q : A → Type 0) (h : A → Option B)
+pub all_filter_map : {A B : Type 0} (P : B → Type 0) (Q : A → Type 0) (h : A → Option B)
     → ((x : A) (y : B) → Q x → h x ≡ Some y → P y)
     → (xs : List A) → AllByRecursion Q xs → AllByRecursion P (filter_map h xs)
 all_filter_map P Q h f [] k = tt

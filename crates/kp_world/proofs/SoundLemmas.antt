@@ -18,6 +18,7 @@ use Rattle.kp_core.specs.MaySend.{new_batch}
 use Rattle.kp_core.specs.Partitions.{new_partition, present_id}
 use Rattle.kp_core.specs.Records.{Batch, Open, Partition}
 use Rattle.kp_core.specs.Replies.{under}
+use Rattle.kp_core.proofs.ListLemmas.{all_append}
 use Rattle.kp_world.specs.Message.{sent_of}
 use Rattle.kp_world.proofs.KeepingLemmas.{HasItems, OpenIn, Keeps}
 use Rattle.kp_world.proofs.ListLemmas.{all_weaker, one_more}
@@ -141,8 +142,7 @@ opens_more handed b os h = all_weaker (λ (o : Open). In o.batch handed)
 
 pub opens_last : (handed : List Batch) (o : Open) (os : List Open) → In o.batch handed
     → OpenIn handed os → OpenIn handed (os ++ o ∷ [])
-opens_last handed o [] i h = (i, tt)
-opens_last handed o (x ∷ os) i h = (h.0, opens_last handed o os i h.1)
+opens_last handed o os i h = all_append (λ (x : Open). In x.batch handed) os (o ∷ []) h (i, tt)
 
 pub sound_handed : (drawn : List ℕ) (t : Partition) (handed : List Batch) (h : History) (request : ℕ) (front : Pending) (rest : List Pending)
     → Sound drawn t handed h → t.queue ≡ front ∷ rest → Sound drawn (handed_over_in request t (front ∷ rest)) (handed ++ new_batch t front ∷ []) h
