@@ -98,7 +98,7 @@ items_split handed b i front back known e =
 
 -- ---- a reply that settles a batch
 
-open_there : (ts : List Partition) (p : ℕ) (o : Open) → In o (partition_at p ts).open_batches → p < length ts
+pub open_there : (ts : List Partition) (p : ℕ) (o : Open) → In o (partition_at p ts).open_batches → p < length ts
 open_there [] p o i = absurd (In-nil o i)
 open_there (t ∷ ts) zero o i = omega arith
 open_there (t ∷ ts) (suc p) o i = omega (arith, open_there ts p o i)

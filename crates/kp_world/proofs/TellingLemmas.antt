@@ -131,8 +131,7 @@ core_then : (s u v : Core) (told : List Told) → CoreTells s [] u → CoreTells
 core_then s u v told a b = record {
   count = b.count ∙ a.count;
   each = λ p h.
-      let first = a.each p h in
-      tells_both (partition_at p s.partitions) (partition_at p u.partitions) (partition_at p v.partitions) [] (told_for p told) refl first.queue first (b.each p (subst (λ (n : ℕ). p < n) (sym a.count) h));
+      tells_both (partition_at p s.partitions) (partition_at p u.partitions) (partition_at p v.partitions) [] (told_for p told) (a.each p h) (b.each p (subst (λ (n : ℕ). p < n) (sym a.count) h));
   requests = λ P h. b.requests P (a.requests P h);
   there = subst (λ (n : ℕ). AllByRecursion (λ t. t.item.partition < n) told) a.count b.there;
 }

@@ -12,7 +12,7 @@ use Rattle.kp_world.specs.Accounts.{is_same, is_among, told_items, items_taken, 
 use Rattle.kp_world.specs.World.{World}
 use Rattle.kp_world.proofs.AccountLemmas.{IsAccounted, partition-append}
 use Rattle.kp_world.proofs.FateLemmas.{any_itself, any_none, AreNumbered, numbered_above, numbered_front}
-use Rattle.kp_world.proofs.WeightLemmas.{weigh, weigh_agrees, weigh_beyond, weigh_flat, weigh_none, sum_is}
+use Rattle.kp_world.proofs.WeightLemmas.{weigh, none_counted, weigh_agrees, weigh_beyond, weigh_flat, weigh_none, sum_is}
 use Rattle.kp_world.proofs.ListLemmas.{all_say, all_take, all_weaker}
 
 -- ---- counting an item
@@ -25,14 +25,6 @@ same_itself i =
     ap (λ (b : Bool). b && (i.partition == i.partition && (i.number == i.number))) (eq-eqb i.sender i.sender refl)
     ∙ ap (λ (b : Bool). b && (i.number == i.number)) (eq-eqb i.partition i.partition refl)
     ∙ eq-eqb i.number i.number refl
-
-none_weighs : (i : Item) (xs : List Item) → weigh (count_of i) xs ≡ 0 → AllByRecursion (λ x. is_same i x ≡ false) xs
-none_weighs i [] e = tt
-none_weighs i (x ∷ xs) e = at_test (is_same i x) e (none_weighs i xs)
-  where
-    at_test : (b : Bool) → (if b then 1 else 0) + weigh (count_of i) xs ≡ 0 → (weigh (count_of i) xs ≡ 0 → AllByRecursion (λ y. is_same i y ≡ false) xs) → (b ≡ false) × AllByRecursion (λ y. is_same i y ≡ false) xs
-    at_test true e' rest = absurd (omega (arith, e'))
-    at_test false e' rest = (refl, rest (omega (arith, e')))
 
 weighs_itself : (xs : List Item) → AllByRecursion (λ i. 1 ≤ weigh (count_of i) xs) xs
 weighs_itself [] = tt
@@ -47,7 +39,7 @@ distinct [] h = tt
 distinct (x ∷ xs) h =
     let one : count_of x x ≡ 1 = ap (λ (b : Bool). if b then 1 else 0) (same_itself x) in
     let most : count_of x x + weigh (count_of x) xs ≤ 1 = h x in
-    (none_weighs x xs (omega (arith, one, most)), distinct xs (λ i. let all : count_of i x + weigh (count_of i) xs ≤ 1 = h i in omega (arith, all)))
+    (none_counted (is_same x) xs (omega (arith, one, most)), distinct xs (λ i. let all : count_of i x + weigh (count_of i) xs ≤ 1 = h i in omega (arith, all)))
 
 -- ---- each item was taken once
 
@@ -162,4 +154,4 @@ used_by_untold w a =
     untold_is i l =
         let all : weigh (count_of i) (told_items w) + weigh (count_of i) (flat_map untold w.core.partitions) ≤ 1 = counted_all w a i in
         let none : weigh (count_of i) (told_items w) ≡ 0 = omega (arith, all, l) in
-        ap (λ (b : Bool). if not b then charge_of i else 0) (any_none (is_same i) (told_items w) (none_weighs i (told_items w) none))
+        ap (λ (b : Bool). if not b then charge_of i else 0) (any_none (is_same i) (told_items w) (none_counted (is_same i) (told_items w) none))

@@ -1,6 +1,6 @@
 -- Lists weighed: the sum of what each element weighs.
 use Rattle.std.proofs.Common.{◌≡◌, ℕ, zero, suc, ◌+◌, ◌<◌, ◌≤◌, Bool, true, false, List, [], ◌∷◌, ◌++◌, refl, sym, ap, ◌∙◌, subst, arith}
-use Rattle.std.specs.Prelude.{flat_map, ◌==◌}
+use Rattle.std.specs.Prelude.{flat_map, if◌then◌else◌, ◌==◌}
 use Rattle.std.specs.List.{AllByRecursion, fold, range_with_len, sum_by}
 use Rattle.std.proofs.lemmas.Bool.{eqb-true, eqb-false, ne_eqb}
 
@@ -15,6 +15,16 @@ weigh-append f (x ∷ xs) ys = let rest : weigh f (xs ++ ys) ≡ weigh f xs + we
 pub weigh_none : {A : Type 0} (f : A → ℕ) (xs : List A) → AllByRecursion (λ x. f x ≡ 0) xs → weigh f xs ≡ 0
 weigh_none f [] h = refl
 weigh_none f (x ∷ xs) h = let here : f x ≡ 0 = h.0 in let rest : weigh f xs ≡ 0 = weigh_none f xs h.1 in omega (arith, here, rest)
+
+-- of none of these the test is true
+pub none_counted : {A : Type 0} (test : A → Bool) (xs : List A) → weigh (λ x. if test x then 1 else 0) xs ≡ 0 → AllByRecursion (λ x. test x ≡ false) xs
+none_counted test [] e = tt
+none_counted test (x ∷ xs) e = at_test (test x) e (none_counted test xs)
+  where
+    at_test : (b : Bool) → (if b then 1 else 0) + weigh (λ y. if test y then 1 else 0) xs ≡ 0 → (weigh (λ y. if test y then 1 else 0) xs ≡ 0 → AllByRecursion (λ y. test y ≡ false) xs)
+        → (b ≡ false) × AllByRecursion (λ y. test y ≡ false) xs
+    at_test true e' rest = absurd (omega (arith, e'))
+    at_test false e' rest = (refl, rest (omega (arith, e')))
 
 -- lists in a row
 pub weigh_flat : {A B : Type 0} (f : B → ℕ) (F : A → List B) (xs : List A) → weigh f (flat_map F xs) ≡ weigh (λ x. weigh f (F x)) xs
