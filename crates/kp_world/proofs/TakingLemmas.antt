@@ -140,7 +140,8 @@ pub record NextOf (count s : ℕ) (items : List Item) (n : ℕ) (i : Item) : Typ
   pub sender : i.sender ≡ s
   pub number : i.number ≡ length (for_partition i.partition (take n items))
 
-took : (xs : List Item) (n : ℕ) (i : Item) → slice_get xs n ≡ Some i → (rest : List Item) × (n < length xs) × (xs ≡ take n xs ++ i ∷ rest) × (take (n + 1) xs ≡ take n xs ++ i ∷ [])
+-- a list, taken at the place of an element
+pub took : {A : Type 0} (xs : List A) (n : ℕ) (i : A) → slice_get xs n ≡ Some i → (rest : List A) × (n < length xs) × (xs ≡ take n xs ++ i ∷ rest) × (take (n + 1) xs ≡ take n xs ++ i ∷ [])
 took [] n i e = absurd cc
 took (x ∷ xs) zero i e = let is : x ≡ i = cc in (xs, omega arith, ap (λ z. z ∷ xs) is, ap (λ z. z ∷ []) is)
 took (x ∷ xs) (suc n) i e =
