@@ -1,6 +1,6 @@
 -- Whatever is told of an item is a case of the outcome rule.
-use Rattle.std.proofs.Common.{◌≡◌, ℕ, suc, zero, ◌+◌, ◌<◌, Bool, true, false, not, cond, List, [], ◌∷◌, ◌++◌, length, get_or, map, ℤ, pos, Some, None, refl, sym, ap, ◌∙◌, subst, arith, Contains}
-use Rattle.std.specs.Prelude.{Option, if◌then◌else◌, ◌||◌, find, filter, flat_map, slice_get, ◌+ℤ◌}
+use Rattle.std.proofs.Common.{◌≡◌, ℕ, suc, zero, ◌+◌, ◌<◌, Bool, true, false, not, List, [], ◌∷◌, ◌++◌, length, get_or, map, ℤ, pos, Some, None, refl, sym, ap, ◌∙◌, subst, arith, Contains}
+use Rattle.std.specs.Prelude.{Option, if◌then◌else◌, ◌||◌, find, flat_map, slice_get, ◌+ℤ◌}
 use Rattle.std.specs.List.{AllByRecursion, enumerate_from, list_any}
 use Rattle.std.specs.Ordering.{int_eq}
 use Rattle.std.proofs.lemmas.Bool.Decides.{Decides-int_eq}
@@ -32,7 +32,7 @@ use Rattle.kp_core.specs.Replies.{Replies, first_answered, answering, batches_an
 use Rattle.kp_core.specs.Telling.{told_all, told_at_each, told_at}
 use Rattle.kp_core.specs.Tick.{Ticks, is_open_late, late_front, expired_front, passed, ticked}
 use Rattle.kp_core.proofs.CallLemmas.{at_appended, at_ended, at_replied, at_ticked}
-use Rattle.kp_core.proofs.ListLemmas.{contains_head, contains_tail, all_append, all_contained, all_flat_map}
+use Rattle.kp_core.proofs.ListLemmas.{contains_head, all_append, all_contained, all_flat_map, filtered, found}
 
 -- ---- lists
 
@@ -42,7 +42,7 @@ all_placed : {A : Type 0} (P : A → Type 0) (xs : List A)
 all_placed P [] f = tt
 all_placed P (x ∷ xs) f = (f 0 x refl, all_placed P xs (λ n y e. f (suc n) y e))
 
-all_enumerated : {A B : Type 0} (P : B → Type 0) (g : (ℕ × A) → B) (k : ℕ) (xs : List A)
+pub all_enumerated : {A B : Type 0} (P : B → Type 0) (g : (ℕ × A) → B) (k : ℕ) (xs : List A)
     → ((n : ℕ) (x : A) → slice_get xs n ≡ Some x → P (g (k + n, x)))
     → AllByRecursion P (map g (enumerate_from k xs))
 all_enumerated P g k [] f = tt
@@ -54,55 +54,9 @@ all_enumerated {A = A} P g k (x ∷ xs) f =
     later n y e = let same : k + suc n ≡ k + 1 + n = omega arith
         in subst (λ (m : ℕ). P (g (m, y))) same (f (suc n) y e)
 
-found : {A : Type 0} (test : A → Bool) (xs : List A) (x : A) → find test xs ≡ Some x → Contains xs x × (test x ≡ true)
-found test [] x e = absurd cc
-found {A = A} test (y ∷ ys) x e = at_test (test y) refl e (λ (e' : find test ys ≡ Some x). found test ys x e')
-  where
-    at_test : (b : Bool) → test y ≡ b → cond b (Some y) (find test ys) ≡ Some x
-        → (find test ys ≡ Some x → Contains ys x × (test x ≡ true)) → Contains (y ∷ ys) x
-        × (test x ≡ true)
-    at_test true is e' later = let same : y ≡ x = cc
-        in (
-          subst (λ (z : A). Contains (y ∷ ys) z) same (contains_head y ys),
-          subst
-              (λ (z : A). test z ≡ true) same is,
-        )
-    at_test false is e' later = let h = later e' in (contains_tail x y ys h.0, h.1)
-
-filtered : {A : Type 0} (test : A → Bool) (xs : List A) (x : A) → Contains (filter test xs) x → Contains xs x
-filtered test [] x h = absurd (omega (arith, h.1))
-filtered {A = A} test (y ∷ ys) x h = at_test (test y) h (λ (h' : Contains (filter test ys) x). filtered test ys x h')
-  where
-    at_place : (k : ℕ) → k < length (y ∷ filter test ys) → get_or (y ∷ filter test ys) k x ≡ x
-        → (Contains (filter test ys) x → Contains ys x) → Contains (y ∷ ys) x
-    at_place zero l e later = (0, omega arith, e)
-    at_place (suc k) l e later = contains_tail x y ys (later (k, omega arith, e))
-
-    at_test : (b : Bool) → Contains (cond b (y ∷ filter test ys) (filter test ys)) x
-        → (Contains (filter test ys) x → Contains ys x) → Contains (y ∷ ys) x
-    at_test true h' later = at_place h'.0 h'.1 h'.2 later
-    at_test false h' later = contains_tail x y ys (later h')
-
-first_filtered : {A : Type 0} (test : A → Bool) (xs : List A) (x : A) (rest : List A)
-    → filter test xs ≡ x ∷ rest → Contains xs x × (test x ≡ true)
-first_filtered test [] x rest e = absurd cc
-first_filtered {A = A} test (y ∷ ys) x rest e = at_test (test y) refl e
-    (λ (e' : filter test ys ≡ x ∷ rest). first_filtered test ys x rest e')
-  where
-    at_test : (b : Bool) → test y ≡ b → cond b (y ∷ filter test ys) (filter test ys) ≡ x ∷ rest
-        → (filter test ys ≡ x ∷ rest → Contains ys x × (test x ≡ true)) → Contains (y ∷ ys) x
-        × (test x ≡ true)
-    at_test true is e' later = let same : y ≡ x = cc
-        in (
-          subst (λ (z : A). Contains (y ∷ ys) z) same (contains_head y ys),
-          subst
-              (λ (z : A). test z ≡ true) same is,
-        )
-    at_test false is e' later = let h = later e' in (contains_tail x y ys h.0, h.1)
-
 -- ---- what is told of a partition
 
-all_told : (P : Told → Type 0) (outcome : Outcome) (items : List Item)
+pub all_told : (P : Told → Type 0) (outcome : Outcome) (items : List Item)
     → AllByRecursion (λ (i : Item). P (record { item = i; outcome = outcome })) items
     → AllByRecursion P (told_all outcome items)
 all_told P outcome [] h = tt
@@ -306,8 +260,7 @@ in_flight k s r e = at_request (find (λ (q : Request). int_eq (pos q.correlatio
 open_without : (k : ℕ) (t : Partition) (i : Item) → IsOpenIn (without_attempt k t) i → IsOpenIn t i
 open_without k t i h = record {
   batch = h.batch;
-  is_open = filtered (λ o. not (awaits k o))
-      t.open_batches h.batch h.is_open;
+  is_open = (filtered (λ o. not (awaits k o)) t.open_batches h.batch h.is_open).0;
   has = h.has;
 }
 
@@ -396,7 +349,7 @@ pub answered_so : (s : Core) (response : Response) (r : Request) (produce : Prod
     → (o : Open) → awaiting r.correlation (partition_at p s.partitions) ≡ Some o → IsAnswered s response p o a
 answered_so s response r produce answers it is topic p a rest e o h =
     let here = found (awaits r.correlation) (partition_at p s.partitions).open_batches o h in
-    let first = first_filtered (is_for p) answers a rest e in
+    let first = filtered (is_for p) answers a (subst (λ (xs : Answers). Contains xs a) (sym e) (contains_head a rest)) in
     record {
       is_open = here.0;
       correlation = r.correlation;

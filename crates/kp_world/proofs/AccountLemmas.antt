@@ -24,14 +24,15 @@ use Rattle.kp_world.proofs.WeightLemmas.{weigh, weigh-append}
 abbrev pub items_of : List Batch → List Item
 items_of handed = flat_map (λ b. b.items) handed
 
--- a sender's items for a partition that were taken
-abbrev pub taken_for : ℕ → ℕ → List (List Item) → List ℕ → List Item
-taken_for s p accepted taken = for_partition p (take (slice_index taken s) (slice_index_or accepted s []))
-
--- all items that were taken
+-- a sender's items that were taken
 abbrev pub taken_of : List (List Item) → List ℕ → ℕ → List Item
 taken_of accepted taken s = take (slice_index taken s) (slice_index_or accepted s [])
 
+-- a sender's items for a partition that were taken
+abbrev pub taken_for : ℕ → ℕ → List (List Item) → List ℕ → List Item
+taken_for s p accepted taken = for_partition p (taken_of accepted taken s)
+
+-- all items that were taken
 abbrev pub all_taken : List (List Item) → List ℕ → List Item
 all_taken accepted taken = flat_map (taken_of accepted taken) (range_with_len 0 (length accepted))
 

@@ -40,8 +40,8 @@ use Rattle.kp_world.proofs.HearingLemmas.{answered_batch, same_correlation}
 use Rattle.kp_world.proofs.LawfulLemmas.{IsLawful}
 use Rattle.kp_world.proofs.LeavingLemmas.{Rising, awaits_is}
 use Rattle.kp_world.proofs.RunLemmas.{lawful_step, lawful_opening, within_five}
-use Rattle.kp_world.proofs.ListLemmas.{all_at, in_at}
-use Rattle.kp_world.proofs.WeightLemmas.{weigh}
+use Rattle.kp_world.proofs.ListLemmas.{all_at, all_say, in_at}
+use Rattle.kp_world.proofs.WeightLemmas.{weigh, weigh_flat, weigh_none}
 use Rattle.kp_world.proofs.HandingLemmas.{accounts_sending}
 use Rattle.kp_world.proofs.TakingLemmas.{NextOf, next_of, accounts_accepted, accounts_turned_away, accounts_queued}
 use Rattle.kp_world.proofs.TellingLemmas.{IsSingle, core_alike, core_ticked, core_ended, core_flushed, core_disconnected, core_closed, core_replied, home_past}
@@ -149,10 +149,10 @@ no_items f zero = refl
 no_items f (suc n) = no_items f n
 
 none_taken : (f : Item → ℕ) (senders a m : ℕ) → weigh f (flat_map (taken_of (replicate senders []) (replicate senders 0)) (range_with_len a m)) ≡ 0
-none_taken f senders a zero = refl
-none_taken f senders a (suc m) =
-    let none : taken_of (replicate senders []) (replicate senders 0) a ≡ [] = ap (λ (n : ℕ). take n (slice_index_or (replicate {A = List Item} senders []) a [])) (all_alike senders a 0) in
-    ap (λ (r : List Item). weigh f (r ++ flat_map (taken_of (replicate senders []) (replicate senders 0)) (range_with_len (a + 1) m))) none ∙ none_taken f senders (a + 1) m
+none_taken f senders a m =
+    weigh_flat f (taken_of (replicate senders []) (replicate senders 0)) (range_with_len a m)
+    ∙ weigh_none (λ s. weigh f (taken_of (replicate senders []) (replicate senders 0) s)) (range_with_len a m)
+    (all_say (λ s. weigh f (taken_of (replicate senders []) (replicate senders 0) s) ≡ 0) (λ s. ap (λ (n : ℕ). weigh f (take n (slice_index_or (replicate {A = List Item} senders []) s []))) (all_alike senders s 0)) (range_with_len a m))
 
 fates_none : Fates [] [] [] []
 fates_none = record { kept = refl; known = tt; numbered = tt }

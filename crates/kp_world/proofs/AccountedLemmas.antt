@@ -1,8 +1,8 @@
 -- What was handed over of a sender and partition is what was accepted and has left.
-use Rattle.std.proofs.Common.{◌≡◌, ℕ, ◌+◌, ◌<◌, Bool, true, false, not, cond, List, [], ◌∷◌, ◌++◌, length, take, map, refl, sym, ap, ◌∙◌, subst, arith}
+use Rattle.std.proofs.Common.{◌≡◌, ℕ, ◌+◌, ◌<◌, Bool, true, false, not, cond, List, [], ◌∷◌, ◌++◌, length, take, map, refl, sym, ap, ◌∙◌, subst}
 use Rattle.std.specs.Prelude.{◌==◌, ◌&&◌, ◌||◌}
 use Rattle.std.specs.List.{AllByRecursion, filter, range_with_len}
-use Rattle.std.proofs.lemmas.Bool.{eqb-true, eq-eqb}
+use Rattle.std.proofs.lemmas.Bool.{and_right, eqb-true, eqb-false, eq-eqb, ne_eqb}
 use Rattle.std.proofs.lemmas.List.{append-nil, take-append-drop}
 use Rattle.std.proofs.lemmas.List.Elements.{filter-append}
 use Rattle.kp_accum.specs.declared.item.Item.{Item}
@@ -12,8 +12,8 @@ use Rattle.kp_world.specs.Accepting.{accepted_by, for_partition, taken_by}
 use Rattle.kp_world.specs.Accounts.{is_same, is_among, of_sender, items_handed, told_unsent, not_taken, queued_at, has_left, AreAccountedFor, AreRising, AreInOrder}
 use Rattle.kp_world.specs.World.{World}
 use Rattle.kp_world.proofs.AccountLemmas.{taken_for, IsAccounted, partition-append}
-use Rattle.kp_world.proofs.FateLemmas.{filter_agrees, filter_all, filter_none, filter_twice, has_number, is_out, AreNumbered, below_is_out, in_itself, fates_rise, fates_handed, Rising, fates_apart}
-use Rattle.kp_world.proofs.ListLemmas.{all_back, all_filter, all_front, all_weaker}
+use Rattle.kp_world.proofs.FateLemmas.{all_both, filter_agrees, filter_none, filter_passes, filter_same, filter_twice, has_number, is_out, AreNumbered, in_itself, numbered_rise, fates_rise, fates_handed, Rising, rising_apart, fates_apart}
+use Rattle.kp_world.proofs.ListLemmas.{all_back, all_drop, all_filter, all_front, all_take, all_weaker}
 
 -- ---- of one sender and partition
 
@@ -21,20 +21,13 @@ abbrev Of : ℕ → ℕ → Item → Type 0
 Of s p i = (i.sender ≡ s) × (i.partition ≡ p)
 
 both_of : (s p : ℕ) (items : List Item) → AllByRecursion (λ (i : Item). i.sender ≡ s) items → AllByRecursion (Of s p) (for_partition p items)
-both_of s p [] h = tt
-both_of s p (i ∷ items) h = at_test (i.partition == p) refl (both_of s p items h.1)
-  where
-    at_test : (b : Bool) → (i.partition == p) ≡ b → AllByRecursion (Of s p) (for_partition p items) → AllByRecursion (Of s p) (cond b (i ∷ for_partition p items) (for_partition p items))
-    at_test true is rest = ((h.0, eqb-true i.partition p is), rest)
-    at_test false is rest = rest
+both_of s p items h =
+    all_both (λ i. i.sender ≡ s) (λ i. (i.partition == p) ≡ true) (Of s p) (λ i e is. (e, eqb-true i.partition p is)) (for_partition p items)
+    (all_filter (λ i. i.sender ≡ s) (λ i. i.partition == p) items h) (filter_passes (λ (i : Item). i.partition == p) items)
 
 same_test : (m n k : ℕ) → m ≡ n → (b : Bool) → (k == n) ≡ b → (m == k) ≡ b
 same_test m n k e true is = eq-eqb m k (e ∙ sym (eqb-true k n is))
-same_test m n k e false is = at_test (m == k) refl
-  where
-    at_test : (b : Bool) → (m == k) ≡ b → b ≡ false
-    at_test true other = let equal : (k == n) ≡ true = eq-eqb k n (sym (eqb-true m k other) ∙ e) in absurd cc
-    at_test false other = refl
+same_test m n k e false is = ne_eqb m k (λ (same : m ≡ k). eqb-false k n is (sym same ∙ e))
 
 -- an item of a sender and partition is among these where one of that sender and partition has its number
 among_of : (s p : ℕ) (i : Item) → Of s p i → (items : List Item) → is_among i items ≡ has_number (of_sender s (for_partition p items)) i.number
@@ -49,33 +42,15 @@ among_of s p i of (x ∷ items) = at_partition (x.partition == p) refl (among_of
         ∙ ap (λ (z : Bool). (i.number == x.number) || z) rest
     at_sender false is at rest = ap (λ (z : Bool). (z && (i.partition == x.partition && (i.number == x.number))) || is_among i items) (same_test i.sender s x.sender of.0 false is) ∙ rest
 
-    none : (a : Bool) → (a && (false && (i.number == x.number))) ≡ false
-    none true = refl
-    none false = refl
-
     at_partition : (b : Bool) → (x.partition == p) ≡ b → is_among i items ≡ has_number (of_sender s (for_partition p items)) i.number
         → (is_same i x || is_among i items) ≡ has_number (of_sender s (cond b (x ∷ for_partition p items) (for_partition p items))) i.number
     at_partition true at rest = at_sender (x.sender == s) refl at rest
     at_partition false at rest =
         ap (λ (z : Bool). (i.sender == x.sender && (z && (i.number == x.number))) || is_among i items) (same_test i.partition p x.partition of.1 false at)
-        ∙ ap (λ (z : Bool). z || is_among i items) (none (i.sender == x.sender))
+        ∙ ap (λ (z : Bool). z || is_among i items) (and_right (i.sender == x.sender) false refl)
         ∙ rest
 
-own_sender : (s : ℕ) (items : List Item) → AllByRecursion (λ (i : Item). i.sender ≡ s) items → of_sender s items ≡ items
-own_sender s items h = filter_all (λ (i : Item). i.sender == s) items (all_weaker (λ (i : Item). i.sender ≡ s) (λ (i : Item). (i.sender == s) ≡ true) (λ i e. eq-eqb i.sender s e) items h)
-
-own_partition : (p : ℕ) (items : List Item) → AllByRecursion (λ (i : Item). i.partition ≡ p) items → for_partition p items ≡ items
-own_partition p items h = filter_all (λ (i : Item). i.partition == p) items (all_weaker (λ (i : Item). i.partition ≡ p) (λ (i : Item). (i.partition == p) ≡ true) (λ i e. eq-eqb i.partition p e) items h)
-
 -- ---- numbers
-
-below_others : (n : ℕ) (front back : List Item) → AreNumbered n (front ++ back) → AllByRecursion (λ (i : Item). has_number back i.number ≡ false) front
-below_others n [] back h = tt
-below_others n (x ∷ front) back h = (below_is_out x.number back (all_back (λ (i : Item). x.number < i.number) front back (above (n + 1) (front ++ back) (omega (arith, h.0)) h.1)), below_others (n + 1) front back h.1)
-  where
-    above : (m : ℕ) (items : List Item) → x.number < m → AreNumbered m items → AllByRecursion (λ (i : Item). x.number < i.number) items
-    above m [] l k = tt
-    above m (y ∷ items) l k = (omega (arith, l, k.0), above (m + 1) items (omega (arith, l)) k.1)
 
 pub numbers_are : (n : ℕ) (items : List Item) → AreNumbered n items → map (λ (i : Item). i.number) items ≡ range_with_len n (length items)
 numbers_are n [] h = refl
@@ -97,8 +72,8 @@ leaving : (s p : ℕ) (w : World) → IsAccounted w → p < length w.core.partit
     → Leaving s p w (taken_for s p w.accepted w.taken) (for_partition p (not_taken s w)) (of_sender s (queued_at p w)) (of_sender s (for_partition p (told_unsent w)))
 leaving s p w a l = record {
   all = split;
-  leave = zip (taken_for s p w.accepted w.taken) (below_others 0 (taken_for s p w.accepted w.taken) (for_partition p (not_taken s w)) numbered) (both_of s p (take (taken_by s w) (accepted_by s w)) own_front);
-  stay = staying (for_partition p (not_taken s w)) (in_itself (for_partition p (not_taken s w))) (both_of s p (not_taken s w) own_back);
+  leave = all_both Later (Of s p) Leaves one_leaves (taken_for s p w.accepted w.taken) (rising_apart (taken_for s p w.accepted w.taken) (for_partition p (not_taken s w)) (numbered_rise 0 (taken_for s p w.accepted w.taken ++ for_partition p (not_taken s w)) numbered)) (both_of s p (take (taken_by s w) (accepted_by s w)) own_front);
+  stay = all_both (λ i. has_number (for_partition p (not_taken s w)) i.number ≡ true) (Of s p) (λ i. has_left w i ≡ false) one_stays (for_partition p (not_taken s w)) (in_itself (for_partition p (not_taken s w))) (both_of s p (not_taken s w) own_back);
 }
   where
     split : for_partition p (accepted_by s w) ≡ taken_for s p w.accepted w.taken ++ for_partition p (not_taken s w)
@@ -107,30 +82,33 @@ leaving s p w a l = record {
     numbered : AreNumbered 0 (taken_for s p w.accepted w.taken ++ for_partition p (not_taken s w))
     numbered = subst (AreNumbered 0) split ((a.senders s).numbered p)
 
-    own : AllByRecursion (λ (i : Item). i.sender ≡ s) (take (taken_by s w) (accepted_by s w) ++ not_taken s w)
-    own = subst (AllByRecursion (λ (i : Item). i.sender ≡ s)) (sym (take-append-drop (taken_by s w) (accepted_by s w))) (a.senders s).own
-
     own_front : AllByRecursion (λ (i : Item). i.sender ≡ s) (take (taken_by s w) (accepted_by s w))
-    own_front = all_front (λ (i : Item). i.sender ≡ s) (take (taken_by s w) (accepted_by s w)) (not_taken s w) own
+    own_front = all_take (λ (i : Item). i.sender ≡ s) (taken_by s w) (accepted_by s w) (a.senders s).own
 
     own_back : AllByRecursion (λ (i : Item). i.sender ≡ s) (not_taken s w)
-    own_back = all_back (λ (i : Item). i.sender ≡ s) (take (taken_by s w) (accepted_by s w)) (not_taken s w) own
+    own_back = all_drop (λ (i : Item). i.sender ≡ s) (taken_by s w) (accepted_by s w) (a.senders s).own
 
     -- its tests, by numbers
     untaken : (i : Item) → Of s p i → is_among i (not_taken i.sender w) ≡ has_number (for_partition p (not_taken s w)) i.number
     untaken i of =
         ap (λ (x : ℕ). is_among i (not_taken x w)) of.0
         ∙ among_of s p i of (not_taken s w)
-        ∙ ap (λ items. has_number items i.number) (own_sender s (for_partition p (not_taken s w)) (all_filter (λ (x : Item). x.sender ≡ s) (λ (x : Item). x.partition == p) (not_taken s w) own_back))
+        ∙ ap (λ items. has_number items i.number) (filter_same (λ (x : Item). x.sender) s (for_partition p (not_taken s w)) (all_filter (λ (x : Item). x.sender ≡ s) (λ (x : Item). x.partition == p) (not_taken s w) own_back))
 
     queued : (i : Item) → Of s p i → is_among i (queued_at i.partition w) ≡ has_number (of_sender s (queued_at p w)) i.number
     queued i of =
         ap (λ (x : ℕ). is_among i (queued_at x w)) of.1
         ∙ among_of s p i of (queued_at p w)
-        ∙ ap (λ items. has_number (of_sender s items) i.number) (own_partition p (queued_at p w) (queue_home p (partition_at p w.core.partitions) (a.home p)))
+        ∙ ap (λ items. has_number (of_sender s items) i.number) (filter_same (λ (x : Item). x.partition) p (queued_at p w) (queue_home p (partition_at p w.core.partitions) (a.home p)))
 
     tests : (x y : Bool) → (not x && not (false || y)) ≡ (not x && not y)
     tests x y = refl
+
+    Later : Item → Type 0
+    Later i = has_number (for_partition p (not_taken s w)) i.number ≡ false
+
+    Leaves : Item → Type 0
+    Leaves i = has_left w i ≡ (is_out (of_sender s (for_partition p (told_unsent w))) i && is_out (of_sender s (queued_at p w)) i)
 
     one_leaves : (i : Item) → has_number (for_partition p (not_taken s w)) i.number ≡ false → Of s p i
         → has_left w i ≡ (is_out (of_sender s (for_partition p (told_unsent w))) i && is_out (of_sender s (queued_at p w)) i)
@@ -139,23 +117,10 @@ leaving s p w a l = record {
         ∙ ap (λ (x : Bool). is_out (of_sender s (for_partition p (told_unsent w))) i && not (x || is_among i (queued_at i.partition w))) (untaken i of ∙ later)
         ∙ ap (λ (x : Bool). is_out (of_sender s (for_partition p (told_unsent w))) i && not x) (queued i of)
 
-    zip : (items : List Item) → AllByRecursion (λ i. has_number (for_partition p (not_taken s w)) i.number ≡ false) items → AllByRecursion (Of s p) items
-        → AllByRecursion (λ i. has_left w i ≡ (is_out (of_sender s (for_partition p (told_unsent w))) i && is_out (of_sender s (queued_at p w)) i)) items
-    zip [] later of = tt
-    zip (i ∷ items) later of = (one_leaves i later.0 of.0, zip items later.1 of.1)
-
-    never : (x : Bool) → (not x && false) ≡ false
-    never true = refl
-    never false = refl
-
     one_stays : (i : Item) → has_number (for_partition p (not_taken s w)) i.number ≡ true → Of s p i → has_left w i ≡ false
     one_stays i there of =
         ap (λ (x : Bool). not (is_among i (told_unsent w)) && not (x || is_among i (queued_at i.partition w))) (untaken i of ∙ there)
-        ∙ never (is_among i (told_unsent w))
-
-    staying : (items : List Item) → AllByRecursion (λ i. has_number (for_partition p (not_taken s w)) i.number ≡ true) items → AllByRecursion (Of s p) items → AllByRecursion (λ i. has_left w i ≡ false) items
-    staying [] there of = tt
-    staying (i ∷ items) there of = (one_stays i there.0 of.0, staying items there.1 of.1)
+        ∙ and_right (not (is_among i (told_unsent w))) false refl
 
 pub accounted_for : (s p : ℕ) (w : World) → IsAccounted w → p < length w.core.partitions → AreAccountedFor s p w
 accounted_for s p w a l =
@@ -191,7 +156,7 @@ handed_of : (s p : ℕ) (w : World) → IsAccounted w → p < length w.core.part
 handed_of s p w a l =
     let t = taken_for s p w.accepted w.taken in
     let h = of_sender s (items_handed p w) in
-    let own = all_front (λ (i : Item). i.sender ≡ s) (take (taken_by s w) (accepted_by s w)) (not_taken s w) (subst (AllByRecursion (λ (i : Item). i.sender ≡ s)) (sym (take-append-drop (taken_by s w) (accepted_by s w))) (a.senders s).own) in
+    let own = all_take (λ (i : Item). i.sender ≡ s) (taken_by s w) (accepted_by s w) (a.senders s).own in
     all_front (Of s p) h (of_sender s (queued_at p w))
     (subst (AllByRecursion (Of s p)) (a.fates s p l).kept (all_filter (Of s p) (is_out (of_sender s (for_partition p (told_unsent w)))) t (both_of s p (take (taken_by s w) (accepted_by s w)) own)))
 
@@ -200,17 +165,10 @@ handed_home p w a l = by_sender (λ s i. i.partition ≡ p) (items_handed p w) (
 
 -- nothing that was told Unsent was handed over
 pub handed_is_sent : (p : ℕ) (w : World) → IsAccounted w → p < length w.core.partitions → AllByRecursion (λ i. is_among i (told_unsent w) ≡ false) (items_handed p w)
-handed_is_sent p w a l = by_sender (λ s i. is_among i (told_unsent w) ≡ false) (items_handed p w) of
-  where
-    zip : (s : ℕ) (items : List Item) → AllByRecursion (λ i. has_number (of_sender s (for_partition p (told_unsent w))) i.number ≡ false) items → AllByRecursion (Of s p) items
-        → AllByRecursion (λ i. is_among i (told_unsent w) ≡ false) items
-    zip s [] apart of = tt
-    zip s (i ∷ items) apart of = (among_of s p i of.0 (told_unsent w) ∙ apart.0, zip s items apart.1 of.1)
-
-    of : (s : ℕ) → AllByRecursion (λ i. is_among i (told_unsent w) ≡ false) (of_sender s (items_handed p w))
-    of s =
-        let h = of_sender s (items_handed p w) in
-        zip s h (fates_apart (taken_for s p w.accepted w.taken) (of_sender s (queued_at p w)) h (of_sender s (for_partition p (told_unsent w))) (a.fates s p l)) (handed_of s p w a l)
+handed_is_sent p w a l = by_sender (λ s i. is_among i (told_unsent w) ≡ false) (items_handed p w) (λ s.
+    let h = of_sender s (items_handed p w) in
+    all_both (λ i. has_number (of_sender s (for_partition p (told_unsent w))) i.number ≡ false) (Of s p) (λ i. is_among i (told_unsent w) ≡ false) (λ i apart of. among_of s p i of (told_unsent w) ∙ apart) h
+    (fates_apart (taken_for s p w.accepted w.taken) (of_sender s (queued_at p w)) h (of_sender s (for_partition p (told_unsent w))) (a.fates s p l)) (handed_of s p w a l))
 
 -- ---- in order, and once
 

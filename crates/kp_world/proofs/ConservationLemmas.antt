@@ -27,10 +27,14 @@ use Rattle.kp_core.specs.Tick.{late_front, behind_late, expired_front, is_open_l
 use Rattle.kp_world.specs.Accounts.{is_unsent, unsent_among}
 use Rattle.std.proofs.lemmas.List.Concat.{flat_map-append}
 use Rattle.kp_world.proofs.KeepingLemmas.{same_waiting}
-use Rattle.kp_world.proofs.LeavingLemmas.{found}
-use Rattle.kp_world.proofs.WeightLemmas.{weigh, weigh-append}
-use Rattle.kp_core.proofs.ListLemmas.{all_append}
-use Rattle.kp_world.proofs.ListLemmas.{all_back, all_front}
+use Rattle.kp_world.proofs.LeavingLemmas.{found, left_in}
+use Rattle.kp_world.proofs.FateLemmas.{filter_all, filter_none}
+use Rattle.kp_core.proofs.OutcomeLemmas.{all_enumerated, all_told}
+use Rattle.kp_log.proofs.PlaceLemmas.{In, In-from_contains}
+use Rattle.std.proofs.lemmas.Bool.{not_from_false}
+use Rattle.kp_world.proofs.WeightLemmas.{weigh, weigh-append, none_counted}
+use Rattle.kp_core.proofs.ListLemmas.{all_append, all_flat_map}
+use Rattle.kp_world.proofs.ListLemmas.{all_back, all_front, all_say, all_weaker}
 
 -- ---- what is told
 
@@ -48,25 +52,21 @@ pub told_offsets_items : (g : ℕ → Outcome) (n : ℕ) (items : List Item) →
 told_offsets_items g n [] = refl
 told_offsets_items g n (i ∷ items) = ap (λ r. i ∷ r) (told_offsets_items g (n + 1) items)
 
-pub unsent_all : (outcome : Outcome) (items : List Item) → is_unsent outcome ≡ true → unsent_among (told_all outcome items) ≡ items
-unsent_all outcome [] e = refl
-unsent_all outcome (i ∷ items) e =
-    ap (λ b. map (λ (t : Told). t.item) (cond b (told_as outcome i ∷ filter (λ t. is_unsent t.outcome) (told_all outcome items)) (filter (λ t. is_unsent t.outcome) (told_all outcome items)))) e
-    ∙ ap (λ r. i ∷ r) (unsent_all outcome items e)
+unsent_no : (told : List Told) → AllByRecursion (λ (t : Told). is_unsent t.outcome ≡ false) told → unsent_among told ≡ []
+unsent_no told h = ap (map (λ (t : Told). t.item)) (filter_none (λ (t : Told). is_unsent t.outcome) told h)
 
-pub unsent_none : (outcome : Outcome) (items : List Item) → is_unsent outcome ≡ false → unsent_among (told_all outcome items) ≡ []
-unsent_none outcome [] e = refl
-unsent_none outcome (i ∷ items) e =
-    ap (λ b. map (λ (t : Told). t.item) (cond b (told_as outcome i ∷ filter (λ t. is_unsent t.outcome) (told_all outcome items)) (filter (λ t. is_unsent t.outcome) (told_all outcome items)))) e
-    ∙ unsent_none outcome items e
+unsent_all : (outcome : Outcome) (items : List Item) → is_unsent outcome ≡ true → unsent_among (told_all outcome items) ≡ items
+unsent_all outcome items e =
+    ap (map (λ (t : Told). t.item)) (filter_all (λ (t : Told). is_unsent t.outcome) (told_all outcome items) (all_told (λ (t : Told). is_unsent t.outcome ≡ true) outcome items (all_say (λ i. is_unsent outcome ≡ true) (λ i. e) items)))
+    ∙ told_all_items outcome items
+
+unsent_none : (outcome : Outcome) (items : List Item) → is_unsent outcome ≡ false → unsent_among (told_all outcome items) ≡ []
+unsent_none outcome items e = unsent_no (told_all outcome items) (all_told (λ (t : Told). is_unsent t.outcome ≡ false) outcome items (all_say (λ i. is_unsent outcome ≡ false) (λ i. e) items))
 
 unsent_offsets : (g : ℕ → Outcome) → ((k : ℕ) → is_unsent (g k) ≡ false) → (n : ℕ) (items : List Item)
     → unsent_among (map (λ (x : ℕ × Item). told_as (g x.0) x.1) (enumerate_from n items)) ≡ []
-unsent_offsets g f n [] = refl
-unsent_offsets g f n (i ∷ items) =
-    let rest = map (λ (x : ℕ × Item). told_as (g x.0) x.1) (enumerate_from (n + 1) items) in
-    ap (λ b. map (λ (t : Told). t.item) (cond b (told_as (g n) i ∷ filter (λ t. is_unsent t.outcome) rest) (filter (λ t. is_unsent t.outcome) rest))) (f n)
-    ∙ unsent_offsets g f (n + 1) items
+unsent_offsets g f n items =
+    unsent_no (map (λ (x : ℕ × Item). told_as (g x.0) x.1) (enumerate_from n items)) (all_enumerated (λ (t : Told). is_unsent t.outcome ≡ false) (λ (x : ℕ × Item). told_as (g x.0) x.1) n items (λ m i e. f (n + m)))
 
 pub unsent-append : (a b : List Told) → unsent_among (a ++ b) ≡ unsent_among a ++ unsent_among b
 unsent-append a b =
@@ -86,28 +86,18 @@ pub open_map : (f : Open → Open) → ((o : Open) → (f o).batch ≡ o.batch) 
 open_map f same [] = refl
 open_map f same (o ∷ os) = ap (λ (b : Batch). b.items ++ items_open (map f os)) (same o) ∙ ap (λ r. o.batch.items ++ r) (open_map f same os)
 
-pub all_open_filter : (P : Item → Type 0) (test : Open → Bool) (os : List Open) → AllByRecursion P (items_open os) → AllByRecursion P (items_open (filter test os))
-all_open_filter P test [] h = tt
-all_open_filter P test (o ∷ os) h = at_test (test o) (all_open_filter P test os (all_back P o.batch.items (items_open os) h))
-  where
-    at_test : (b : Bool) → AllByRecursion P (items_open (filter test os)) → AllByRecursion P (items_open (cond b (o ∷ filter test os) (filter test os)))
-    at_test true rest = all_append P o.batch.items (items_open (filter test os)) (all_front P o.batch.items (items_open os) h) rest
-    at_test false rest = rest
-
-all_open_find : (P : Item → Type 0) (test : Open → Bool) (os : List Open) (o : Open) → find test os ≡ Some o → AllByRecursion P (items_open os) → AllByRecursion P o.batch.items
-all_open_find P test os o e h =
-    let i = (found test os o e).0 in
+-- what holds of all items holds of those of each batch
+open_part : (P : Item → Type 0) (os : List Open) (o : Open) → In o os → AllByRecursion P (items_open os) → AllByRecursion P o.batch.items
+open_part P os o i h =
     all_front P o.batch.items (items_open i.later) (all_back P (items_open i.earlier) (o.batch.items ++ items_open i.later)
     (subst (AllByRecursion P) (ap items_open i.split ∙ flat_map-append (λ (x : Open). x.batch.items) i.earlier (o ∷ i.later)) h))
 
+all_open_filter : (P : Item → Type 0) (test : Open → Bool) (os : List Open) → AllByRecursion P (items_open os) → AllByRecursion P (items_open (filter test os))
+all_open_filter P test os h = all_flat_map P (λ (o : Open). o.batch.items) (filter test os) (λ o c. open_part P os o (left_in test os o (In-from_contains (filter test os) o c)).0 h)
+
 none_awaits : (k : ℕ) (os : List Open) → attempt_count k os ≡ 0 → filter (λ o. not (awaits k o)) os ≡ os
-none_awaits k [] e = refl
-none_awaits k (o ∷ os) e = at_test (awaits k o) e (none_awaits k os)
-  where
-    at_test : (b : Bool) → (if b then 1 else 0) + attempt_count k os ≡ 0 → (attempt_count k os ≡ 0 → filter (λ x. not (awaits k x)) os ≡ os)
-        → cond (not b) (o ∷ filter (λ x. not (awaits k x)) os) (filter (λ x. not (awaits k x)) os) ≡ o ∷ os
-    at_test true e' rest = absurd (omega (arith, e'))
-    at_test false e' rest = ap (λ r. o ∷ r) (rest (omega (arith, e')))
+none_awaits k os e =
+    filter_all (λ (o : Open). not (awaits k o)) os (all_weaker (λ (o : Open). awaits k o ≡ false) (λ (o : Open). not (awaits k o) ≡ true) (λ o. not_from_false (awaits k o)) os (none_counted (awaits k) os e))
 
 without_weight : (f : Item → ℕ) (k : ℕ) (os : List Open) (o : Open) → find (awaits k) os ≡ Some o → attempt_count k os ≤ 1
     → weigh f o.batch.items + weigh f (items_open (filter (λ x. not (awaits k x)) os)) ≡ weigh f (items_open os)
@@ -182,23 +172,25 @@ given_up_unsent why t =
     ∙ ap (λ r. r ++ unsent_among (told_all (Unsent why) (items_queued t.queue))) (unsent_none Unknown (items_open t.open_batches) refl)
     ∙ unsent_all (Unsent why) (items_queued t.queue) refl
 
-pub tells_fenced : (t : Partition) → Tells t (fenced t).told (fenced t).after
-unfolding fenced untold
-tells_fenced t = record {
-  queue = sym (append-nil (unsent_among (told_given_up reason.Fenced t)) ∙ given_up_unsent reason.Fenced t);
-  told_from = λ P h. subst (AllByRecursion P) (sym (given_up_items reason.Fenced t)) h;
-  left_from = λ P h. tt;
-  weighs = λ f. let e : weigh f (items_told (told_given_up reason.Fenced t)) ≡ weigh f (items_open t.open_batches ++ items_queued t.queue) = ap (weigh f) (given_up_items reason.Fenced t) in omega (arith, e);
+tells_emptied : (why : Reason) (t t' : Partition) → items_queued t'.queue ≡ [] → untold t' ≡ [] → Tells t (told_given_up why t) t'
+unfolding untold
+tells_emptied why t t' queue none = record {
+  queue = sym (ap (λ r. unsent_among (told_given_up why t) ++ r) queue ∙ append-nil (unsent_among (told_given_up why t)) ∙ given_up_unsent why t);
+  told_from = λ P h. subst (AllByRecursion P) (sym (given_up_items why t)) h;
+  left_from = λ P h. subst (AllByRecursion P) (sym none) tt;
+  weighs = λ f.
+      let told : weigh f (items_told (told_given_up why t)) ≡ weigh f (items_open t.open_batches ++ items_queued t.queue) = ap (weigh f) (given_up_items why t) in
+      let left : weigh f (items_open t'.open_batches ++ items_queued t'.queue) ≡ 0 = ap (weigh f) none in
+      omega (arith, told, left);
 }
+
+tells_fenced : (t : Partition) → Tells t (fenced t).told (fenced t).after
+unfolding fenced untold
+tells_fenced t = tells_emptied reason.Fenced t (fenced t).after refl refl
 
 pub tells_given_up : (t : Partition) → Tells t (given_up t).told (given_up t).after
 unfolding given_up untold
-tells_given_up t = record {
-  queue = sym (append-nil (unsent_among (told_given_up reason.Ended t)) ∙ given_up_unsent reason.Ended t);
-  told_from = λ P h. subst (AllByRecursion P) (sym (given_up_items reason.Ended t)) h;
-  left_from = λ P h. tt;
-  weighs = λ f. let e : weigh f (items_told (told_given_up reason.Ended t)) ≡ weigh f (items_open t.open_batches ++ items_queued t.queue) = ap (weigh f) (given_up_items reason.Ended t) in omega (arith, e);
-}
+tells_given_up t = tells_emptied reason.Ended t (given_up t).after refl refl
 
 -- ---- expiry
 
@@ -250,7 +242,7 @@ tells_without : (k : ℕ) (t : Partition) (o : Open) (told : List Told) → atte
 unfolding untold
 tells_without k t o told one at none items = record {
   queue = sym (ap (λ r. r ++ items_queued t.queue) none);
-  told_from = λ P h. subst (AllByRecursion P) (sym items) (all_open_find P (awaits k) t.open_batches o at (all_front P (items_open t.open_batches) (items_queued t.queue) h));
+  told_from = λ P h. subst (AllByRecursion P) (sym items) (open_part P t.open_batches o (found (awaits k) t.open_batches o at).0 (all_front P (items_open t.open_batches) (items_queued t.queue) h));
   left_from = λ P h. all_append P (items_open (without_attempt k t).open_batches) (items_queued t.queue)
       (all_open_filter P (λ x. not (awaits k x)) t.open_batches (all_front P (items_open t.open_batches) (items_queued t.queue) h))
       (all_back P (items_open t.open_batches) (items_queued t.queue) h);
@@ -262,9 +254,9 @@ tells_without k t o told one at none items = record {
       omega (arith, gone, open_left, before, after);
 }
 
-pub tells_both : (t u v : Partition) (a b : List Told) → unsent_among a ≡ [] → items_queued t.queue ≡ items_queued u.queue → Tells t a u → Tells u b v → Tells t (a ++ b) v
-tells_both t u v a b none same c d = record {
-  queue = same ∙ d.queue ∙ ap (λ r. r ++ items_queued v.queue) (sym (unsent-append a b ∙ ap (λ r. r ++ unsent_among b) none));
+pub tells_both : (t u v : Partition) (a b : List Told) → Tells t a u → Tells u b v → Tells t (a ++ b) v
+tells_both t u v a b c d = record {
+  queue = c.queue ∙ ap (λ r. unsent_among a ++ r) d.queue ∙ sym (append_assoc (unsent_among a) (unsent_among b) (items_queued v.queue)) ∙ ap (λ r. r ++ items_queued v.queue) (sym (unsent-append a b));
   told_from = λ P h. subst (AllByRecursion P) (sym (map-append (λ (x : Told). x.item) a b)) (all_append P (items_told a) (items_told b) (c.told_from P h) (d.told_from P (c.left_from P h)));
   left_from = λ P h. d.left_from P (c.left_from P h);
   weighs = λ f.
@@ -301,7 +293,7 @@ tells_answered now k t a one = at_option (awaiting k t) refl
     at_verdict o at Reject =
         let told = told_all (Rejected a.error_code) o.batch.items in
         let none = unsent_none (Rejected a.error_code) o.batch.items refl in
-        tells_both t (without_attempt k t) (fenced (without_attempt k t)).after told (fenced (without_attempt k t)).told none refl
+        tells_both t (without_attempt k t) (fenced (without_attempt k t)).after told (fenced (without_attempt k t)).told
         (tells_without k t o told (one o at) at none (told_all_items (Rejected a.error_code) o.batch.items))
         (tells_fenced (without_attempt k t))
 

@@ -1,7 +1,7 @@
 -- What is told of items: that one was delivered at an offset is told only where it stands there, and
 -- none is told delivered without an offset.
-use Rattle.std.proofs.Common.{◌≡◌, ℕ, zero, suc, ◌<◌, Bool, true, false, List, [], ◌∷◌, ◌++◌, length, map, ℤ, pos, ◌+ℤ◌, Some, None, refl, sym, ap, ◌∙◌, subst, arith, append_assoc}
-use Rattle.std.specs.Prelude.{if◌then◌else◌, slice_get}
+use Rattle.std.proofs.Common.{◌≡◌, ℕ, zero, suc, ◌<◌, List, [], ◌∷◌, ◌++◌, length, map, ℤ, pos, ◌+ℤ◌, refl, sym, ap, ◌∙◌, subst, arith, append_assoc}
+use Rattle.std.specs.Prelude.{take}
 use Rattle.std.specs.Str.{bytes_eq}
 use Rattle.std.proofs.lemmas.List.Concat.{flat_map-append}
 use Rattle.kp_accum.specs.declared.item.Item.{Item}
@@ -28,6 +28,9 @@ use Rattle.kp_world.specs.Client.{handed_at}
 use Rattle.kp_world.specs.Delivering.{log_at}
 use Rattle.kp_world.specs.Message.{sent_of, part_response, body_of_reply, response_of}
 use Rattle.kp_world.specs.World.{PartAnswer, ReplyContent, Batches as Parts, Id as GivenId, Reply, World, names}
+use Rattle.std.proofs.lemmas.List.{length-take-le}
+use Rattle.std.proofs.lemmas.Option.{cond_some}
+use Rattle.kp_world.proofs.TakingLemmas.{took}
 use Rattle.kp_world.proofs.AccountLemmas.{items_of, IsAccounted}
 use Rattle.kp_world.proofs.AccountedLemmas.{handed_home}
 use Rattle.kp_world.proofs.HearingLemmas.{stored_code, duplicate_code, from_map, answered_batch, old_not_in_flight, same_correlation}
@@ -77,18 +80,6 @@ truly_grown n handed handed' logs logs' more grown t k = record {
 
 -- ---- where an item is among those that were handed over
 
--- an element at a place
-pub record Placed {A : Type 0} (xs : List A) (k : ℕ) (x : A) : Type 0 where
-  pub front : List A
-  pub back : List A
-  pub split : xs ≡ front ++ x ∷ back
-  pub place : length front ≡ k
-
-placed : {A : Type 0} (xs : List A) (k : ℕ) (x : A) → slice_get xs k ≡ Some x → Placed xs k x
-placed [] k x e = absurd cc
-placed (y ∷ xs) zero x e = let same : y ≡ x = cc in record { front = []; back = xs; split = ap (λ z. z ∷ xs) same; place = refl }
-placed (y ∷ xs) (suc k) x e = let l = placed xs k x e in record { front = y ∷ l.front; back = l.back; split = ap (λ z. y ∷ z) l.split; place = ap suc l.place }
-
 -- the item's place among all that were handed over
 pub items_split : (handed : List Batch) (b : Batch) (i : Item) (front back : List Item) → (known : In b handed) → b.items ≡ front ++ i ∷ back
     → items_of handed ≡ (items_of known.earlier ++ front) ++ i ∷ (back ++ items_of known.later)
@@ -98,7 +89,7 @@ items_split handed b i front back known e =
 
 -- ---- a reply that settles a batch
 
-open_there : (ts : List Partition) (p : ℕ) (o : Open) → In o (partition_at p ts).open_batches → p < length ts
+pub open_there : (ts : List Partition) (p : ℕ) (o : Open) → In o (partition_at p ts).open_batches → p < length ts
 open_there [] p o i = absurd (In-nil o i)
 open_there (t ∷ ts) zero o i = omega arith
 open_there (t ∷ ts) (suc p) o i = omega (arith, open_there ts p o i)
@@ -121,16 +112,12 @@ heard n w r p o answer g x = at_content r.content refl x.body_is
     there : In o (partition_at p w.core.partitions).open_batches
     there = In-from_contains (partition_at p w.core.partitions).open_batches o x.is_open
 
-    of_topic : (parts : List PartAnswer) (b : Bool) → (if b then Some (map part_response parts) else None) ≡ Some x.answers → map part_response parts ≡ x.answers
-    of_topic parts true e = cc
-    of_topic parts false e = absurd cc
-
     at_content : (c : ReplyContent) → r.content ≡ c → body_of_reply c ≡ body.Produce x.produce → Heard n w r p o answer
     at_content (GivenId code id) is e = absurd cc
     at_content (Parts parts) is e =
         let produce : record { topics = (record { topic = names.topic; partitions = map part_response parts }) ∷ []; throttle_time_ms = pos 0 } ≡ x.produce = cc in
         let topic = ap (λ (q : ProduceResponse). answers_of w.core.names.topic q.topics) produce ∙ x.topic in
-        let answers : map part_response parts ≡ x.answers = of_topic parts (bytes_eq names.topic w.core.names.topic) topic in
+        let answers = (cond_some (bytes_eq names.topic w.core.names.topic) (map part_response parts) x.answers topic).1 in
         let from = from_map part_response parts answer (subst (In answer) (sym answers) (In-from_contains x.answers answer x.has)) in
         record {
           within = subst (λ (m : ℕ). p < m) g.count (open_there w.core.partitions p o there);
@@ -156,18 +143,18 @@ delivered_at n w r i offset g a given d =
     let x = answered_batch p w.core.correlation r.correlation w.core.ended (partition_at p w.core.partitions) (handed_at p w.handed) (log_at p w.logs) w.packets w.replies r h.parts h.part both.steady given h.content refl h.known h.place o h.there h.flies in
     let code = stored_code h.part.answer.code (sym (ap (λ (y : PartitionProduceResponse). verdict_of y.error_code) h.answer_is) ∙ s.means) in
     let known : In o.batch (handed_at p w.handed) = all_at (λ (y : Open). In y.batch (handed_at p w.handed)) (partition_at p w.core.partitions).open_batches o both.sound.opens h.there in
-    let at = placed o.batch.items s.place i s.item in
-    let mine : i.partition ≡ p = all_at (λ (j : Item). j.partition ≡ p) (items_handed p w) i (handed_home p w a (subst (λ (m : ℕ). p < m) (sym g.count) h.within)) (record { earlier = items_of known.earlier ++ at.front; later = at.back ++ items_of known.later; split = items_split (handed_at p w.handed) o.batch i at.front at.back known at.split }) in
+    let at = took o.batch.items s.place i s.item in
+    let mine : i.partition ≡ p = all_at (λ (j : Item). j.partition ≡ p) (items_handed p w) i (handed_home p w a (subst (λ (m : ℕ). p < m) (sym g.count) h.within)) (record { earlier = items_of known.earlier ++ take s.place o.batch.items; later = at.0 ++ items_of known.later; split = items_split (handed_at p w.handed) o.batch i (take s.place o.batch.items) at.0 known at.2 }) in
     record {
       within = subst (λ (m : ℕ). m < n) (sym mine) h.within;
       batch = o.batch;
       known = subst (λ (m : ℕ). In o.batch (handed_at m w.handed)) (sym mine) known;
-      front = at.front;
-      back = at.back;
-      items = at.split;
+      front = take s.place o.batch.items;
+      back = at.0;
+      items = at.2;
       base = h.part.answer.base;
       stands = subst (λ (m : ℕ). Stands (log_at m w.logs).records (sent_of o.batch) h.part.answer.base) (sym mine) (subst (λ (b : Batch). Stands (log_at p w.logs).records (sent_of b) h.part.answer.base) x.1 (x.0.stored code));
-      offset_is = d.1 ∙ ap (λ (y : PartitionProduceResponse). y.base_offset +ℤ pos s.place) h.answer_is ∙ ap (λ (m : ℕ). h.part.answer.base +ℤ pos m) (sym at.place);
+      offset_is = d.1 ∙ ap (λ (y : PartitionProduceResponse). y.base_offset +ℤ pos s.place) h.answer_is ∙ ap (λ (m : ℕ). h.part.answer.base +ℤ pos m) (sym (length-take-le s.place o.batch.items (omega (arith, at.1))));
     }
 
 no_duplicate : (n : ℕ) (w : World) (r : Reply) (i : Item) → IsLawful n w → In r w.replies → IsDuplicate w.core (response_of r) i → ⊥

@@ -3,13 +3,14 @@
 use Rattle.std.proofs.Common.{◌≡◌, ℕ, suc, ◌+◌, ◌<◌, ◌≤◌, Bool, true, false, not, cond, List, [], ◌∷◌, ◌++◌, length, refl, sym, ap, ◌∙◌, subst, arith, append_assoc, length-append}
 use Rattle.std.specs.Prelude.{◌==◌, ◌&&◌, ◌||◌}
 use Rattle.std.specs.List.{AllByRecursion, filter, list_any}
-use Rattle.std.proofs.lemmas.Bool.{eqb-true, eq-eqb}
+use Rattle.std.proofs.lemmas.Bool.{eq-eqb, ne_eqb, not-true, or_from, or_left, or_right, or_parts}
 use Rattle.std.proofs.lemmas.List.{append-nil}
 use Rattle.std.proofs.lemmas.List.Elements.{filter-append}
 use Rattle.std.proofs.lemmas.List.Folds.{list_any-append}
 use Rattle.kp_accum.specs.declared.item.Item.{Item}
 use Rattle.kp_core.proofs.ListLemmas.{all_append}
-use Rattle.kp_world.proofs.ListLemmas.{all_back, all_filter, all_front, all_say, all_weaker}
+use Rattle.kp_world.proofs.ListLemmas.{all_back, all_filter, all_front, all_in, all_say, all_weaker}
+use Rattle.kp_world.proofs.LeavingLemmas.{left_in}
 
 -- ---- lists
 
@@ -33,6 +34,33 @@ filter_none p (x ∷ xs) h = ap (λ z. cond z (x ∷ filter p xs) (filter p xs))
 pub filter_all : {A : Type 0} (p : A → Bool) (xs : List A) → AllByRecursion (λ x. p x ≡ true) xs → filter p xs ≡ xs
 filter_all p [] h = refl
 filter_all p (x ∷ xs) h = ap (λ z. cond z (x ∷ filter p xs) (filter p xs)) h.0 ∙ ap (λ z. x ∷ z) (filter_all p xs h.1)
+
+pub all_both : {A : Type 0} (P Q R : A → Type 0) → ((x : A) → P x → Q x → R x) → (xs : List A) → AllByRecursion P xs → AllByRecursion Q xs → AllByRecursion R xs
+all_both P Q R f [] h k = tt
+all_both P Q R f (x ∷ xs) h k = (f x h.0 k.0, all_both P Q R f xs h.1 k.1)
+
+-- what passes a test
+pub filter_passes : {A : Type 0} (p : A → Bool) (xs : List A) → AllByRecursion (λ x. p x ≡ true) (filter p xs)
+filter_passes p xs = all_in (λ x. p x ≡ true) (filter p xs) (λ x i. (left_in p xs x i).1)
+
+-- those that have this number, where all have one
+pub filter_same : {A : Type 0} (f : A → ℕ) (n : ℕ) (xs : List A) → AllByRecursion (λ x. f x ≡ n) xs → filter (λ x. f x == n) xs ≡ xs
+filter_same f n xs h = filter_all (λ x. f x == n) xs (all_weaker (λ x. f x ≡ n) (λ x. (f x == n) ≡ true) (λ x e. eq-eqb (f x) n e) xs h)
+
+pub filter_other : {A : Type 0} (f : A → ℕ) (n m : ℕ) (xs : List A) → (n ≡ m → ⊥) → AllByRecursion (λ x. f x ≡ n) xs → filter (λ x. f x == m) xs ≡ []
+filter_other f n m xs ne h = filter_none (λ x. f x == m) xs (all_weaker (λ x. f x ≡ n) (λ x. (f x == m) ≡ false) (λ x e. ne_eqb (f x) m (λ (same : f x ≡ m). ne (sym e ∙ same))) xs h)
+
+pub any_none : {A : Type 0} (p : A → Bool) (xs : List A) → AllByRecursion (λ x. p x ≡ false) xs → list_any p xs ≡ false
+any_none p [] h = refl
+any_none p (x ∷ xs) h = or_from (p x) (list_any p xs) h.0 (any_none p xs h.1)
+
+-- each of these is one of them
+pub any_itself : {A : Type 0} (same : A → A → Bool) → ((x : A) → same x x ≡ true) → (xs : List A) → AllByRecursion (λ x. list_any (same x) xs ≡ true) xs
+any_itself same itself [] = tt
+any_itself same itself (x ∷ xs) = (
+  or_left (same x x) (list_any (same x) xs) (itself x),
+  all_weaker (λ y. list_any (same y) xs ≡ true) (λ y. list_any (same y) (x ∷ xs) ≡ true) (λ y e. or_right (same y x) (list_any (same y) xs) e) xs (any_itself same itself xs),
+)
 
 -- ---- numbers
 
@@ -64,60 +92,39 @@ abbrev pub AreNumbered : ℕ → List Item → Type 0
 AreNumbered n [] = Unit {0}
 AreNumbered n (x ∷ xs) = (x.number ≡ n) × AreNumbered (n + 1) xs
 
-eqb_apart : (x k : ℕ) → (x ≡ k → ⊥) → (x == k) ≡ false
-eqb_apart x k apart = at_test (x == k) refl
-  where
-    at_test : (b : Bool) → (x == k) ≡ b → b ≡ false
-    at_test true e = absurd (apart (eqb-true x k e))
-    at_test false e = refl
-
 pub above_is_out : (k : ℕ) (xs : List Item) → Below k xs → has_number xs k ≡ false
-above_is_out k [] h = refl
-above_is_out k (x ∷ xs) h = ap (λ z. z || has_number xs k) (eqb_apart k x.number (λ e. omega (arith, e, h.0))) ∙ above_is_out k xs h.1
+above_is_out k xs h = any_none (λ j. k == j.number) xs (all_weaker (λ j. j.number < k) (λ j. (k == j.number) ≡ false) (λ j l. ne_eqb k j.number (λ e. omega (arith, e, l))) xs h)
 
-pub below_is_out : (k : ℕ) (xs : List Item) → Above k xs → has_number xs k ≡ false
-below_is_out k [] h = refl
-below_is_out k (x ∷ xs) h = ap (λ z. z || has_number xs k) (eqb_apart k x.number (λ e. omega (arith, e, h.0))) ∙ below_is_out k xs h.1
+below_is_out : (k : ℕ) (xs : List Item) → Above k xs → has_number xs k ≡ false
+below_is_out k xs h = any_none (λ j. k == j.number) xs (all_weaker (λ j. k < j.number) (λ j. (k == j.number) ≡ false) (λ j l. ne_eqb k j.number (λ e. omega (arith, e, l))) xs h)
 
 rising_back : (xs ys : List Item) → Rising (xs ++ ys) → Rising ys
 rising_back [] ys h = h
 rising_back (x ∷ xs) ys h = rising_back xs ys h.1
 
-rising_apart : (xs ys : List Item) → Rising (xs ++ ys) → Apart xs ys
+pub rising_apart : (xs ys : List Item) → Rising (xs ++ ys) → Apart xs ys
 rising_apart [] ys h = tt
 rising_apart (x ∷ xs) ys h = (below_is_out x.number ys (all_back (λ i. x.number < i.number) xs ys h.0), rising_apart xs ys h.1)
 
 rising_apart_back : (xs ys : List Item) → Rising (xs ++ ys) → Apart ys xs
 rising_apart_back [] ys h = all_say (λ i. false ≡ false) (λ i. refl) ys
-rising_apart_back (x ∷ xs) ys h = both ys (rising_apart_back xs ys h.1) (all_back (λ i. x.number < i.number) xs ys h.0)
-  where
-    both : (ys : List Item) → Apart ys xs → Above x.number ys → Apart ys (x ∷ xs)
-    both [] a b = tt
-    both (y ∷ ys) a b = (ap (λ z. z || has_number xs y.number) (eqb_apart y.number x.number (λ e. omega (arith, e, b.0))) ∙ a.0, both ys a.1 b.1)
+rising_apart_back (x ∷ xs) ys h =
+    all_both (λ i. has_number xs i.number ≡ false) (λ i. x.number < i.number) (λ i. has_number (x ∷ xs) i.number ≡ false)
+    (λ i e l. or_from (i.number == x.number) (has_number xs i.number) (ne_eqb i.number x.number (λ same. omega (arith, same, l))) e) ys
+    (rising_apart_back xs ys h.1) (all_back (λ i. x.number < i.number) xs ys h.0)
 
 out_of_apart : (ys xs : List Item) → Apart xs ys → without ys xs ≡ xs
 out_of_apart ys xs h = filter_all (is_out ys) xs (all_weaker (λ i. has_number ys i.number ≡ false) (λ i. is_out ys i ≡ true) (λ i e. ap not e) xs h)
 
 pub in_itself : (xs : List Item) → AllByRecursion (λ i. has_number xs i.number ≡ true) xs
-in_itself [] = tt
-in_itself (x ∷ xs) = (
-  ap (λ z. z || has_number xs x.number) (eq-eqb x.number x.number refl),
-  all_weaker (λ i. has_number xs i.number ≡ true) (λ i. has_number (x ∷ xs) i.number ≡ true) (λ i e. more (i.number == x.number) (has_number xs i.number) e) xs (in_itself xs),
-)
-  where
-    more : (b r : Bool) → r ≡ true → (b || r) ≡ true
-    more true r e = refl
-    more false r e = e
+in_itself xs = any_itself (λ i j. i.number == j.number) (λ i. eq-eqb i.number i.number refl) xs
 
 without_itself : (xs : List Item) → without xs xs ≡ []
 without_itself xs = filter_none (is_out xs) xs (all_weaker (λ i. has_number xs i.number ≡ true) (λ i. is_out xs i ≡ false) (λ i e. ap not e) xs (in_itself xs))
 
 apart_front : (xs ys zs : List Item) → Apart xs (ys ++ zs) → Apart xs ys
-apart_front xs ys zs h = all_weaker (λ i. has_number (ys ++ zs) i.number ≡ false) (λ i. has_number ys i.number ≡ false) (λ i e. left (has_number ys i.number) (has_number zs i.number) (sym (list_any-append (λ j. i.number == j.number) ys zs) ∙ e)) xs h
-  where
-    left : (a b : Bool) → (a || b) ≡ false → a ≡ false
-    left true b e = e
-    left false b e = refl
+apart_front xs ys zs h = all_weaker (λ i. has_number (ys ++ zs) i.number ≡ false) (λ i. has_number ys i.number ≡ false)
+    (λ i e. (or_parts (has_number ys i.number) (has_number zs i.number) (sym (list_any-append (λ j. i.number == j.number) ys zs) ∙ e)).0) xs h
 
 -- rising items without those in their middle
 without_middle : (xs ys zs : List Item) → Rising (xs ++ (ys ++ zs)) → without ys (xs ++ (ys ++ zs)) ≡ xs ++ zs
@@ -141,7 +148,7 @@ without_both us vs xs =
 
 -- ---- numbered items
 
-numbered_above : (k n : ℕ) (xs : List Item) → k < n → AreNumbered n xs → Above k xs
+pub numbered_above : (k n : ℕ) (xs : List Item) → k < n → AreNumbered n xs → Above k xs
 numbered_above k n [] l h = tt
 numbered_above k n (x ∷ xs) l h = (omega (arith, l, h.0), numbered_above k (n + 1) xs (omega (arith, l)) h.1)
 
@@ -238,13 +245,6 @@ fates_handed t q h u f =
 
 -- nothing that was told Unsent was handed over
 pub fates_apart : (t q h u : List Item) → Fates t q h u → Apart h u
-fates_apart t q h u f = all_front (λ i. has_number u i.number ≡ false) h q (subst (AllByRecursion (λ i. has_number u i.number ≡ false)) f.kept (passed t))
-  where
-    passed : (xs : List Item) → AllByRecursion (λ i. has_number u i.number ≡ false) (without u xs)
-    passed [] = tt
-    passed (x ∷ xs) = at_test (has_number u x.number) refl (passed xs)
-      where
-        at_test : (b : Bool) → has_number u x.number ≡ b → AllByRecursion (λ i. has_number u i.number ≡ false) (without u xs)
-            → AllByRecursion (λ i. has_number u i.number ≡ false) (cond (not b) (x ∷ without u xs) (without u xs))
-        at_test true e rest = rest
-        at_test false e rest = (e, rest)
+fates_apart t q h u f =
+    let passed : AllByRecursion (λ i. is_out u i ≡ true) (without u t) = filter_passes (is_out u) t in
+    all_weaker (λ i. is_out u i ≡ true) (λ i. has_number u i.number ≡ false) (λ i e. not-true (has_number u i.number) e) h (all_front (λ i. is_out u i ≡ true) h q (subst (AllByRecursion (λ i. is_out u i ≡ true)) f.kept passed))

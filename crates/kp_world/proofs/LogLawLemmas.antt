@@ -1,15 +1,13 @@
 -- The laws on logs, from what holds of every world of a run.
-use Rattle.std.proofs.Common.{◌≡◌, ℕ, ◌<◌, ◌≤◌, Bool, true, false, List, [], length, Some, None, refl, sym, ap, ◌∙◌, subst, ⊎_elim, arith}
-use Rattle.std.specs.Prelude.{Option, nat_lt}
-use Rattle.std.proofs.lemmas.Bool.{ltb-true, ltb-false}
-use Rattle.std.proofs.lemmas.List.{get_or_past}
+use Rattle.std.proofs.Common.{◌≡◌, ℕ, ◌<◌, List, [], Some, None, refl, sym, ap, ◌∙◌, subst, ⊎_elim}
+use Rattle.std.specs.Prelude.{Option}
 use Rattle.kp_accum.specs.declared.config.Config.{Config}
 use Rattle.kp_log.specs.BrokerStep.{MayAppend}
 use Rattle.kp_log.specs.History.{with_batch, records_of}
 use Rattle.kp_log.proofs.PlaceLemmas.{In, In-from_contains}
 use Rattle.kp_core.specs.Attempts.{awaits, awaiting}
 use Rattle.kp_core.specs.Next.{Sending, Produce}
-use Rattle.kp_core.specs.Partitions.{new_partition, present_id}
+use Rattle.kp_core.specs.Partitions.{present_id}
 use Rattle.kp_core.specs.Records.{Open}
 use Rattle.kp_world.specs.declared.event.Event.{Event}
 use Rattle.kp_world.specs.Client.{handed_at}
@@ -19,6 +17,7 @@ use Rattle.kp_world.specs.Message.{sent_of}
 use Rattle.kp_world.specs.Run.{IsReached}
 use Rattle.kp_world.specs.World.{World}
 use Rattle.kp_world.proofs.BrokerLemmas.{Agrees}
+use Rattle.kp_world.proofs.DeliveredLemmas.{open_there}
 use Rattle.kp_world.proofs.HearingLemmas.{old_not_in_flight}
 use Rattle.kp_world.proofs.LawfulLemmas.{PartsIn, IsLawful}
 use Rattle.kp_world.proofs.LeavingLemmas.{awaits_is, found}
@@ -36,7 +35,7 @@ log_is_prefix c partitions senders es w r p h =
 -- ---- no duplicate in flight
 
 none_awaited : (n : ℕ) (w : World) → IsLawful n w → NoDuplicateIsAwaited w
-none_awaited n w g k a x code = at_place (nat_lt a.partition n) refl
+none_awaited n w g k a x code = at_option (awaiting k (partition_of a.partition w)) refl
   where
     reply_in : In x.reply w.replies
     reply_in = In-from_contains w.replies x.reply x.given
@@ -44,19 +43,12 @@ none_awaited n w g k a x code = at_place (nat_lt a.partition n) refl
     part_in : In a x.parts
     part_in = In-from_contains x.parts a x.part
 
-    at_option : a.partition < n → (o : Option Open) → awaiting k (partition_of a.partition w) ≡ o → o ≡ None
-    at_option h None is = refl
-    at_option h (Some o) is =
+    at_option : (o : Option Open) → awaiting k (partition_of a.partition w) ≡ o → o ≡ None
+    at_option None is = refl
+    at_option (Some o) is =
         let f = found (awaits k) (partition_of a.partition w).open_batches o is in
+        let h : a.partition < n = subst (λ (m : ℕ). a.partition < m) g.count (open_there w.core.partitions a.partition o f.0) in
         absurd (old_not_in_flight a.partition w.core.correlation k w.core.ended (partition_of a.partition w) (handed_at a.partition w.handed) (log_at a.partition w.logs) w.packets w.replies x.reply x.parts a (g.agree a.partition h).steady reply_in x.content (sym x.correlation) part_in refl code o f.0 (awaits_is k o f.1))
-
-    at_place : (b : Bool) → nat_lt a.partition n ≡ b → awaiting k (partition_of a.partition w) ≡ None
-    at_place true is = at_option (ltb-true a.partition n is) (awaiting k (partition_of a.partition w)) refl
-    at_place false is =
-        let beyond : n ≤ a.partition = ltb-false a.partition n is in
-        let size : length w.core.partitions ≡ n = g.count in
-        let none : partition_of a.partition w ≡ new_partition 0 = get_or_past w.core.partitions a.partition (new_partition 0) (omega (arith, beyond, size)) in
-        ap (awaiting k) none
 
 pub no_duplicate_is_awaited : (c : Config) (partitions senders : ℕ) (es : List Event) (w : World) → IsReached c partitions senders es w → NoDuplicateIsAwaited w
 no_duplicate_is_awaited c partitions senders es w r =

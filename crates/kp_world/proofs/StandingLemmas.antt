@@ -35,23 +35,18 @@ use Rattle.kp_world.proofs.TruthLemmas.{IsTruthful, truthful_reached}
 
 -- ---- places among an id's records
 
+-- a record of the id counts
+counts_first : (id : ℤ) (s : Stored) (ys : List Stored) → s.producer_id ≡ id → count_of id (s ∷ ys) ≡ 0 → ⊥
+counts_first id s ys h n =
+    let is = ap (λ (z : ℤ). int_eq z id) h ∙ int_eq_same id in
+    let more : suc (count_of id ys) ≡ 0 = sym (ap (λ (b : Bool). cond b (suc (count_of id ys)) (count_of id ys)) is) ∙ n in
+    omega arith
+
 -- equal counts before two records of one id: the same place
 same_place : (id : ℤ) (xs ys : List Stored) (p q : Stored) (u v : List Stored) → p.producer_id ≡ id → q.producer_id ≡ id → xs ++ p ∷ u ≡ ys ++ q ∷ v → count_of id xs ≡ count_of id ys → length xs ≡ length ys
 same_place id [] [] p q u v hp hq e n = refl
-same_place id [] (y ∷ ys) p q u v hp hq e n =
-    let same : p ≡ y = cc in
-    let at : y.producer_id ≡ id = ap (λ (s : Stored). s.producer_id) (sym same) ∙ hp in
-    absurd (not_none (ap (λ (z : ℤ). int_eq z id) at ∙ int_eq_same id) n)
-  where
-    not_none : int_eq y.producer_id id ≡ true → 0 ≡ cond (int_eq y.producer_id id) (suc (count_of id ys)) (count_of id ys) → ⊥
-    not_none is m = let more : 0 ≡ suc (count_of id ys) = m ∙ ap (λ (b : Bool). cond b (suc (count_of id ys)) (count_of id ys)) is in omega arith
-same_place id (x ∷ xs) [] p q u v hp hq e n =
-    let same : x ≡ q = cc in
-    let at : x.producer_id ≡ id = ap (λ (s : Stored). s.producer_id) same ∙ hq in
-    absurd (not_none (ap (λ (z : ℤ). int_eq z id) at ∙ int_eq_same id) n)
-  where
-    not_none : int_eq x.producer_id id ≡ true → cond (int_eq x.producer_id id) (suc (count_of id xs)) (count_of id xs) ≡ 0 → ⊥
-    not_none is m = let more : suc (count_of id xs) ≡ 0 = sym (ap (λ (b : Bool). cond b (suc (count_of id xs)) (count_of id xs)) is) ∙ m in omega arith
+same_place id [] (y ∷ ys) p q u v hp hq e n = let same : p ≡ y = cc in absurd (counts_first id y ys (ap (λ (s : Stored). s.producer_id) (sym same) ∙ hp) (sym n))
+same_place id (x ∷ xs) [] p q u v hp hq e n = let same : x ≡ q = cc in absurd (counts_first id x xs (ap (λ (s : Stored). s.producer_id) same ∙ hq) n)
 same_place id (x ∷ xs) (y ∷ ys) p q u v hp hq e n =
     let same : x ≡ y = cc in
     let next : xs ++ p ∷ u ≡ ys ++ q ∷ v = cc in

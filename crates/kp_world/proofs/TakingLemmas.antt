@@ -18,10 +18,12 @@ use Rattle.kp_world.specs.Accounts.{of_sender, unsent_among}
 use Rattle.kp_world.specs.Client.{handed_at}
 use Rattle.kp_world.proofs.AccountLemmas.{items_of, taken_for, taken_of, all_taken, items_told-append, Accepts, Accounts, sender-append, partition-append, both-append}
 use Rattle.kp_world.proofs.ConservationLemmas.{items_told, unsent-append}
-use Rattle.kp_world.proofs.WeightLemmas.{weigh, weigh-append, grown_at}
-use Rattle.kp_world.proofs.FateLemmas.{AreNumbered, numbered_more, numbered_back, Fates, fates_queued, fates_turned_away}
+use Rattle.kp_world.proofs.WeightLemmas.{weigh, weigh-append, weigh_at, weigh_flat, weigh_none}
+use Rattle.kp_world.proofs.FateLemmas.{filter_same, AreNumbered, numbered_more, numbered_back, Fates, fates_queued, fates_turned_away}
 use Rattle.kp_world.proofs.KeepingLemmas.{length-changed_at, at-changed_at}
-use Rattle.kp_world.proofs.TellingLemmas.{Distinct, home_past}
+use Rattle.kp_world.proofs.TellingLemmas.{Distinct, home_past, weigh_places}
+use Rattle.kp_log.proofs.PlaceLemmas.{In}
+use Rattle.kp_world.proofs.ListLemmas.{all_at, all_filter, all_say}
 use Rattle.kp_core.proofs.ListLemmas.{all_append}
 
 -- ---- lists
@@ -38,38 +40,36 @@ flat_agrees : (F G : ℕ → List Item) → ((n : ℕ) → F n ≡ G n) → (ns 
 flat_agrees F G h [] = refl
 flat_agrees F G h (n ∷ ns) = ap (λ (r : List Item). r ++ flat_map F ns) (h n) ∙ ap (λ (r : List Item). G n ++ r) (flat_agrees F G h ns)
 
+nothing : (k n : ℕ) → weigh (λ p. 0) (range_with_len k n) ≡ 0
+nothing k n = weigh_none (λ p. 0) (range_with_len k n) (all_say (λ p. 0 ≡ 0) (λ p. refl) (range_with_len k n))
+
 -- partitions whose items weigh as much
 pub weigh_same : (f : Item → ℕ) (d : Partition) (ts ts' : List Partition) → length ts' ≡ length ts → ((p : ℕ) → p < length ts → weigh f (untold (get_or ts' p d)) ≡ weigh f (untold (get_or ts p d)))
     → weigh f (flat_map untold ts') ≡ weigh f (flat_map untold ts)
-weigh_same f d [] [] e h = refl
-weigh_same f d [] (t' ∷ ts') e h = absurd (omega (arith, e))
-weigh_same f d (t ∷ ts) [] e h = absurd (omega (arith, e))
-weigh_same f d (t ∷ ts) (t' ∷ ts') e h =
-    let here : weigh f (untold t') ≡ weigh f (untold t) = h 0 (omega arith) in
-    let rest : weigh f (flat_map untold ts') ≡ weigh f (flat_map untold ts) = weigh_same f d ts ts' (omega (arith, e)) (λ p l. h (suc p) (omega (arith, l))) in
-    let a : weigh f (untold t' ++ flat_map untold ts') ≡ weigh f (untold t') + weigh f (flat_map untold ts') = weigh-append f (untold t') (flat_map untold ts') in
-    let b : weigh f (untold t ++ flat_map untold ts) ≡ weigh f (untold t) + weigh f (flat_map untold ts) = weigh-append f (untold t) (flat_map untold ts) in
-    omega (arith, here, rest, a, b)
+weigh_same f d ts ts' e h =
+    let none : weigh (λ p. 0) (range_with_len 0 (length ts)) ≡ 0 = nothing 0 (length ts) in
+    let all : weigh (λ p. 0) (range_with_len 0 (length ts)) + weigh f (flat_map untold ts') ≡ weigh f (flat_map untold ts) = weigh_places (λ p. 0) f 0 ts ts' d e (λ q l. omega (arith, h q l)) in
+    omega (arith, none, all)
 
 -- one of which weighs more
 weigh_more : (f : Item → ℕ) (v : ℕ) (d : Partition) (ts ts' : List Partition) (q : ℕ) → length ts' ≡ length ts → q < length ts
     → weigh f (untold (get_or ts' q d)) ≡ weigh f (untold (get_or ts q d)) + v
     → ((p : ℕ) → p < length ts → (p ≡ q → ⊥) → weigh f (untold (get_or ts' p d)) ≡ weigh f (untold (get_or ts p d)))
     → weigh f (flat_map untold ts') ≡ weigh f (flat_map untold ts) + v
-weigh_more f v d [] ts' q e l here other = absurd (omega (arith, l))
-weigh_more f v d (t ∷ ts) [] q e l here other = absurd (omega (arith, e))
-weigh_more f v d (t ∷ ts) (t' ∷ ts') zero e l here other =
-    let rest : weigh f (flat_map untold ts') ≡ weigh f (flat_map untold ts) = weigh_same f d ts ts' (omega (arith, e)) (λ p m. other (suc p) (omega (arith, m)) (λ (z : suc p ≡ 0). omega (arith, z))) in
-    let first : weigh f (untold t') ≡ weigh f (untold t) + v = here in
-    let a : weigh f (untold t' ++ flat_map untold ts') ≡ weigh f (untold t') + weigh f (flat_map untold ts') = weigh-append f (untold t') (flat_map untold ts') in
-    let b : weigh f (untold t ++ flat_map untold ts) ≡ weigh f (untold t) + weigh f (flat_map untold ts) = weigh-append f (untold t) (flat_map untold ts) in
-    omega (arith, first, rest, a, b)
-weigh_more f v d (t ∷ ts) (t' ∷ ts') (suc q) e l here other =
-    let rest : weigh f (flat_map untold ts') ≡ weigh f (flat_map untold ts) + v = weigh_more f v d ts ts' q (omega (arith, e)) (omega (arith, l)) here (λ p m ne. other (suc p) (omega (arith, m)) (λ (z : suc p ≡ suc q). ne (let less : p ≡ q = omega (arith, z) in less))) in
-    let first : weigh f (untold t') ≡ weigh f (untold t) = other 0 (omega arith) (λ (z : 0 ≡ suc q). omega (arith, z)) in
-    let a : weigh f (untold t' ++ flat_map untold ts') ≡ weigh f (untold t') + weigh f (flat_map untold ts') = weigh-append f (untold t') (flat_map untold ts') in
-    let b : weigh f (untold t ++ flat_map untold ts) ≡ weigh f (untold t) + weigh f (flat_map untold ts) = weigh-append f (untold t) (flat_map untold ts) in
-    omega (arith, first, rest, a, b)
+weigh_more f v d ts ts' q e l here other =
+    let none : weigh (λ p. 0) (range_with_len 0 (length ts')) ≡ 0 = nothing 0 (length ts') in
+    let one : weigh (λ p. if p == q then v else 0) (range_with_len 0 (length ts')) ≡ weigh (λ p. 0) (range_with_len 0 (length ts')) + v =
+    weigh_at (λ p. 0) (λ p. if p == q then v else 0) q v (ap (λ (b : Bool). if b then v else 0) (eq-eqb q q refl) ∙ (let same : v ≡ 0 + v = omega arith in same)) (λ n is. ap (λ (b : Bool). if b then v else 0) is) 0 (length ts') (omega arith) (omega (arith, e, l)) in
+    let all : weigh (λ p. if p == q then v else 0) (range_with_len 0 (length ts')) + weigh f (flat_map untold ts) ≡ weigh f (flat_map untold ts') =
+    weigh_places (λ p. if p == q then v else 0) f 0 ts' ts d (sym e) (λ p m. let same : p ≡ 0 + p = omega arith in subst (λ (n : ℕ). (if n == q then v else 0) + weigh f (untold (get_or ts p d)) ≡ weigh f (untold (get_or ts' p d))) same (at_place p (p == q) refl (omega (arith, e, m)))) in
+    omega (arith, none, one, all)
+  where
+    at_place : (p : ℕ) (b : Bool) → (p == q) ≡ b → p < length ts → (if b then v else 0) + weigh f (untold (get_or ts p d)) ≡ weigh f (untold (get_or ts' p d))
+    at_place p true is m =
+        let k : p ≡ q = eqb-true p q is in
+        let more : weigh f (untold (get_or ts' p d)) ≡ weigh f (untold (get_or ts p d)) + v = subst (λ (n : ℕ). weigh f (untold (get_or ts' n d)) ≡ weigh f (untold (get_or ts n d)) + v) (sym k) here in
+        omega (arith, more)
+    at_place p false is m = let same : weigh f (untold (get_or ts' p d)) ≡ weigh f (untold (get_or ts p d)) = other p m (eqb-false p q is) in omega (arith, same)
 
 -- ---- accepting
 
@@ -140,11 +140,8 @@ pub record NextOf (count s : ℕ) (items : List Item) (n : ℕ) (i : Item) : Typ
   pub sender : i.sender ≡ s
   pub number : i.number ≡ length (for_partition i.partition (take n items))
 
-at_front_of : (P : Item → Type 0) (front : List Item) (i : Item) (rest : List Item) → AllByRecursion P (front ++ i ∷ rest) → P i
-at_front_of P [] i rest h = h.0
-at_front_of P (x ∷ front) i rest h = at_front_of P front i rest h.1
-
-took : (xs : List Item) (n : ℕ) (i : Item) → slice_get xs n ≡ Some i → (rest : List Item) × (n < length xs) × (xs ≡ take n xs ++ i ∷ rest) × (take (n + 1) xs ≡ take n xs ++ i ∷ [])
+-- a list, taken at the place of an element
+pub took : {A : Type 0} (xs : List A) (n : ℕ) (i : A) → slice_get xs n ≡ Some i → (rest : List A) × (n < length xs) × (xs ≡ take n xs ++ i ∷ rest) × (take (n + 1) xs ≡ take n xs ++ i ∷ [])
 took [] n i e = absurd cc
 took (x ∷ xs) zero i e = let is : x ≡ i = cc in (xs, omega arith, ap (λ z. z ∷ xs) is, ap (λ z. z ∷ []) is)
 took (x ∷ xs) (suc n) i e =
@@ -164,11 +161,12 @@ number_at front i rest h =
 pub next_of : (count s : ℕ) (items : List Item) (n : ℕ) (i : Item) → Accepts count s items n → slice_get items n ≡ Some i → NextOf count s items n i
 next_of count s items n i a e =
     let h = took items n i e in
+    let inside : In i items = record { earlier = take n items; later = h.0; split = h.2 } in
     record {
       below = h.1;
       taken = h.3;
-      sender = at_front_of (λ (x : Item). x.sender ≡ s) (take n items) i h.0 (subst (AllByRecursion (λ (x : Item). x.sender ≡ s)) h.2 a.own);
-      known = at_front_of (λ (x : Item). x.partition < count) (take n items) i h.0 (subst (AllByRecursion (λ (x : Item). x.partition < count)) h.2 a.known);
+      sender = all_at (λ (x : Item). x.sender ≡ s) items i a.own inside;
+      known = all_at (λ (x : Item). x.partition < count) items i a.known inside;
       number = number_at (take n items) i h.0 (subst (λ xs. AreNumbered 0 (for_partition i.partition xs)) h.2 (a.numbered i.partition));
     }
 
@@ -182,34 +180,29 @@ picked_other s q i e = ap (of_sender s) (for_one q i false e)
 picked_here : (s q : ℕ) (i : Item) → (b : Bool) → (i.sender == s) ≡ b → (i.partition == q) ≡ true → picked s q i ≡ cond b (i ∷ []) []
 picked_here s q i b a e = ap (of_sender s) (for_one q i true e) ∙ ap (λ (z : Bool). cond z (i ∷ []) []) a
 
+at_picked : (P : List Item → Type 0) (s q : ℕ) (i : Item) → P [] → (i.sender ≡ s → i.partition ≡ q → P (i ∷ [])) → P (picked s q i)
+at_picked P s q i none one = at_partition (i.partition == q) refl
+  where
+    at_sender : (b : Bool) → (i.sender == s) ≡ b → (i.partition == q) ≡ true → P (picked s q i)
+    at_sender true is e = subst P (sym (picked_here s q i true is e)) (one (eqb-true i.sender s is) (eqb-true i.partition q e))
+    at_sender false is e = subst P (sym (picked_here s q i false is e)) none
+
+    at_partition : (b : Bool) → (i.partition == q) ≡ b → P (picked s q i)
+    at_partition true e = at_sender (i.sender == s) refl e
+    at_partition false e = subst P (sym (picked_other s q i e)) none
+
 -- one item more was taken, of this sender and partition or of others
 more_queued : (s q : ℕ) (i : Item) (t w h u : List Item) → (i.sender ≡ s → i.partition ≡ q → i.number ≡ length t) → Fates t w h u → Fates (t ++ picked s q i) (w ++ picked s q i) h u
-more_queued s q i t w h u number f = at_partition (i.partition == q) refl
-  where
-    none : picked s q i ≡ [] → Fates (t ++ picked s q i) (w ++ picked s q i) h u
-    none e = subst (λ (r : List Item). Fates (t ++ r) (w ++ r) h u) (sym e) (subst (λ (r : List Item). Fates r (w ++ []) h u) (sym (append-nil t)) (subst (λ (r : List Item). Fates t r h u) (sym (append-nil w)) f))
-
-    at_sender : (b : Bool) → (i.sender == s) ≡ b → (i.partition == q) ≡ true → Fates (t ++ picked s q i) (w ++ picked s q i) h u
-    at_sender true is e = subst (λ (r : List Item). Fates (t ++ r) (w ++ r) h u) (sym (picked_here s q i true is e)) (fates_queued t w h u i f (number (eqb-true i.sender s is) (eqb-true i.partition q e)))
-    at_sender false is e = none (picked_here s q i false is e)
-
-    at_partition : (b : Bool) → (i.partition == q) ≡ b → Fates (t ++ picked s q i) (w ++ picked s q i) h u
-    at_partition true e = at_sender (i.sender == s) refl e
-    at_partition false e = none (picked_other s q i e)
+more_queued s q i t w h u number f =
+    at_picked (λ r. Fates (t ++ r) (w ++ r) h u) s q i
+    (subst (λ (r : List Item). Fates r (w ++ []) h u) (sym (append-nil t)) (subst (λ (r : List Item). Fates t r h u) (sym (append-nil w)) f))
+    (λ sender partition. fates_queued t w h u i f (number sender partition))
 
 more_turned : (s q : ℕ) (i : Item) (t w h u : List Item) → (i.sender ≡ s → i.partition ≡ q → i.number ≡ length t) → Fates t w h u → Fates (t ++ picked s q i) w h (u ++ picked s q i)
-more_turned s q i t w h u number f = at_partition (i.partition == q) refl
-  where
-    none : picked s q i ≡ [] → Fates (t ++ picked s q i) w h (u ++ picked s q i)
-    none e = subst (λ (r : List Item). Fates (t ++ r) w h (u ++ r)) (sym e) (subst (λ (r : List Item). Fates r w h (u ++ [])) (sym (append-nil t)) (subst (λ (r : List Item). Fates t w h r) (sym (append-nil u)) f))
-
-    at_sender : (b : Bool) → (i.sender == s) ≡ b → (i.partition == q) ≡ true → Fates (t ++ picked s q i) w h (u ++ picked s q i)
-    at_sender true is e = subst (λ (r : List Item). Fates (t ++ r) w h (u ++ r)) (sym (picked_here s q i true is e)) (fates_turned_away t w h u i f (number (eqb-true i.sender s is) (eqb-true i.partition q e)))
-    at_sender false is e = none (picked_here s q i false is e)
-
-    at_partition : (b : Bool) → (i.partition == q) ≡ b → Fates (t ++ picked s q i) w h (u ++ picked s q i)
-    at_partition true e = at_sender (i.sender == s) refl e
-    at_partition false e = none (picked_other s q i e)
+more_turned s q i t w h u number f =
+    at_picked (λ r. Fates (t ++ r) w h (u ++ r)) s q i
+    (subst (λ (r : List Item). Fates r w h (u ++ [])) (sym (append-nil t)) (subst (λ (r : List Item). Fates t w h r) (sym (append-nil u)) f))
+    (λ sender partition. fates_turned_away t w h u i f (number sender partition))
 
 -- ---- the account, with one item more
 
@@ -225,31 +218,18 @@ taken_more : (count s : ℕ) (accepted : List (List Item)) (taken : List ℕ) (i
 taken_more count s accepted taken i l next s' q =
     ap (λ (n : ℕ). for_partition q (take n (slice_index_or accepted s' []))) (at_set taken s s' (slice_index taken s + 1) 0 l) ∙ at_test (s' == s) refl
   where
-    own : (r : List Item) → for_partition q (i ∷ []) ≡ r → of_sender s (for_partition q (i ∷ [])) ≡ for_partition q (i ∷ [])
-    own r e = at_partition (i.partition == q) refl
-      where
-        at_partition : (b : Bool) → (i.partition == q) ≡ b → of_sender s (for_partition q (i ∷ [])) ≡ for_partition q (i ∷ [])
-        at_partition true is = subst (λ (r : List Item). of_sender s r ≡ r) (sym (for_one q i true is)) (ap (λ (z : Bool). cond z (i ∷ []) []) (eq-eqb i.sender s next.sender))
-        at_partition false is = subst (λ (r : List Item). of_sender s r ≡ r) (sym (for_one q i false is)) refl
+    own : of_sender s (for_partition q (i ∷ [])) ≡ for_partition q (i ∷ [])
+    own = filter_same (λ (x : Item). x.sender) s (for_partition q (i ∷ [])) (all_filter (λ (x : Item). x.sender ≡ s) (λ (x : Item). x.partition == q) (i ∷ []) (next.sender, tt))
 
     at_test : (b : Bool) → (s' == s) ≡ b → for_partition q (take (if b then slice_index taken s + 1 else slice_index taken s') (slice_index_or accepted s' [])) ≡ taken_for s' q accepted taken ++ picked s' q i
     at_test true is =
         let e : s' ≡ s = eqb-true s' s is in
         subst (λ (n : ℕ). for_partition q (take (slice_index taken s + 1) (slice_index_or accepted n [])) ≡ taken_for n q accepted taken ++ picked n q i) (sym e)
         (ap (for_partition q) next.taken ∙ partition-append q (take (slice_index taken s) (slice_index_or accepted s [])) (i ∷ [])
-        ∙ ap (λ r. taken_for s q accepted taken ++ r) (sym (own (for_partition q (i ∷ [])) refl)))
-    at_test false is = sym (ap (λ r. taken_for s' q accepted taken ++ r) (at_partition (i.partition == q) refl) ∙ append-nil (taken_for s' q accepted taken))
-      where
-        other : (b : Bool) → (i.sender == s') ≡ b → b ≡ false
-        other true same =
-            let e : i.sender ≡ s' = eqb-true i.sender s' same in
-            let equal : (s' == s) ≡ true = eq-eqb s' s (sym e ∙ next.sender) in
-            absurd cc
-        other false same = refl
-
-        at_partition : (b : Bool) → (i.partition == q) ≡ b → picked s' q i ≡ []
-        at_partition true h = picked_here s' q i false (other (i.sender == s') refl) h
-        at_partition false h = picked_other s' q i h
+        ∙ ap (λ r. taken_for s q accepted taken ++ r) (sym own))
+    at_test false is =
+        let none : picked s' q i ≡ [] = at_picked (λ r. r ≡ []) s' q i refl (λ sender partition. absurd (eqb-false s' s is (sym sender ∙ next.sender))) in
+        sym (ap (λ r. taken_for s' q accepted taken ++ r) none ∙ append-nil (taken_for s' q accepted taken))
 
 number_for : (count s : ℕ) (accepted : List (List Item)) (taken : List ℕ) (i : Item) → IsNext count s accepted taken i → (s' q : ℕ) → i.sender ≡ s' → i.partition ≡ q → i.number ≡ length (taken_for s' q accepted taken)
 number_for count s accepted taken i next s' q sender partition =
@@ -258,7 +238,10 @@ number_for count s accepted taken i next s' q sender partition =
 
 weigh_taken : (f : Item → ℕ) (count s : ℕ) (accepted : List (List Item)) (taken : List ℕ) (i : Item) → s < length taken → length taken ≡ length accepted → IsNext count s accepted taken i
     → weigh f (all_taken accepted (with_one s taken)) ≡ weigh f (all_taken accepted taken) + f i
-weigh_taken f count s accepted taken i l count_is next = grown_at f (taken_of accepted taken) (taken_of accepted (with_one s taken)) s (f i) here other 0 (length accepted) (omega arith) (omega (arith, l, count_is))
+weigh_taken f count s accepted taken i l count_is next =
+    weigh_flat f (taken_of accepted (with_one s taken)) (range_with_len 0 (length accepted))
+    ∙ weigh_at (λ n. weigh f (taken_of accepted taken n)) (λ n. weigh f (taken_of accepted (with_one s taken) n)) s (f i) here other 0 (length accepted) (omega arith) (omega (arith, l, count_is))
+    ∙ ap (λ (n : ℕ). n + f i) (sym (weigh_flat f (taken_of accepted taken) (range_with_len 0 (length accepted))))
   where
     at : (n : ℕ) → taken_of accepted (with_one s taken) n ≡ take (if n == s then slice_index taken s + 1 else slice_index taken n) (slice_index_or accepted n [])
     at n = ap (λ (m : ℕ). take m (slice_index_or accepted n [])) (at_set taken s n (slice_index taken s + 1) 0 l)

@@ -19,18 +19,21 @@ use Rattle.kp_core.specs.Replies.{first_answered, answering, under, under_if_wan
 use Rattle.kp_core.specs.Telling.{with_partitions, at_each, told_at_each, at_these, told_at}
 use Rattle.kp_core.specs.Tick.{passed, Ticks, ticked, disconnected, closed}
 use Rattle.kp_world.proofs.ConservationLemmas.{items_told, attempt_count, Tells, tells_same, tells_both, tells_nothing, tells_dropped, tells_marked, tells_given_up, tells_passed, tells_answered}
-use Rattle.kp_world.proofs.FateLemmas.{filter_all, filter_none}
-use Rattle.kp_world.proofs.WeightLemmas.{weigh, weigh-append, grown_at}
+use Rattle.kp_world.proofs.FateLemmas.{filter_other, filter_same}
+use Rattle.kp_world.proofs.WeightLemmas.{weigh, weigh-append, weigh_at, weigh_none}
 use Rattle.kp_world.proofs.KeepingLemmas.{at-changed_at, length-changed_at}
 use Rattle.kp_core.specs.Causes.{IsAnswered}
 use Rattle.kp_frames.specs.declared.produce.PartitionProduceResponse.{PartitionProduceResponse}
 use Rattle.kp_core.proofs.OutcomeLemmas.{answered_so, in_flight, all_places}
 use Rattle.kp_core.proofs.CallLemmas.{at_closed, at_disconnected, at_ended, at_replied, at_ticked}
 use Rattle.kp_core.proofs.ListLemmas.{all_flat_map}
-use Rattle.kp_world.proofs.ListLemmas.{all_at, all_filter, all_weaker}
+use Rattle.kp_world.proofs.ListLemmas.{all_at, all_filter, all_say, all_weaker}
 use Rattle.kp_log.proofs.PlaceLemmas.{In-from_contains}
 
 -- ---- what is told, by partition
+
+abbrev partition_told : Told → ℕ
+partition_told t = t.item.partition
 
 abbrev pub told_for : ℕ → List Told → List Told
 told_for p told = filter (λ t. t.item.partition == p) told
@@ -41,12 +44,6 @@ AllFor p told = AllByRecursion (λ t. t.item.partition ≡ p) told
 all_told : (P : Item → Type 0) (told : List Told) → AllByRecursion P (items_told told) → AllByRecursion (λ (t : Told). P t.item) told
 all_told P [] h = tt
 all_told P (t ∷ told) h = (h.0, all_told P told h.1)
-
-pub for_all : (p : ℕ) (told : List Told) → AllFor p told → told_for p told ≡ told
-for_all p told h = filter_all (λ t. t.item.partition == p) told (all_weaker (λ t. t.item.partition ≡ p) (λ t. (t.item.partition == p) ≡ true) (λ t e. eq-eqb t.item.partition p e) told h)
-
-pub for_none : (q p : ℕ) (told : List Told) → (q ≡ p → ⊥) → AllFor q told → told_for p told ≡ []
-for_none q p told ne h = filter_none (λ t. t.item.partition == p) told (all_weaker (λ t. t.item.partition ≡ q) (λ t. (t.item.partition == p) ≡ false) (λ t e. ne_eqb t.item.partition p (λ (same : t.item.partition ≡ p). ne (sym e ∙ same))) told h)
 
 for_append : (p : ℕ) (a b : List Told) → told_for p (a ++ b) ≡ told_for p a ++ told_for p b
 for_append p a b = filter-append (λ (t : Told). t.item.partition == p) a b
@@ -67,7 +64,7 @@ none_each : (f : Partition → List Told) (ts : List Partition) (d : Partition) 
 none_each f [] d k m l h = refl
 none_each f (t ∷ ts) d k m l h =
     for_append m (f t) (flat_map f ts)
-    ∙ ap (λ r. r ++ told_for m (flat_map f ts)) (for_none k m (f t) (λ e. omega (arith, e, l)) (by_place_first k f t ts d h))
+    ∙ ap (λ r. r ++ told_for m (flat_map f ts)) (filter_other partition_told k m (f t) (λ e. omega (arith, e, l)) (by_place_first k f t ts d h))
     ∙ none_each f ts d (k + 1) m (omega (arith, l)) (by_place_rest k f t ts d h)
 
 pub told_each : (f : Partition → List Told) (ts : List Partition) (d : Partition) (k p : ℕ) → p < length ts → ByPlace k f ts d
@@ -77,14 +74,14 @@ told_each f (t ∷ ts) d k zero l h =
     let same : k + 0 ≡ k = omega arith in
     ap (λ (n : ℕ). told_for n (flat_map f (t ∷ ts))) same
     ∙ for_append k (f t) (flat_map f ts)
-    ∙ ap (λ r. r ++ told_for k (flat_map f ts)) (for_all k (f t) (by_place_first k f t ts d h))
+    ∙ ap (λ r. r ++ told_for k (flat_map f ts)) (filter_same partition_told k (f t) (by_place_first k f t ts d h))
     ∙ ap (λ r. f t ++ r) (none_each f ts d (k + 1) k (omega arith) (by_place_rest k f t ts d h))
     ∙ append-nil (f t)
 told_each f (t ∷ ts) d k (suc p) l h =
     let same : k + suc p ≡ k + 1 + p = omega arith in
     ap (λ (n : ℕ). told_for n (flat_map f (t ∷ ts))) same
     ∙ for_append (k + 1 + p) (f t) (flat_map f ts)
-    ∙ ap (λ r. r ++ told_for (k + 1 + p) (flat_map f ts)) (for_none k (k + 1 + p) (f t) (λ e. omega (arith, e)) (by_place_first k f t ts d h))
+    ∙ ap (λ r. r ++ told_for (k + 1 + p) (flat_map f ts)) (filter_other partition_told k (k + 1 + p) (f t) (λ e. omega (arith, e)) (by_place_first k f t ts d h))
     ∙ told_each f ts d (k + 1) p (omega (arith, l)) (by_place_rest k f t ts d h)
 
 -- no two are one
@@ -101,11 +98,11 @@ told_these g home (q ∷ qs) p h = for_append p (g q) (flat_map g qs) ∙ at_tes
     at_test rest true is =
         let e : q ≡ p = eqb-true q p is in
         let none : is_in p qs ≡ false = subst (λ (n : ℕ). is_in n qs ≡ false) e h.0 in
-        ap (λ r. r ++ told_for p (flat_map g qs)) (for_all p (g q) (subst (λ (n : ℕ). AllFor n (g q)) e (home q)))
+        ap (λ r. r ++ told_for p (flat_map g qs)) (filter_same partition_told p (g q) (subst (λ (n : ℕ). AllFor n (g q)) e (home q)))
         ∙ ap (λ r. g q ++ r) (rest ∙ ap (λ (b : Bool). if b then g p else []) none)
         ∙ append-nil (g q) ∙ ap g e
     at_test rest false is =
-        ap (λ r. r ++ told_for p (flat_map g qs)) (for_none q p (g q) (eqb-false q p is) (home q)) ∙ rest
+        ap (λ r. r ++ told_for p (flat_map g qs)) (filter_other partition_told q p (g q) (eqb-false q p is) (home q)) ∙ rest
 
 -- ---- the core
 
@@ -134,8 +131,7 @@ core_then : (s u v : Core) (told : List Told) → CoreTells s [] u → CoreTells
 core_then s u v told a b = record {
   count = b.count ∙ a.count;
   each = λ p h.
-      let first = a.each p h in
-      tells_both (partition_at p s.partitions) (partition_at p u.partitions) (partition_at p v.partitions) [] (told_for p told) refl first.queue first (b.each p (subst (λ (n : ℕ). p < n) (sym a.count) h));
+      tells_both (partition_at p s.partitions) (partition_at p u.partitions) (partition_at p v.partitions) [] (told_for p told) (a.each p h) (b.each p (subst (λ (n : ℕ). p < n) (sym a.count) h));
   requests = λ P h. b.requests P (a.requests P h);
   there = subst (λ (n : ℕ). AllByRecursion (λ t. t.item.partition < n) told) a.count b.there;
 }
@@ -232,16 +228,12 @@ weigh_items f [] = refl
 weigh_items f (t ∷ told) = ap (λ (n : ℕ). f t.item + n) (weigh_items f told)
 
 -- what is told is what is told of each partition
-told_parts : (g : Told → ℕ) (n : ℕ) (told : List Told) → AllByRecursion (λ t. t.item.partition < n) told → weigh g (flat_map (λ p. told_for p told) (range_with_len 0 n)) ≡ weigh g told
-told_parts g n [] h = nothing 0 n
-  where
-    nothing : (a m : ℕ) → weigh g (flat_map (λ p. told_for p []) (range_with_len a m)) ≡ 0
-    nothing a zero = refl
-    nothing a (suc m) = nothing (a + 1) m
+told_parts : (g : Told → ℕ) (n : ℕ) (told : List Told) → AllByRecursion (λ t. t.item.partition < n) told → weigh (λ p. weigh g (told_for p told)) (range_with_len 0 n) ≡ weigh g told
+told_parts g n [] h = weigh_none (λ p. 0) (range_with_len 0 n) (all_say (λ p. 0 ≡ 0) (λ p. refl) (range_with_len 0 n))
 told_parts g n (t ∷ told) h =
-    let one : weigh g (flat_map (λ p. told_for p (t ∷ told)) (range_with_len 0 n)) ≡ weigh g (flat_map (λ p. told_for p told) (range_with_len 0 n)) + g t =
-    grown_at g (λ p. told_for p told) (λ p. told_for p (t ∷ told)) t.item.partition (g t) here other 0 n (omega arith) (omega (arith, h.0)) in
-    let rest : weigh g (flat_map (λ p. told_for p told) (range_with_len 0 n)) ≡ weigh g told = told_parts g n told h.1 in
+    let one : weigh (λ p. weigh g (told_for p (t ∷ told))) (range_with_len 0 n) ≡ weigh (λ p. weigh g (told_for p told)) (range_with_len 0 n) + g t =
+    weigh_at (λ p. weigh g (told_for p told)) (λ p. weigh g (told_for p (t ∷ told))) t.item.partition (g t) here other 0 n (omega arith) (omega (arith, h.0)) in
+    let rest : weigh (λ p. weigh g (told_for p told)) (range_with_len 0 n) ≡ weigh g told = told_parts g n told h.1 in
     omega (arith, one, rest)
   where
     here : weigh g (cond (t.item.partition == t.item.partition) (t ∷ told_for t.item.partition told) (told_for t.item.partition told)) ≡ weigh g (told_for t.item.partition told) + g t
@@ -250,31 +242,31 @@ told_parts g n (t ∷ told) h =
     other : (p : ℕ) → (p == t.item.partition) ≡ false → weigh g (cond (t.item.partition == p) (t ∷ told_for p told) (told_for p told)) ≡ weigh g (told_for p told)
     other p is = ap (λ (b : Bool). weigh g (cond b (t ∷ told_for p told) (told_for p told))) (ne_eqb t.item.partition p (λ (e : t.item.partition ≡ p). eqb-false p t.item.partition is (sym e)))
 
--- place by place
-weigh_places : (f : Item → ℕ) (told : List Told) (k : ℕ) (ts ts' : List Partition) (d : Partition) → length ts' ≡ length ts
-    → ((q : ℕ) → q < length ts → weigh f (items_told (told_for (k + q) told)) + weigh f (untold (get_or ts' q d)) ≡ weigh f (untold (get_or ts q d)))
-    → weigh (λ (t : Told). f t.item) (flat_map (λ p. told_for p told) (range_with_len k (length ts))) + weigh f (flat_map untold ts') ≡ weigh f (flat_map untold ts)
-weigh_places f told k [] [] d e h = refl
-weigh_places f told k [] (t' ∷ ts') d e h = absurd (omega (arith, e))
-weigh_places f told k (t ∷ ts) [] d e h = absurd (omega (arith, e))
-weigh_places f told k (t ∷ ts) (t' ∷ ts') d e h =
-    let g : Told → ℕ = λ (x : Told). f x.item in
+-- place by place: what a place loses, by its number
+pub weigh_places : (g : ℕ → ℕ) (f : Item → ℕ) (k : ℕ) (ts ts' : List Partition) (d : Partition) → length ts' ≡ length ts
+    → ((q : ℕ) → q < length ts → g (k + q) + weigh f (untold (get_or ts' q d)) ≡ weigh f (untold (get_or ts q d)))
+    → weigh g (range_with_len k (length ts)) + weigh f (flat_map untold ts') ≡ weigh f (flat_map untold ts)
+weigh_places g f k [] [] d e h = refl
+weigh_places g f k [] (t' ∷ ts') d e h = absurd (omega (arith, e))
+weigh_places g f k (t ∷ ts) [] d e h = absurd (omega (arith, e))
+weigh_places g f k (t ∷ ts) (t' ∷ ts') d e h =
     let zero_on : k + 0 ≡ k = omega arith in
-    let here : weigh f (items_told (told_for k told)) + weigh f (untold t') ≡ weigh f (untold t) = subst (λ (n : ℕ). weigh f (items_told (told_for n told)) + weigh f (untold t') ≡ weigh f (untold t)) zero_on (h 0 (omega arith)) in
-    let moved : weigh f (items_told (told_for k told)) ≡ weigh (λ (x : Told). f x.item) (told_for k told) = weigh_items f (told_for k told) in
-    let rest : weigh (λ (x : Told). f x.item) (flat_map (λ p. told_for p told) (range_with_len (k + 1) (length ts))) + weigh f (flat_map untold ts') ≡ weigh f (flat_map untold ts) =
-    weigh_places f told (k + 1) ts ts' d (omega (arith, e)) (λ q l. let next : k + suc q ≡ k + 1 + q = omega arith in subst (λ (n : ℕ). weigh f (items_told (told_for n told)) + weigh f (untold (get_or ts' q d)) ≡ weigh f (untold (get_or ts q d))) next (h (suc q) (omega (arith, l)))) in
-    let a : weigh (λ (x : Told). f x.item) (told_for k told ++ flat_map (λ p. told_for p told) (range_with_len (k + 1) (length ts))) ≡ weigh (λ (x : Told). f x.item) (told_for k told) + weigh (λ (x : Told). f x.item) (flat_map (λ p. told_for p told) (range_with_len (k + 1) (length ts))) = weigh-append (λ (x : Told). f x.item) (told_for k told) (flat_map (λ p. told_for p told) (range_with_len (k + 1) (length ts))) in
+    let here : g k + weigh f (untold t') ≡ weigh f (untold t) = subst (λ (n : ℕ). g n + weigh f (untold t') ≡ weigh f (untold t)) zero_on (h 0 (omega arith)) in
+    let rest : weigh g (range_with_len (k + 1) (length ts)) + weigh f (flat_map untold ts') ≡ weigh f (flat_map untold ts) =
+    weigh_places g f (k + 1) ts ts' d (omega (arith, e)) (λ q l. let next : k + suc q ≡ k + 1 + q = omega arith in subst (λ (n : ℕ). g n + weigh f (untold (get_or ts' q d)) ≡ weigh f (untold (get_or ts q d))) next (h (suc q) (omega (arith, l)))) in
     let b : weigh f (untold t' ++ flat_map untold ts') ≡ weigh f (untold t') + weigh f (flat_map untold ts') = weigh-append f (untold t') (flat_map untold ts') in
     let c : weigh f (untold t ++ flat_map untold ts) ≡ weigh f (untold t) + weigh f (flat_map untold ts) = weigh-append f (untold t) (flat_map untold ts) in
-    omega (arith, here, moved, rest, a, b, c)
+    omega (arith, here, rest, b, c)
 
 pub core_weighs : (s : Core) (told : List Told) (s' : Core) → CoreTells s told s' → (f : Item → ℕ)
     → weigh f (items_told told) + weigh f (flat_map untold s'.partitions) ≡ weigh f (flat_map untold s.partitions)
 core_weighs s told s' k f =
-    let places : weigh (λ (t : Told). f t.item) (flat_map (λ p. told_for p told) (range_with_len 0 (length s.partitions))) + weigh f (flat_map untold s'.partitions) ≡ weigh f (flat_map untold s.partitions) =
-    weigh_places f told 0 s.partitions s'.partitions (new_partition 0) k.count (λ q l. let same : q ≡ 0 + q = omega arith in subst (λ (n : ℕ). weigh f (items_told (told_for n told)) + weigh f (untold (partition_at q s'.partitions)) ≡ weigh f (untold (partition_at q s.partitions))) same ((k.each q l).weighs f)) in
-    let parts : weigh (λ (t : Told). f t.item) (flat_map (λ p. told_for p told) (range_with_len 0 (length s.partitions))) ≡ weigh (λ (t : Told). f t.item) told = told_parts (λ (t : Told). f t.item) (length s.partitions) told k.there in
+    let places : weigh (λ p. weigh (λ (t : Told). f t.item) (told_for p told)) (range_with_len 0 (length s.partitions)) + weigh f (flat_map untold s'.partitions) ≡ weigh f (flat_map untold s.partitions) =
+    weigh_places (λ p. weigh (λ (t : Told). f t.item) (told_for p told)) f 0 s.partitions s'.partitions (new_partition 0) k.count (λ q l.
+    let same : q ≡ 0 + q = omega arith in
+    subst (λ (n : ℕ). weigh (λ (t : Told). f t.item) (told_for n told) + weigh f (untold (partition_at q s'.partitions)) ≡ weigh f (untold (partition_at q s.partitions))) same
+    (ap (λ (n : ℕ). n + weigh f (untold (partition_at q s'.partitions))) (sym (weigh_items f (told_for q told))) ∙ (k.each q l).weighs f)) in
+    let parts : weigh (λ p. weigh (λ (t : Told). f t.item) (told_for p told)) (range_with_len 0 (length s.partitions)) ≡ weigh (λ (t : Told). f t.item) told = told_parts (λ (t : Told). f t.item) (length s.partitions) told k.there in
     let items : weigh f (items_told told) ≡ weigh (λ (t : Told). f t.item) told = weigh_items f told in
     omega (arith, places, parts, items)
 
