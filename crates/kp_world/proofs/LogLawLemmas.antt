@@ -16,7 +16,6 @@ use Rattle.kp_world.specs.LogLaws.{partition_of, IsPrefix, NoDuplicateIsAwaited,
 use Rattle.kp_world.specs.Message.{sent_of}
 use Rattle.kp_world.specs.Run.{IsReached}
 use Rattle.kp_world.specs.World.{World}
-use Rattle.kp_world.proofs.BrokerLemmas.{Agrees}
 use Rattle.kp_world.proofs.DeliveredLemmas.{open_there}
 use Rattle.kp_world.proofs.HearingLemmas.{old_not_in_flight}
 use Rattle.kp_world.proofs.LawfulLemmas.{PartsIn, IsLawful}
@@ -70,7 +69,7 @@ silent n w g p b x other answer after step =
 
     current : MayAppend (log_at p w.logs) (sent_of b) → b.id ≡ present_id (partition_of p w)
     current may =
-        let both : Agrees 5 n w.ids w.core w.handed w.logs w.packets w.replies p = g.agree p known.0 in
+        let both = g.agree p known.0 in
         let head = lands w.ids (partition_of p w) (handed_at p w.handed) (log_at p w.logs) both.sound both.steady.cut b known.1 may in
         both.steady.cut.current b (record { earlier = []; later = head.0; split = head.1 })
 
