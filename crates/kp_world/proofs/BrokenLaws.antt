@@ -1,9 +1,9 @@
 -- What a world has in which a law does not hold, so that it can be computed.
-use Rattle.std.proofs.Common.{◌≡◌, ℕ, suc, zero, ◌+◌, ◌<◌, ◌≤◌, Bool, true, false, not, cond, List, [], ◌∷◌, ◌++◌, length, map, ℤ, pos, negsuc, Some, None, refl, sym, ap, ◌∙◌, arith, Contains}
+use Rattle.std.proofs.Common.{◌≡◌, ℕ, suc, zero, ◌+◌, ◌<◌, ◌≤◌, Bool, true, false, not, cond, List, [], ◌∷◌, ◌++◌, length, map, ℤ, pos, negsuc, Some, None, refl, sym, ap, ◌∙◌, subst, arith, Contains}
 use Rattle.std.specs.Prelude.{Option, Ok, unwrap_or, filter, flat_map, take, slice_get, ◌||◌}
-use Rattle.std.specs.List.{AllByRecursion, list_any}
+use Rattle.std.specs.List.{AllByRecursion, list_all, list_any}
 use Rattle.std.specs.Ordering.{int_eq}
-use Rattle.std.proofs.lemmas.Bool.{true≢false}
+use Rattle.std.proofs.lemmas.Bool.{true≢false, and_parts}
 use Rattle.std.specs.Str.{bytes_eq}
 use Rattle.std.proofs.lemmas.Slice.Eq.{bytes_eq-Decides}
 use Rattle.std.proofs.lemmas.List.{map-append}
@@ -18,16 +18,25 @@ use Rattle.kp_log.specs.Log.{stored_as}
 use Rattle.kp_log.specs.declared.stored.Stored.{Stored}
 use Rattle.kp_core.specs.declared.outcome.Outcome.{Outcome}
 use Rattle.kp_core.specs.declared.outcome.Outcome.TheVariants.{Delivered, DeliveredNoOffset, Unknown, Rejected, Unsent}
-use Rattle.kp_core.specs.Records.{Batch, Told}
+use Rattle.kp_core.specs.declared.attempt.Attempt.{Attempt}
+use Rattle.kp_core.specs.declared.attempt.Attempt.TheVariants.{InFlight, Waiting}
+use Rattle.kp_core.specs.Attempts.{is_waiting, is_waiting_attempt, is_attempt_in}
+use Rattle.kp_core.specs.OutcomeRule.{Call, Append, Tick, Reply as ToReply, End, MayTell}
+use Rattle.kp_core.specs.Partitions.{partition_at}
+use Rattle.kp_core.specs.Records.{Core, Partition, Batch, Told}
 use Rattle.kp_core.proofs.ListLemmas.{contains_head, contains_tail}
 use Rattle.kp_world.specs.declared.event.Event.{Event}
 use Rattle.kp_world.specs.Accounts.{items_handed, is_among, is_same, told_unsent, IsNeverSent}
 use Rattle.kp_world.specs.Delivering.{log_at}
 use Rattle.kp_world.specs.LogLaws.{partition_of, own_records, as_stored, IsPrefix, WasTold, EachDeliveryHasItsOffset, ToldOffsetsStand, StandsAt}
 use Rattle.kp_world.specs.Message.{sent_of}
-use Rattle.kp_world.specs.OtherRules.{Breaks}
+use Rattle.kp_world.specs.Causes.{MayBeTold, TellsByRule}
+use Rattle.kp_world.specs.OtherRules.{Breaks, TellsAgainstRule}
 use Rattle.kp_world.specs.Run.{Producer, MayBegin}
 use Rattle.kp_world.specs.World.{World, opening}
+use Rattle.kp_log.proofs.PlaceLemmas.{In-from_contains}
+use Rattle.kp_world.specs.declared.event.Event.TheVariants as event
+use Rattle.kp_world.proofs.ListLemmas.{all_at}
 use Rattle.kp_world.proofs.ToldLemmas.{same_itself}
 use Rattle.kp_world.proofs.ChosenRuns.{Choice, are_there, AreHonest, end_of, run_of}
 
@@ -186,6 +195,68 @@ log_is_unlike w e law =
     ap (λ z. map body_of (flat_map (λ b. b.items) z)) law.handed ∙ ap (map body_of) (flat_map-append (λ (b : Batch). b.items) law.stored law.rest) ∙ map-append body_of (flat_map (λ b. b.items) law.stored) (flat_map (λ b. b.items) law.rest) in
     absurd (true≢false (sym e ∙ ap (λ z. is_unlike z (map body_of (items_handed 0 w))) mine ∙ ap (is_unlike (map body_of (flat_map (λ b. b.items) law.stored))) all ∙ like_itself (map body_of (flat_map (λ b. b.items) law.stored)) (map body_of (flat_map (λ b. b.items) law.rest))))
 
+-- an item was told that it was delivered, where no batch was in flight before
+
+abbrev all_wait : Partition → Bool
+all_wait t = list_all is_waiting t.open_batches
+
+abbrev is_delivered : Outcome → Bool
+is_delivered (Delivered offset) = true
+is_delivered o = false
+
+delivered_is : (o : Outcome) → is_delivered o ≡ true → (offset : ℤ) × (o ≡ Delivered offset)
+delivered_is (Delivered offset) e = (offset, refl)
+delivered_is DeliveredNoOffset e = absurd cc
+delivered_is Unknown e = absurd cc
+delivered_is (Rejected code) e = absurd cc
+delivered_is (Unsent why) e = absurd cc
+
+waits : (k : ℕ) (a : Attempt) → is_waiting_attempt a ≡ true → is_attempt_in k a ≡ true → ⊥
+waits k (InFlight c) w f = absurd cc
+waits k (Waiting since) w f = absurd cc
+
+passes : {A : Type 0} (test : A → Bool) (xs : List A) → list_all test xs ≡ true → AllByRecursion (λ x. test x ≡ true) xs
+passes test [] e = tt
+passes test (x ∷ xs) e = let both = and_parts (test x) (list_all test xs) e in (both.0, passes test xs both.1)
+
+wait_at : (ts : List Partition) (p : ℕ) → list_all all_wait ts ≡ true → all_wait (partition_at p ts) ≡ true
+wait_at [] p e = refl
+wait_at (t ∷ ts) zero e = (and_parts (all_wait t) (list_all all_wait ts) e).0
+wait_at (t ∷ ts) (suc p) e = wait_at ts p (and_parts (all_wait t) (list_all all_wait ts) e).1
+
+none_delivered : (s : Core) (t : Told) (offset : ℤ) → list_all all_wait s.partitions ≡ true → t.outcome ≡ Delivered offset → MayBeTold s t → ⊥
+unfolding MayTell
+none_delivered s t offset still is h = at_call h.0 (subst (MayTell s h.0 t.item) is h.1)
+  where
+    at_call : (call : Call) → MayTell s call t.item (Delivered offset) → ⊥
+    at_call (Append i) m = m
+    at_call (Tick now) m = m
+    at_call (ToReply now response) m =
+        let a = m.0.answered in
+        let batches = (partition_at m.0.partition s.partitions).open_batches in
+        waits a.correlation m.0.batch.attempt (all_at (λ o. is_waiting o ≡ true) batches m.0.batch (passes is_waiting batches (wait_at s.partitions m.0.partition still)) (In-from_contains batches m.0.batch a.is_open)) a.in_flight
+    at_call End m = m
+
+last_passes : {A : Type 0} (test : A → Bool) (xs : List A) (x : A) → list_any test xs ≡ false → list_any test (xs ++ x ∷ []) ≡ true → test x ≡ true
+last_passes test [] x none e = at_test (test x) e
+  where
+    at_test : (b : Bool) → b || false ≡ true → b ≡ true
+    at_test true e' = refl
+    at_test false e' = absurd cc
+last_passes test (y ∷ xs) x none e = at_test (test y) none e (λ n e'. last_passes test xs x n e')
+  where
+    at_test : (b : Bool) → b || list_any test xs ≡ false → b || list_any test (xs ++ x ∷ []) ≡ true → (list_any test xs ≡ false → list_any test (xs ++ x ∷ []) ≡ true → test x ≡ true) → test x ≡ true
+    at_test true n e' later = absurd cc
+    at_test false n e' later = later n e'
+
+pub told_against_rule : (w v : World) → list_all all_wait w.core.partitions ≡ true → has_told (λ t. is_delivered t.outcome) w ≡ false → has_told (λ t. is_delivered t.outcome) v ≡ true
+    → TellsByRule w v → ⊥
+told_against_rule w v still none some law =
+    let last = last_passes (λ h. list_any (λ t. is_delivered t.outcome) h.told) w.past law.event none (sym (ap (list_any (λ h. list_any (λ t. is_delivered t.outcome) h.told)) law.noted) ∙ some) in
+    let t = any_contained (λ t. is_delivered t.outcome) law.event.told last in
+    let offset = delivered_is t.0.outcome t.2 in
+    none_delivered w.core t.0 offset.0 still offset.1 (all_at (MayBeTold w.core) law.event.told t.0 law.ruled (In-from_contains law.event.told t.0 t.1))
+
 -- ---- a schedule that breaks a law
 
 pub may_begin : (c : Config) → checked c ≡ Ok tt → MayBegin c 1 1
@@ -200,3 +271,9 @@ breaks producer cs c es Law e t h test none is = record {
   run = run_of producer cs es (opening c 1 1) t h;
   broken = none (end_of producer cs es (opening c 1 1)) is;
 }
+
+pub breaks_outcome_rule : (producer : Producer) (cs : List Choice) (c : Config) (es : List Event) (j : ℕ) → checked c ≡ Ok tt → are_there producer cs es (opening c 1 1) ≡ true
+    → AreHonest producer cs es (opening c 1 1) → (v : World) → producer (event.Reply j) (end_of producer cs es (opening c 1 1)) ≡ Some v
+    → (TellsByRule (end_of producer cs es (opening c 1 1)) v → ⊥) → TellsAgainstRule producer c es (event.Reply j)
+breaks_outcome_rule producer cs c es j e t h v step broken =
+    record { may_begin = may_begin c e; before = end_of producer cs es (opening c 1 1); run = run_of producer cs es (opening c 1 1) t h; after = v; step = step; broken = broken }

@@ -1,6 +1,6 @@
 -- Producers that go by all rules but one, and schedules in which this shows.
-use Rattle.std.specs.Prelude.{ℕ, ◌+◌, ℤ, pos, Bool, not, List, [], ◌∷◌, ◌++◌, map, filter, length, Some, option_map, unwrap_or, slice_get, nat_lt, ◌&&◌}
-use Rattle.std.specs.List.{enumerate_from}
+use Rattle.std.specs.Prelude.{ℕ, ◌+◌, ◌==◌, find, ℤ, pos, Bool, not, List, [], ◌∷◌, ◌++◌, map, filter, length, Some, option_map, unwrap_or, slice_get, nat_lt, ◌&&◌, Option, None, if◌then◌else◌}
+use Rattle.std.specs.List.{enumerate_from, list_any}
 use Rattle.kp_accum.specs.declared.config.Config.{Config}
 use Rattle.kp_accum.specs.Config.{default_config}
 use Rattle.kp_accum.specs.Ready.{is_ready}
@@ -8,16 +8,18 @@ use Rattle.kp_core.specs.declared.outcome.Outcome.TheVariants.{Unsent}
 use Rattle.kp_core.specs.declared.outcome.Reason.TheVariants.{Expired}
 use Rattle.kp_core.specs.Attempts.{awaiting}
 use Rattle.kp_core.specs.Awaited.{Awaited, Nothing, awaited}
+use Rattle.kp_core.specs.HandingOver.{again_in}
 use Rattle.kp_core.specs.MaySend.{HandOverRule, is_confirmed, is_in_span, is_within_limit, sends_by}
-use Rattle.kp_core.specs.Next.{batches_by, demand_with}
-use Rattle.kp_core.specs.Partitions.{items_open}
-use Rattle.kp_core.specs.Records.{Partition, Request, Core}
-use Rattle.kp_core.specs.Requesting.{Requested, requested_unless_ended}
+use Rattle.kp_core.specs.Next.{Sending, Demand, Produce, InitProducerId, batches_by, demand_with}
+use Rattle.kp_core.specs.Partitions.{items_open, changed_at}
+use Rattle.kp_core.specs.Records.{Partition, Request, Core, Open}
+use Rattle.kp_core.specs.Requesting.{Outgoing, Requested, requested_unless_ended, partitions_in}
 use Rattle.kp_core.specs.Telling.{told_all}
 use Rattle.kp_core.specs.Tick.{TickRule, is_open_late, expired_front, ticked_by}
 use Rattle.kp_world.specs.declared.event.Event.{Event}
 use Rattle.kp_world.specs.declared.event.Event.TheVariants as event
 use Rattle.kp_world.specs.declared.event.Treatment.TheVariants.{Judged}
+use Rattle.kp_world.specs.Causes.{TellsByRule}
 use Rattle.kp_world.specs.Client.{sending, replying, ticked_to, client}
 use Rattle.kp_world.specs.LogLaws.{partition_of}
 use Rattle.kp_world.specs.Reaching.{feed}
@@ -94,6 +96,44 @@ to_oldest_if who s r = r
 abbrev pub to_oldest : World → Reply → Reply
 to_oldest w r = to_oldest_if (awaited (pos r.correlation) w.core) w.core r
 
+-- the batch went out in this request
+abbrev pub went_out_in : List Sending → ℕ → Open → Bool
+went_out_in xs p o = list_any (λ x. x.partition == p && (x.batch.number == o.batch.number)) xs
+
+abbrev pub awaiting_again : ℕ → List Sending → ℕ → Partition → Partition
+awaiting_again k xs p t = record t {
+  open_batches = map (λ o. if went_out_in xs p o then again_in k o else o) t.open_batches;
+}
+
+-- the request is in flight again
+abbrev pub with_request_again : ℕ → ℕ → Demand → Core → Core
+with_request_again now k (Produce xs) s = record s {
+  partitions = changed_at (partitions_in xs) (awaiting_again k xs) s.partitions;
+  requests =
+      s.requests
+      ++ (record { correlation = k; sent = now; partitions = partitions_in xs }) ∷ [];
+}
+with_request_again now k (InitProducerId p) s = s
+
+abbrev pub with_packet_again : ℕ → Option Outgoing → Core → Core
+with_packet_again now (Some o) s = with_request_again now o.correlation o.demand s
+with_packet_again now None s = s
+
+abbrev pub as_if_in_flight : Awaited → Reply → World → World
+as_if_in_flight Nothing r w = record w {
+  core = with_packet_again w.moment (find (λ o. o.correlation == r.correlation) w.packets) w.core;
+}
+as_if_in_flight who r w = w
+
+abbrev pub hearing_all : ℕ → Option Reply → World → Option World
+hearing_all j (Some r) w = replying j (Some r) (as_if_in_flight (awaited (pos r.correlation) w.core) r w)
+hearing_all j None w = None
+
+-- A reply to a dropped attempt settles the attempt's batch.
+abbrev pub settling_dropped : Producer
+settling_dropped (event.Reply j) w = hearing_all j (slice_get w.replies j) w
+settling_dropped e w = client e w
+
 -- ---- what the time does
 
 -- It does this at each partition.
@@ -138,6 +178,17 @@ pub record Breaks (producer : Producer) (c : Config) (es : List Event) (Law : Wo
   pub run : RunBy (StepsBy producer) (opening c 1 1) es world
   pub broken : Law world → ⊥
 
+-- So it goes through this schedule, and tells in the event behind it what the outcome rule has no
+-- case for.
+pub record TellsAgainstRule (producer : Producer) (c : Config) (es : List Event) (e : Event)
+    : Type 0 where
+  pub may_begin : MayBegin c 1 1
+  pub before : World
+  pub run : RunBy (StepsBy producer) (opening c 1 1) es before
+  pub after : World
+  pub step : StepsBy producer before e after
+  pub broken : TellsByRule before after → ⊥
+
 -- ---- schedules
 
 -- each batch has one record
@@ -172,6 +223,10 @@ stored_behind_another = event.Other 0 1 ∷ feed 97 ++ stored 0
 -- The first batch is stored; the reply comes again while the second is on its way.
 abbrev pub answered_again : List Event
 answered_again = feed 97 ++ feed 98 ++ stored 0 ++ event.Send ∷ event.Reply 0 ∷ []
+
+-- The record is stored, and its attempt dropped.
+abbrev pub stored_and_dropped : List Event
+stored_and_dropped = feed 97 ++ event.Send ∷ event.Deliver 0 Judged ∷ event.Drop ∷ []
 
 -- The record is stored, but no reply comes until its delivery timeout is over.
 abbrev pub stored_and_late : List Event

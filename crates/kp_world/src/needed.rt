@@ -10,9 +10,10 @@ ghost use Rattle.kp_core.specs.Tick.{passed};
 ghost use Rattle.kp_world.specs.Accounts.{IsNeverSent};
 ghost use Rattle.kp_world.specs.Client.{client};
 ghost use Rattle.kp_world.specs.LogLaws.{EachDeliveryHasItsOffset, IsPrefix, ToldOffsetsStand};
-ghost use Rattle.kp_world.specs.OtherRules.{Breaks, sending_by, with_window, counts_open, one_wider, without_waiting, hearing_as, at_sequences, to_oldest, ticking_by, open_expires, keeping_ids, one_each, two_an_id, six_on_their_way, second_comes_first, stored_behind_another, answered_again, stored_and_late, goes_on_under_an_id};
+ghost use Rattle.kp_world.specs.OtherRules.{Breaks, TellsAgainstRule, settling_dropped, stored_and_dropped, sending_by, with_window, counts_open, one_wider, without_waiting, hearing_as, at_sequences, to_oldest, ticking_by, open_expires, keeping_ids, one_each, two_an_id, six_on_their_way, second_comes_first, stored_behind_another, answered_again, stored_and_late, goes_on_under_an_id};
 ghost use Rattle.kp_world.specs.World.{World};
 ghost use Rattle.kp_world.specs.declared.event.Event.{Event};
+ghost use Rattle.kp_world.specs.declared.event.Event.TheVariants.{Reply};
 
 /// With the rule as it is, these producers are the producer.
 #[tactic(auto, unfolding(crate::specs::Client::client, kp_core::specs::Requesting::requested, kp_core::specs::Next::next_demand, kp_core::specs::Next::next_batches, kp_core::specs::MaySend::sends, kp_core::specs::Tick::ticked))]
@@ -26,14 +27,16 @@ pub fn only_one_rule_is_changed()
 
 /// Each of these producers goes by all rules but one, and through a schedule with an honest broker after which a law does
 /// not hold: one whose window counts the open batches, or is of one batch more; one whose second batch does not wait for
-/// the first; one that takes sequence numbers for offsets; one that a stale reply settles something of; one whose open
-/// batches expire; one that goes on under its old producer id with its sequence begun again.
+/// the first; one that takes sequence numbers for offsets; one in which a stale reply settles the oldest request in flight,
+/// or the batch of its own dropped attempt; one whose open batches expire; one that goes on under its old producer id with
+/// its sequence begun again.
 pub fn each_rule_is_needed()
     ensures window_of_open_batches { Breaks (sending_by (with_window counts_open)) one_each six_on_their_way EachDeliveryHasItsOffset }
     ensures window_of_six { Breaks (sending_by (with_window one_wider)) one_each six_on_their_way EachDeliveryHasItsOffset }
     ensures second_before_first { Breaks (sending_by without_waiting) one_each second_comes_first (IsPrefix 0) }
     ensures sequence_told { Breaks (hearing_as at_sequences) one_each stored_behind_another ToldOffsetsStand }
     ensures stale_settles { Breaks (hearing_as to_oldest) one_each answered_again ToldOffsetsStand }
+    ensures dropped_settles { TellsAgainstRule settling_dropped one_each stored_and_dropped (Reply 0) }
     ensures open_expires { Breaks (ticking_by open_expires) one_each stored_and_late (IsNeverSent 0) }
     ensures old_id_kept { Breaks keeping_ids two_an_id goes_on_under_an_id ToldOffsetsStand }
 {}

@@ -2,12 +2,13 @@ use Rattle.std.proofs.Common.{◌≡◌, List, [], ◌∷◌, refl}
 use Rattle.std.specs.Prelude.{Ok}
 use Rattle.kp_accum.specs.Config.{checked, is_outside}
 use Rattle.kp_log.specs.History.{own}
+use Rattle.kp_world.specs.declared.event.Event.TheVariants.{Reply}
 use Rattle.kp_world.specs.Accounts.{IsNeverSent}
 use Rattle.kp_world.specs.LogLaws.{EachDeliveryHasItsOffset, IsPrefix, ToldOffsetsStand}
-use Rattle.kp_world.specs.OtherRules.{Breaks, sending_by, with_window, counts_open, one_wider, without_waiting, hearing_as, at_sequences, to_oldest, ticking_by, open_expires, keeping_ids, one_each, two_an_id, six_on_their_way, second_comes_first, stored_behind_another, answered_again, stored_and_late, goes_on_under_an_id}
+use Rattle.kp_world.specs.OtherRules.{Breaks, TellsAgainstRule, settling_dropped, stored_and_dropped, sending_by, with_window, counts_open, one_wider, without_waiting, hearing_as, at_sequences, to_oldest, ticking_by, open_expires, keeping_ids, one_each, two_an_id, six_on_their_way, second_comes_first, stored_behind_another, answered_again, stored_and_late, goes_on_under_an_id}
 use Rattle.kp_world.proofs.Evaluation.{evaluated}
 use Rattle.kp_world.proofs.ChosenRuns.{Choice, Append, AppendLate, Repeat, Forgotten, GiveId}
-use Rattle.kp_world.proofs.BrokenLaws.{breaks, offset_is_missing, log_is_unlike, offset_is_anothers, offset_is_early, unsent_is_sent}
+use Rattle.kp_world.proofs.BrokenLaws.{breaks, breaks_outcome_rule, told_against_rule, offset_is_missing, log_is_unlike, offset_is_anothers, offset_is_early, unsent_is_sent}
 use Rattle.kp_world.proofs.needed.each_rule_is_needed.Goals as goal
 
 one_each_passes : checked one_each ≡ Ok tt
@@ -45,6 +46,11 @@ stale_settles : Breaks (hearing_as to_oldest) one_each answered_again ToldOffset
 unfolding evaluated
 stale_settles = breaks (hearing_as to_oldest) (Append ∷ []) one_each answered_again ToldOffsetsStand one_each_passes refl (refl, tt) _ offset_is_early refl
 
+dropped_settles : TellsAgainstRule settling_dropped one_each stored_and_dropped (Reply 0)
+unfolding evaluated
+dropped_settles =
+    breaks_outcome_rule settling_dropped (Append ∷ []) one_each stored_and_dropped 0 one_each_passes refl (refl, tt) _ refl (told_against_rule _ _ refl refl refl)
+
 expires : Breaks (ticking_by open_expires) one_each stored_and_late (IsNeverSent 0)
 unfolding evaluated
 expires = breaks (ticking_by open_expires) (Append ∷ []) one_each stored_and_late (IsNeverSent 0) one_each_passes refl (refl, tt) _ unsent_is_sent refl
@@ -62,6 +68,7 @@ returns c = record {
   second_before_first = second_first;
   sequence_told = sequence_told;
   stale_settles = stale_settles;
+  dropped_settles = dropped_settles;
   open_expires = expires;
   old_id_kept = id_kept;
 }
