@@ -2,6 +2,7 @@
 use Rattle.std.proofs.Common.{◌≡◌, Bool, false, ℕ, zero, suc, ◌+◌, ◌<◌, ◌≤◌, true, List, [], ◌∷◌, ◌++◌, length, get_or, take, replicate, Some, refl, sym, ap, ◌∙◌, subst, arith}
 use Rattle.std.specs.Prelude.{if◌then◌else◌, flat_map, slice_get, slice_index, slice_index_or}
 use Rattle.std.specs.List.{AllByRecursion, range_with_len}
+use Rattle.std.proofs.lemmas.Bool.{false_from_ne_true}
 use Rattle.std.proofs.lemmas.List.{length-replicate, get_or-replicate}
 use Rattle.kp_accum.specs.declared.config.Config.{Config}
 use Rattle.kp_accum.specs.declared.item.Item.{Item}
@@ -30,7 +31,7 @@ use Rattle.kp_world.specs.World.{Reply, World, FIRST_ID, opening}
 use Rattle.kp_core.proofs.CallLemmas.{at_appended}
 use Rattle.kp_world.proofs.EventLemmas.{OfEvent, at_step, at_run}
 use Rattle.kp_world.proofs.AccountLemmas.{items_of, taken_of, Accepts, IsAccounted, accounts_only, accounts_noted, accounts_call}
-use Rattle.kp_world.proofs.ConservationLemmas.{attempt_count}
+use Rattle.kp_world.proofs.ConservationLemmas.{attempts_of, attempt_count}
 use Rattle.kp_world.proofs.FateLemmas.{Fates}
 use Rattle.kp_core.specs.declared.attempt.Attempt.TheVariants.{InFlight}
 use Rattle.kp_core.specs.Attempts.{awaits}
@@ -40,7 +41,7 @@ use Rattle.kp_world.proofs.HearingLemmas.{answered_batch, same_correlation}
 use Rattle.kp_world.proofs.LawfulLemmas.{IsLawful}
 use Rattle.kp_world.proofs.LeavingLemmas.{Rising, awaits_is}
 use Rattle.kp_world.proofs.RunLemmas.{lawful_step, lawful_opening, within_five}
-use Rattle.kp_world.proofs.ListLemmas.{all_at, all_say, in_at}
+use Rattle.kp_world.proofs.ListLemmas.{all_at, all_in, all_say, in_at}
 use Rattle.kp_world.proofs.WeightLemmas.{weigh, weigh_flat, weigh_none}
 use Rattle.kp_world.proofs.HandingLemmas.{accounts_sending}
 use Rattle.kp_world.proofs.TakingLemmas.{NextOf, next_of, accounts_accepted, accounts_turned_away, accounts_queued}
@@ -74,20 +75,17 @@ single : (k : ℕ) (os : List Open) → Rising os → ((o x : Open) → In o os 
 single k [] rises one = omega arith
 single k (o ∷ os) rises one = at_test (awaits k o) refl (single k os rises.1 (λ x y i j. one x y (In-tail x o os i) (In-tail y o os j)))
   where
-    none : awaits k o ≡ true → (xs : List Open) → ((x : Open) → In x xs → In x os) → attempt_count k xs ≡ 0
-    none is [] inside = refl
-    none is (x ∷ xs) inside = at_other (awaits k x) refl (none is xs (λ y i. inside y (In-tail y x xs i)))
+    none : awaits k o ≡ true → attempt_count k os ≡ 0
+    none is = weigh_none (attempts_of k) os (all_in (λ (x : Open). attempts_of k x ≡ 0) os (λ x i. ap (λ (b : Bool). if b then 1 else 0) (false_from_ne_true (awaits k x) (other x i))))
       where
-        at_other : (b : Bool) → awaits k x ≡ b → attempt_count k xs ≡ 0 → (if b then 1 else 0) + attempt_count k xs ≡ 0
-        at_other false other rest = omega (arith, rest)
-        at_other true other rest =
-            let i = inside x (In-head x xs) in
-            let same : o.batch.number ≡ x.batch.number = ap (λ (b : Batch). b.number) (one o x (In-head o os) (In-tail x o os i) (awaits_is k o is) (awaits_is k x other)) in
+        other : (x : Open) → In x os → awaits k x ≡ true → ⊥
+        other x i too =
+            let same : o.batch.number ≡ x.batch.number = ap (λ (b : Batch). b.number) (one o x (In-head o os) (In-tail x o os i) (awaits_is k o is) (awaits_is k x too)) in
             let above : o.batch.number < x.batch.number = all_at (λ (y : Open). o.batch.number < y.batch.number) os x rises.0 i in
-            absurd (omega (arith, same, above))
+            omega (arith, same, above)
 
     at_test : (b : Bool) → awaits k o ≡ b → attempt_count k os ≤ 1 → (if b then 1 else 0) + attempt_count k os ≤ 1
-    at_test true is rest = let zero_left : attempt_count k os ≡ 0 = none is os (λ x i. i) in omega (arith, zero_left)
+    at_test true is rest = let zero_left : attempt_count k os ≡ 0 = none is in omega (arith, zero_left)
     at_test false is rest = omega (arith, rest)
 
 -- a reply that was given answers one batch of a partition

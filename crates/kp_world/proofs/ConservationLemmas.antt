@@ -41,14 +41,14 @@ use Rattle.kp_world.proofs.ListLemmas.{all_back, all_front, all_say, all_weaker}
 abbrev pub items_told : List Told → List Item
 items_told told = map (λ t. t.item) told
 
-abbrev pub told_as : Outcome → Item → Told
+abbrev told_as : Outcome → Item → Told
 told_as outcome i = record { item = i; outcome = outcome }
 
-pub told_all_items : (outcome : Outcome) (items : List Item) → items_told (told_all outcome items) ≡ items
+told_all_items : (outcome : Outcome) (items : List Item) → items_told (told_all outcome items) ≡ items
 told_all_items outcome [] = refl
 told_all_items outcome (i ∷ items) = ap (λ r. i ∷ r) (told_all_items outcome items)
 
-pub told_offsets_items : (g : ℕ → Outcome) (n : ℕ) (items : List Item) → items_told (map (λ (x : ℕ × Item). told_as (g x.0) x.1) (enumerate_from n items)) ≡ items
+told_offsets_items : (g : ℕ → Outcome) (n : ℕ) (items : List Item) → items_told (map (λ (x : ℕ × Item). told_as (g x.0) x.1) (enumerate_from n items)) ≡ items
 told_offsets_items g n [] = refl
 told_offsets_items g n (i ∷ items) = ap (λ r. i ∷ r) (told_offsets_items g (n + 1) items)
 
@@ -82,7 +82,7 @@ attempts_of k o = if awaits k o then 1 else 0
 abbrev pub attempt_count : ℕ → List Open → ℕ
 attempt_count k os = weigh (attempts_of k) os
 
-pub open_map : (f : Open → Open) → ((o : Open) → (f o).batch ≡ o.batch) → (os : List Open) → items_open (map f os) ≡ items_open os
+open_map : (f : Open → Open) → ((o : Open) → (f o).batch ≡ o.batch) → (os : List Open) → items_open (map f os) ≡ items_open os
 open_map f same [] = refl
 open_map f same (o ∷ os) = ap (λ (b : Batch). b.items ++ items_open (map f os)) (same o) ∙ ap (λ r. o.batch.items ++ r) (open_map f same os)
 
@@ -194,7 +194,7 @@ tells_given_up t = tells_emptied reason.Ended t (given_up t).after refl refl
 
 -- ---- expiry
 
-pub late_and_behind : (c : Config) (now : ℕ) (q : List Pending) → items_queued q ≡ items_queued (late_front c now q) ++ items_queued (behind_late c now q)
+late_and_behind : (c : Config) (now : ℕ) (q : List Pending) → items_queued q ≡ items_queued (late_front c now q) ++ items_queued (behind_late c now q)
 unfolding late_front behind_late
 late_and_behind c now [] = refl
 late_and_behind c now (b ∷ q) = at_test (is_late c now b) (late_and_behind c now q)

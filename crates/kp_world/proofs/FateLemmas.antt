@@ -92,7 +92,7 @@ abbrev pub AreNumbered : ℕ → List Item → Type 0
 AreNumbered n [] = Unit {0}
 AreNumbered n (x ∷ xs) = (x.number ≡ n) × AreNumbered (n + 1) xs
 
-pub above_is_out : (k : ℕ) (xs : List Item) → Below k xs → has_number xs k ≡ false
+above_is_out : (k : ℕ) (xs : List Item) → Below k xs → has_number xs k ≡ false
 above_is_out k xs h = any_none (λ j. k == j.number) xs (all_weaker (λ j. j.number < k) (λ j. (k == j.number) ≡ false) (λ j l. ne_eqb k j.number (λ e. omega (arith, e, l))) xs h)
 
 below_is_out : (k : ℕ) (xs : List Item) → Above k xs → has_number xs k ≡ false
@@ -134,7 +134,7 @@ without_middle xs ys zs h =
     ∙ ap (λ r. xs ++ r) (filter-append (is_out ys) ys zs ∙ ap (λ r. r ++ without ys zs) (without_itself ys)
     ∙ out_of_apart ys zs (rising_apart_back ys zs (rising_back xs (ys ++ zs) h)))
 
-pub without_both : (us vs xs : List Item) → without (us ++ vs) xs ≡ without vs (without us xs)
+without_both : (us vs xs : List Item) → without (us ++ vs) xs ≡ without vs (without us xs)
 without_both us vs xs =
     filter_agrees (is_out (us ++ vs)) (λ i. is_out us i && is_out vs i) xs (all_say (λ i. is_out (us ++ vs) i ≡ (is_out us i && is_out vs i)) both xs)
     ∙ filter_twice (is_out us) (is_out vs) xs
@@ -156,7 +156,7 @@ pub numbered_rise : (n : ℕ) (xs : List Item) → AreNumbered n xs → Rising x
 numbered_rise n [] h = tt
 numbered_rise n (x ∷ xs) h = (numbered_above x.number (n + 1) xs (omega (arith, h.0)) h.1, numbered_rise (n + 1) xs h.1)
 
-pub numbered_below : (n m : ℕ) (xs : List Item) → n + length xs ≤ m → AreNumbered n xs → Below m xs
+numbered_below : (n m : ℕ) (xs : List Item) → n + length xs ≤ m → AreNumbered n xs → Below m xs
 numbered_below n m [] l h = tt
 numbered_below n m (x ∷ xs) l h = (omega (arith, l, h.0), numbered_below (n + 1) m xs (omega (arith, l)) h.1)
 
@@ -190,7 +190,7 @@ pub record Fates (taken queued handed unsent : List Item) : Type 0 where
 pub fates_rise : (t q h u : List Item) → Fates t q h u → Rising (h ++ q)
 fates_rise t q h u f = subst Rising f.kept (rising_filter (is_out u) t (numbered_rise 0 t f.numbered))
 
-pub fates_below : (t q h u : List Item) → Fates t q h u → Below (length t) (h ++ q)
+fates_below : (t q h u : List Item) → Fates t q h u → Below (length t) (h ++ q)
 fates_below t q h u f = subst (Below (length t)) f.kept (all_filter (λ i. i.number < length t) (is_out u) t (numbered_below 0 (length t) t (omega arith) f.numbered))
 
 wider : (m n : ℕ) (xs : List Item) → m ≤ n → Below m xs → Below n xs

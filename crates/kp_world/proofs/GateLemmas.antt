@@ -1,4 +1,4 @@
--- Once the gate is shut nothing is accepted.
+-- The cases of sending and of taking; and that once the gate is shut nothing is accepted.
 use Rattle.std.proofs.Common.{◌≡◌, ℕ, true, List, [], ◌∷◌, length, Some, None, refl, sym, ap, ◌∙◌}
 use Rattle.std.specs.Prelude.{Option, Result, Ok, Err}
 use Rattle.kp_accum.specs.declared.item.Item.{Item}
@@ -18,7 +18,7 @@ use Rattle.kp_world.specs.Run.{with_delivery, Steps, Run}
 use Rattle.kp_world.specs.World.{World}
 use Rattle.kp_world.proofs.EventLemmas.{OfEvent, at_step, at_run}
 
--- ---- what holds of each case of these events holds of them
+-- ---- what holds of each case of sending and of taking holds of it
 
 pub at_sent : (P : World → Type 0) (w : World) (core : Core) (answer : Result (Option Outgoing) CoreFault) → ((line : Line) → P (noted core (line ∷ []) [] w))
     → ((o : Outgoing) (line : Line) → P (noted core (line ∷ []) [] (with_packet o w))) → P (sending w core answer)
@@ -69,7 +69,7 @@ follows_event w = record {
   flush = follows_noted _ _ _ w;
 }
 
-pub follows_step : (e : Event) (w v : World) → Steps w e v → Follows w v
+follows_step : (e : Event) (w v : World) → Steps w e v → Follows w v
 unfolding with_delivery noted
 follows_step e w v s = at_step (Follows w) w (record {
   client = follows_event w;
@@ -80,7 +80,7 @@ follows_step e w v s = at_step (Follows w) w (record {
 followed : (u w v : World) → Follows u w → Follows w v → Follows u v
 followed u w v f g = record { shut = λ h. g.shut (f.shut h); accepted = λ h. g.accepted (f.shut h) ∙ f.accepted h }
 
-pub follows_run : (es : List Event) (w v : World) → Run w es v → Follows w v
+follows_run : (es : List Event) (w v : World) → Run w es v → Follows w v
 follows_run es w v r = at_run (Follows w) (λ x f e y s. followed w x y f (follows_step e x y s)) es w v r (same w)
 
 -- ---- closing

@@ -38,7 +38,7 @@ partition_told t = t.item.partition
 abbrev pub told_for : ℕ → List Told → List Told
 told_for p told = filter (λ t. t.item.partition == p) told
 
-abbrev pub AllFor : ℕ → List Told → Type 0
+abbrev AllFor : ℕ → List Told → Type 0
 AllFor p told = AllByRecursion (λ t. t.item.partition ≡ p) told
 
 all_told : (P : Item → Type 0) (told : List Told) → AllByRecursion P (items_told told) → AllByRecursion (λ (t : Told). P t.item) told
@@ -67,7 +67,7 @@ none_each f (t ∷ ts) d k m l h =
     ∙ ap (λ r. r ++ told_for m (flat_map f ts)) (filter_other partition_told k m (f t) (λ e. omega (arith, e, l)) (by_place_first k f t ts d h))
     ∙ none_each f ts d (k + 1) m (omega (arith, l)) (by_place_rest k f t ts d h)
 
-pub told_each : (f : Partition → List Told) (ts : List Partition) (d : Partition) (k p : ℕ) → p < length ts → ByPlace k f ts d
+told_each : (f : Partition → List Told) (ts : List Partition) (d : Partition) (k p : ℕ) → p < length ts → ByPlace k f ts d
     → told_for (k + p) (flat_map f ts) ≡ f (get_or ts p d)
 told_each f [] d k p l h = absurd (omega arith)
 told_each f (t ∷ ts) d k zero l h =
@@ -89,7 +89,7 @@ abbrev pub Distinct : List ℕ → Type 0
 Distinct [] = Unit {0}
 Distinct (q ∷ qs) = (is_in q qs ≡ false) × Distinct qs
 
-pub told_these : (g : ℕ → List Told) → ((q : ℕ) → AllFor q (g q)) → (ps : List ℕ) (p : ℕ) → Distinct ps
+told_these : (g : ℕ → List Told) → ((q : ℕ) → AllFor q (g q)) → (ps : List ℕ) (p : ℕ) → Distinct ps
     → told_for p (flat_map g ps) ≡ (if is_in p ps then g p else [])
 told_these g home [] p h = refl
 told_these g home (q ∷ qs) p h = for_append p (g q) (flat_map g qs) ∙ at_test (told_these g home qs p h.1) (q == p) refl
@@ -124,7 +124,7 @@ core_alike s s' same requests = record {
   there = tt;
 }
 
-pub core_nothing : (s : Core) → CoreTells s [] s
+core_nothing : (s : Core) → CoreTells s [] s
 core_nothing s = core_alike s s refl (λ P h. h)
 
 core_then : (s u v : Core) (told : List Told) → CoreTells s [] u → CoreTells u told v → CoreTells s told v
@@ -137,7 +137,7 @@ core_then s u v told a b = record {
 }
 
 -- past the last partition nothing is there
-pub past_last : (P : Item → Type 0) (ts : List Partition) (n : ℕ) → (n < length ts → AllByRecursion P (untold (partition_at n ts))) → AllByRecursion P (untold (partition_at n ts))
+past_last : (P : Item → Type 0) (ts : List Partition) (n : ℕ) → (n < length ts → AllByRecursion P (untold (partition_at n ts))) → AllByRecursion P (untold (partition_at n ts))
 unfolding untold
 past_last P [] n h = tt
 past_last P (t ∷ ts) zero h = h (omega arith)

@@ -1,7 +1,7 @@
 -- In every world of a run, what was ever told of an item is true of what was handed over and of the
 -- logs.
-use Rattle.std.proofs.Common.{◌≡◌, ℕ, ◌<◌, Bool, true, false, List, [], ◌∷◌, ◌++◌, length, replicate, refl, sym, ap, ◌∙◌, subst, ⊎_elim}
-use Rattle.std.specs.Prelude.{if◌then◌else◌, ◌==◌}
+use Rattle.std.proofs.Common.{get_or, ◌≡◌, ℕ, ◌<◌, Bool, true, false, List, [], ◌∷◌, ◌++◌, length, replicate, refl, sym, ap, ◌∙◌, subst, ⊎_elim}
+use Rattle.std.specs.Prelude.{slice_set, if◌then◌else◌, ◌==◌}
 use Rattle.kp_accum.specs.declared.config.Config.{Config}
 use Rattle.kp_log.specs.declared.stored.Stored.{Stored}
 use Rattle.kp_log.specs.History.{History, empty_history, with_others, NO_ID}
@@ -38,15 +38,19 @@ grown_in b c handed i = at_test (b.number == length handed)
     at_test true = In-append_left c handed (b ∷ []) i
     at_test false = i
 
-sending_in : (x : Sending) (handed : List (List Batch)) (p : ℕ) (b : Batch) → p < length handed → In b (handed_at p handed) → In b (handed_at p (with_sending x handed))
-sending_in x handed p b h i = at_test (p == x.partition) refl
+-- what holds of an element that was set, and of the one that was there, holds of the one that is there
+at_place : {A : Type 0} (P : A → Type 0) (xs : List A) (i j : ℕ) (v d : A) → j < length xs → (j ≡ i → P v) → P (get_or xs j d) → P (get_or (slice_set xs i v) j d)
+at_place P xs i j v d h new old = at_test (j == i) refl
   where
-    at_test : (t : Bool) → (p == x.partition) ≡ t → In b (handed_at p (with_sending x handed))
+    at_test : (b : Bool) → (j == i) ≡ b → P (get_or (slice_set xs i v) j d)
     at_test true is =
-        subst (λ (q : ℕ). q < length handed → In b (handed_at q handed) → In b (handed_at q (with_sending x handed))) (sym (eqb-true p x.partition is))
-        (λ h' i'. subst (In b) (sym (get_or-set_same handed x.partition (grown_by x.batch (handed_at x.partition handed)) [] h')) (grown_in x.batch b (handed_at x.partition handed) i'))
-        h i
-    at_test false is = subst (In b) (sym (get_or-set_other handed x.partition p (grown_by x.batch (handed_at x.partition handed)) [] (eqb-false p x.partition is))) i
+        let e : j ≡ i = eqb-true j i is in
+        subst (λ (n : ℕ). P (get_or (slice_set xs i v) n d)) (sym e) (subst P (sym (get_or-set_same xs i v d (subst (λ (n : ℕ). n < length xs) e h))) (new e))
+    at_test false is = subst P (sym (get_or-set_other xs i j v d (eqb-false j i is))) old
+
+sending_in : (x : Sending) (handed : List (List Batch)) (p : ℕ) (b : Batch) → p < length handed → In b (handed_at p handed) → In b (handed_at p (with_sending x handed))
+sending_in x handed p b h i =
+    at_place (In b) handed x.partition p (grown_by x.batch (handed_at x.partition handed)) [] h (λ e. grown_in x.batch b (handed_at x.partition handed) (subst (λ (q : ℕ). In b (handed_at q handed)) e i)) i
 
 sendings_in : (xs : List Sending) (handed : List (List Batch)) (p : ℕ) (b : Batch) → p < length handed → In b (handed_at p handed) → In b (handed_at p (with_sendings xs handed))
 unfolding with_sendings
@@ -61,14 +65,11 @@ unfolding Delivers
 grown_logs n w o d g i (Produce xs) is honest p = (parts_came n w o xs d.logs honest.0 g i is honest.1).grown p
 grown_logs n w o d g i (InitProducerId q) is honest p = ([], ap (λ (ls : List History). (log_at p ls).records) honest.1 ∙ sym (append-nil (log_at p w.logs).records))
 
-others_grown : (p m : ℕ) (logs : List History) (q : ℕ) → p < length logs → (more : List Stored) × ((log_at q (logs_with_others p m logs)).records ≡ (log_at q logs).records ++ more)
-others_grown p m logs q within = at_test (q == p) refl
-  where
-    at_test : (b : Bool) → (q == p) ≡ b → (more : List Stored) × ((log_at q (logs_with_others p m logs)).records ≡ (log_at q logs).records ++ more)
-    at_test true is =
-        subst (λ (x : ℕ). (more : List Stored) × ((log_at x (logs_with_others p m logs)).records ≡ (log_at x logs).records ++ more)) (sym (eqb-true q p is))
-        (stored_as NO_ID (replicate m other_record), ap (λ (l : History). l.records) (get_or-set_same logs p (with_others m other_record (log_at p logs)) empty_history within))
-    at_test false is = ([], ap (λ (l : History). l.records) (get_or-set_other logs p q (with_others m other_record (log_at p logs)) empty_history (eqb-false q p is)) ∙ sym (append-nil (log_at q logs).records))
+others_grown : (p m : ℕ) (logs : List History) (q : ℕ) → q < length logs → (more : List Stored) × ((log_at q (logs_with_others p m logs)).records ≡ (log_at q logs).records ++ more)
+others_grown p m logs q within =
+    at_place (λ (l : History). (more : List Stored) × (l.records ≡ (log_at q logs).records ++ more)) logs p q (with_others m other_record (log_at p logs)) empty_history within
+    (λ e. (stored_as NO_ID (replicate m other_record), ap (λ (n : ℕ). (log_at n logs).records ++ stored_as NO_ID (replicate m other_record)) (sym e)))
+    ([], sym (append-nil (log_at q logs).records))
 
 -- ---- every step
 
@@ -112,7 +113,7 @@ unfolding with_delivery noted
 grows_step n e w v s g = at_step (Grows n w) w (record {
   client = grows_event n w g;
   arrives = λ k o d went honest. record { handed = λ p b h i. i; logs = λ p h. grown_logs n w o d g (in_at w.packets k o went) o.demand refl honest p };
-  others = λ p m there. record { handed = λ q b h i. i; logs = λ q h. others_grown p m w.logs q there };
+  others = λ p m there. record { handed = λ q b h i. i; logs = λ q h. others_grown p m w.logs q (subst (λ (k : ℕ). q < k) (sym g.logs_count) h) };
 }) e v s
 
 -- ---- what was told is true
