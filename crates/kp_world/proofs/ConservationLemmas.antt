@@ -27,7 +27,6 @@ use Rattle.kp_core.specs.Tick.{late_front, behind_late, expired_front, is_open_l
 use Rattle.kp_world.specs.Accounts.{is_unsent, unsent_among}
 use Rattle.std.proofs.lemmas.List.Concat.{flat_map-append}
 use Rattle.kp_world.proofs.KeepingLemmas.{same_waiting}
-use Rattle.kp_world.proofs.LeavingLemmas.{found, left_in}
 use Rattle.kp_world.proofs.FateLemmas.{filter_all, filter_none}
 use Rattle.kp_core.proofs.OutcomeLemmas.{all_enumerated, all_told}
 use Rattle.kp_log.proofs.PlaceLemmas.{In, In-from_contains}
@@ -35,6 +34,7 @@ use Rattle.std.proofs.lemmas.Bool.{not_from_false}
 use Rattle.kp_world.proofs.WeightLemmas.{weigh, weigh-append, none_counted}
 use Rattle.kp_core.proofs.ListLemmas.{all_append, all_flat_map}
 use Rattle.kp_world.proofs.ListLemmas.{all_back, all_front, all_say, all_weaker}
+use Rattle.kp_world.proofs.ListLemmas.{found_in, left_in}
 
 -- ---- what is told
 
@@ -242,7 +242,7 @@ tells_without : (k : ℕ) (t : Partition) (o : Open) (told : List Told) → atte
 unfolding untold
 tells_without k t o told one at none items = record {
   queue = sym (ap (λ r. r ++ items_queued t.queue) none);
-  told_from = λ P h. subst (AllByRecursion P) (sym items) (open_part P t.open_batches o (found (awaits k) t.open_batches o at).0 (all_front P (items_open t.open_batches) (items_queued t.queue) h));
+  told_from = λ P h. subst (AllByRecursion P) (sym items) (open_part P t.open_batches o (found_in (awaits k) t.open_batches o at).0 (all_front P (items_open t.open_batches) (items_queued t.queue) h));
   left_from = λ P h. all_append P (items_open (without_attempt k t).open_batches) (items_queued t.queue)
       (all_open_filter P (λ x. not (awaits k x)) t.open_batches (all_front P (items_open t.open_batches) (items_queued t.queue) h))
       (all_back P (items_open t.open_batches) (items_queued t.queue) h);

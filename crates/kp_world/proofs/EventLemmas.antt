@@ -1,23 +1,47 @@
 -- What holds of the world after each kind of event holds after any step.
 use Rattle.std.proofs.Common.{◌≡◌, ℕ, ◌<◌, Bool, true, false, List, [], ◌∷◌, length, Some, None, refl, sym, subst}
-use Rattle.std.specs.Prelude.{Option, if◌then◌else◌, ◌&&◌, slice_get}
+use Rattle.std.specs.Prelude.{Result, Ok, Err, Option, if◌then◌else◌, ◌&&◌, slice_get}
 use Rattle.std.proofs.lemmas.Bool.{and_parts, ltb-true}
+use Rattle.kp_accum.specs.declared.fault.AppendFault.{AppendFault}
 use Rattle.kp_accum.specs.declared.item.Item.{Item}
+use Rattle.kp_core.specs.declared.fault.CoreFault.{CoreFault}
+use Rattle.kp_core.specs.declared.fault.CoreFault.TheVariants as fault
+use Rattle.kp_core.specs.Appending.{appended}
+use Rattle.kp_core.specs.Records.{Core}
 use Rattle.kp_core.specs.Flush.{flushed}
 use Rattle.kp_core.specs.Replies.{replied}
 use Rattle.kp_core.specs.Requesting.{Outgoing, requested}
 use Rattle.kp_core.specs.Tick.{disconnected}
 use Rattle.kp_world.specs.declared.event.Event.{Event}
 use Rattle.kp_world.specs.declared.event.Event.TheVariants as event
-use Rattle.kp_world.specs.Accepting.{accepted_by, taken_by, item_for, is_large, with_accepted, accepting, taking}
-use Rattle.kp_world.specs.Client.{sending, reply_line, flush_line, has_sender, has_partition, only_if, replying, ticking, ending, closing, client}
+use Rattle.kp_world.specs.Accepting.{with_taken, taking_of, accepted_by, taken_by, item_for, is_large, with_accepted, accepting, taking}
+use Rattle.kp_world.specs.Client.{with_packet, sent_line, sending, reply_line, flush_line, has_sender, has_partition, only_if, replying, ticking, ending, closing, client}
 use Rattle.kp_world.specs.Delivering.{Delivery, Delivers}
-use Rattle.kp_world.specs.Line.{Closed, Large, Empty}
+use Rattle.kp_world.specs.Line.{Line, Closed, Large, Empty, Full, Idle, Ended}
 use Rattle.kp_world.specs.Loopback.{logs_with_others}
 use Rattle.kp_world.specs.Message.{response_of}
 use Rattle.kp_world.specs.Noting.{noted, only_noted}
 use Rattle.kp_world.specs.Run.{with_delivery, with_others_at, Steps, Run}
 use Rattle.kp_world.specs.World.{Reply, World}
+
+-- ---- sending and taking
+
+pub at_sent : (P : World → Type 0) (w : World) (core : Core) (answer : Result (Option Outgoing) CoreFault) → ((line : Line) → P (noted core (line ∷ []) [] w))
+    → ((o : Outgoing) (line : Line) → P (noted core (line ∷ []) [] (with_packet o w))) → P (sending w core answer)
+at_sent P w core (Ok (Some o)) none out = out o (sent_line (length w.packets) o.demand)
+at_sent P w core (Ok None) none out = none Idle
+at_sent P w core (Err fault.Ended) none out = none Ended
+at_sent P w core (Err fault.OutOfMemory) none out = none Idle
+at_sent P w core (Err fault.CorrelationSpent) none out = none Idle
+at_sent P w core (Err (fault.ReplyFault x)) none out = none Idle
+
+pub at_taken : (P : World → Type 0) (s : ℕ) (i : Item) (w : World) → (let step = appended i w.core in P (noted step.after [] step.told (with_taken s w)))
+    → (let step = appended i w.core in P (noted step.after (Full s ∷ []) step.told w)) → P (taking s (Some i) w)
+at_taken P s i w joined full = at_answer (appended i w.core).answer
+  where
+    at_answer : (x : Result (Unit {0}) AppendFault) → P (taking_of s (appended i w.core).after (appended i w.core).told x w)
+    at_answer (Ok done) = joined
+    at_answer (Err refusal) = full
 
 -- ---- the producer's events
 

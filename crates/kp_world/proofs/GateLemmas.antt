@@ -1,41 +1,15 @@
--- The cases of sending and of taking; and that once the gate is shut nothing is accepted.
-use Rattle.std.proofs.Common.{◌≡◌, ℕ, true, List, [], ◌∷◌, length, Some, None, refl, sym, ap, ◌∙◌}
-use Rattle.std.specs.Prelude.{Option, Result, Ok, Err}
-use Rattle.kp_accum.specs.declared.item.Item.{Item}
-use Rattle.kp_core.specs.declared.fault.CoreFault.{CoreFault}
-use Rattle.kp_core.specs.declared.fault.CoreFault.TheVariants as fault
-use Rattle.kp_accum.specs.declared.fault.AppendFault.{AppendFault}
-use Rattle.kp_core.specs.Appending.{appended}
+-- Once the gate is shut nothing is accepted.
+use Rattle.std.proofs.Common.{◌≡◌, true, List, ◌∷◌, refl, sym, ap, ◌∙◌}
 use Rattle.kp_core.specs.Records.{Core, Told}
-use Rattle.kp_core.specs.Requesting.{Outgoing, requested}
+use Rattle.kp_core.specs.Requesting.{requested}
 use Rattle.kp_world.specs.declared.event.Event.{Event}
 use Rattle.kp_world.specs.declared.event.Event.TheVariants as event
-use Rattle.kp_world.specs.Accepting.{with_taken, taking_of, taking}
-use Rattle.kp_world.specs.Client.{client, with_packet, sent_line, sending, closing}
-use Rattle.kp_world.specs.Line.{Line, Full, Idle, Ended}
+use Rattle.kp_world.specs.Client.{client, closing}
+use Rattle.kp_world.specs.Line.{Line}
 use Rattle.kp_world.specs.Noting.{noted}
 use Rattle.kp_world.specs.Run.{with_delivery, Steps, Run}
 use Rattle.kp_world.specs.World.{World}
-use Rattle.kp_world.proofs.EventLemmas.{OfEvent, at_step, at_run}
-
--- ---- what holds of each case of sending and of taking holds of it
-
-pub at_sent : (P : World → Type 0) (w : World) (core : Core) (answer : Result (Option Outgoing) CoreFault) → ((line : Line) → P (noted core (line ∷ []) [] w))
-    → ((o : Outgoing) (line : Line) → P (noted core (line ∷ []) [] (with_packet o w))) → P (sending w core answer)
-at_sent P w core (Ok (Some o)) none out = out o (sent_line (length w.packets) o.demand)
-at_sent P w core (Ok None) none out = none Idle
-at_sent P w core (Err fault.Ended) none out = none Ended
-at_sent P w core (Err fault.OutOfMemory) none out = none Idle
-at_sent P w core (Err fault.CorrelationSpent) none out = none Idle
-at_sent P w core (Err (fault.ReplyFault x)) none out = none Idle
-
-pub at_taken : (P : World → Type 0) (s : ℕ) (i : Item) (w : World) → (let step = appended i w.core in P (noted step.after [] step.told (with_taken s w)))
-    → (let step = appended i w.core in P (noted step.after (Full s ∷ []) step.told w)) → P (taking s (Some i) w)
-at_taken P s i w joined full = at_answer (appended i w.core).answer
-  where
-    at_answer : (x : Result (Unit {0}) AppendFault) → P (taking_of s (appended i w.core).after (appended i w.core).told x w)
-    at_answer (Ok done) = joined
-    at_answer (Err refusal) = full
+use Rattle.kp_world.proofs.EventLemmas.{at_sent, at_taken, OfEvent, at_step, at_run}
 
 -- ---- what follows a world
 

@@ -14,7 +14,7 @@ use Rattle.kp_core.specs.Attempts.{is_waiting}
 use Rattle.kp_core.specs.HandingOver.{again_in, opened_in, handed_over_in, sent_again_in, sent_in}
 use Rattle.kp_core.specs.MaySend.{sends}
 use Rattle.kp_core.specs.Next.{Sending, Demand, Produce, InitProducerId, flags_of, next_demand}
-use Rattle.kp_core.specs.Partitions.{new_partition, partition_at, is_in, items_open, items_queued, untold}
+use Rattle.kp_core.specs.Partitions.{new_partition, partition_at, items_open, items_queued, untold}
 use Rattle.kp_core.specs.Records.{Batch, Open, Partition, Request, Core, Told}
 use Rattle.kp_core.specs.Requesting.{Requested, partitions_in, request_of, requested, sent_out}
 use Rattle.kp_world.specs.Accepting.{for_partition}
@@ -28,10 +28,10 @@ use Rattle.kp_world.proofs.TakingLemmas.{weigh_same}
 use Rattle.kp_world.proofs.WeightLemmas.{weigh}
 use Rattle.kp_world.proofs.DistinctLemmas.{demand_is_distinct}
 use Rattle.kp_world.proofs.FateLemmas.{Fates, fates_handed_over}
-use Rattle.kp_world.proofs.RequestLemmas.{length-with_sendings, at-with_sendings}
-use Rattle.kp_world.proofs.KeepingLemmas.{length-changed_at, at-changed_at}
-use Rattle.kp_world.proofs.RequestLemmas.{in_request, only_this, none_here, grown_known, grown_new}
-use Rattle.kp_world.proofs.SendingLemmas.{find_open, IsSent, demand_is_sent}
+use Rattle.kp_world.proofs.RequestLemmas.{length-with_sendings, at_sent_out}
+use Rattle.kp_world.proofs.KeepingLemmas.{length-changed_at}
+use Rattle.kp_world.proofs.RequestLemmas.{grown_known, grown_new}
+use Rattle.kp_world.proofs.SendingLemmas.{find_open, demand_is_sent}
 use Rattle.kp_world.proofs.SoundLemmas.{Sound}
 use Rattle.kp_world.proofs.TellingLemmas.{Distinct, home_past}
 use Rattle.kp_core.proofs.ListLemmas.{all_append}
@@ -39,7 +39,6 @@ use Rattle.kp_core.proofs.CallLemmas.{at_requested}
 use Rattle.kp_log.specs.History.{History}
 use Rattle.kp_world.specs.Delivering.{log_at}
 use Rattle.kp_world.proofs.LawfulLemmas.{IsLawful, GoesAgain, GoesFirst, sends_cases}
-use Rattle.kp_world.proofs.ListLemmas.{all_weaker}
 
 -- ---- one partition
 
@@ -96,33 +95,6 @@ goes_out c f now k ids t handed h b sound e = ⊎_elim (goes_again k ids t hande
 
 -- ---- all partitions
 
-request_goes : (now : ℕ) (s : Core) (handed : List (List Batch)) (xs : List Sending) → length handed ≡ length s.partitions → AllByRecursion (IsSent now s) xs
-    → (ids : List ℕ) (logs : List History) (p : ℕ) → p < length s.partitions → Sound ids (partition_at p s.partitions) (handed_at p handed) (log_at p logs)
-    → Goes (partition_at p s.partitions) (handed_at p handed) (partition_at p (sent_out now s (Produce xs)).partitions) (handed_at p (with_sendings xs handed))
-request_goes now s handed xs count all ids logs p l sound =
-    subst (λ (u : Partition). Goes (partition_at p s.partitions) (handed_at p handed) u (handed_at p (with_sendings xs handed))) (sym (at-changed_at (partitions_in xs) (λ q u. sent_in s.correlation u) s.partitions p l))
-    (at_test (is_in p (partitions_in xs)) refl)
-  where
-    inside : AllByRecursion (λ (x : Sending). x.partition < length handed) xs
-    inside = all_weaker (IsSent now s) (λ (x : Sending). x.partition < length handed) (λ x k. subst (λ (n : ℕ). x.partition < n) (sym count) k.there) xs all
-
-    by_batch : (x : Sending) → IsSent now s x → x.partition ≡ p → is_in p (partitions_in xs) ≡ true
-        → Goes (partition_at p s.partitions) (handed_at p handed) (sent_in s.correlation (partition_at p s.partitions)) (handed_at p (with_sendings xs handed))
-    by_batch x k e is =
-        let only : AllByRecursion (λ (y : Sending). y.partition ≡ p → y.batch ≡ x.batch) xs = subst (λ (n : ℕ). AllByRecursion (λ (y : Sending). y.partition ≡ n → y.batch ≡ x.batch) xs) e (only_this now s xs x all k) in
-        let grown : handed_at p (with_sendings xs handed) ≡ grown_by x.batch (handed_at p handed) = at-with_sendings xs handed p x.batch only inside ∙ ap (λ (b : Bool). if b then grown_by x.batch (handed_at p handed) else handed_at p handed) is in
-        let sent : sends s.config (flags_of s) now (partition_at p s.partitions) ≡ Some x.batch = subst (λ (n : ℕ). sends s.config (flags_of s) now (partition_at n s.partitions) ≡ Some x.batch) e k.sends in
-        subst (Goes (partition_at p s.partitions) (handed_at p handed) (sent_in s.correlation (partition_at p s.partitions))) (sym grown)
-        (goes_out s.config (flags_of s) now s.correlation ids (partition_at p s.partitions) (handed_at p handed) (log_at p logs) x.batch sound sent)
-
-    at_test : (b : Bool) → is_in p (partitions_in xs) ≡ b
-        → Goes (partition_at p s.partitions) (handed_at p handed) (if b then sent_in s.correlation (partition_at p s.partitions) else partition_at p s.partitions) (handed_at p (with_sendings xs handed))
-    at_test true is = let x = in_request now s xs p all is in by_batch x.0 x.1 x.2 is
-    at_test false is =
-        let b : Batch = record { number = 0; id = 0; sequence = 0; items = [] } in
-        let same : handed_at p (with_sendings xs handed) ≡ handed_at p handed = at-with_sendings xs handed p b (none_here now s p b xs is) inside ∙ ap (λ (c : Bool). if c then grown_by b (handed_at p handed) else handed_at p handed) is in
-        subst (Goes (partition_at p s.partitions) (handed_at p handed) (partition_at p s.partitions)) (sym same) (goes_nowhere (partition_at p s.partitions) (handed_at p handed))
-
 accounts_sent : (now : ℕ) (s : Core) (accepted : List (List Item)) (taken : List ℕ) (handed : List (List Batch)) (told : List Told) (xs : List Sending)
     → Accounts s accepted taken handed told → (ids : List ℕ) (logs : List History) → ((p : ℕ) → p < length s.partitions → Sound ids (partition_at p s.partitions) (handed_at p handed) (log_at p logs)) → next_demand now s ≡ Some (Produce xs)
     → Accounts (sent_out now s (Produce xs)) accepted taken (with_sendings xs handed) told
@@ -152,7 +124,10 @@ accounts_sent now s accepted taken handed told xs a ids logs sound e = record {
 
     goes : (p : ℕ) → p < length s.partitions
         → Goes (partition_at p s.partitions) (handed_at p handed) (partition_at p (sent_out now s (Produce xs)).partitions) (handed_at p (with_sendings xs handed))
-    goes p l = request_goes now s handed xs a.handed_count (demand_is_sent now s xs e) ids logs p l (sound p l)
+    goes p l = at_sent_out (Goes (partition_at p s.partitions) (handed_at p handed)) now s xs handed p (demand_is_sent now s xs e) (sym a.handed_count) l (record {
+      passed_by = λ is. goes_nowhere (partition_at p s.partitions) (handed_at p handed);
+      sent = λ b sends only. goes_out s.config (flags_of s) now s.correlation ids (partition_at p s.partitions) (handed_at p handed) (log_at p logs) b (sound p l) sends;
+    })
 
 -- ---- the event
 

@@ -35,10 +35,11 @@ use Rattle.kp_world.proofs.BrokerLemmas.{PartAgrees}
 use Rattle.kp_world.proofs.FlightLemmas.{PartHolds, ContentHolds, Steady, flies_same, steady_fresh}
 use Rattle.kp_world.proofs.KeepingLemmas.{length-changed_at, at-changed_at}
 use Rattle.kp_world.proofs.LawfulLemmas.{Lawful, StoredAt, lawful_core}
-use Rattle.kp_world.proofs.LeavingLemmas.{Leaves, leaves_same, leaves_answered, SettlesOnly, at_some, left_in, found, left_alike}
+use Rattle.kp_world.proofs.LeavingLemmas.{Leaves, leaves_same, leaves_answered, SettlesOnly, at_some, left_alike}
 use Rattle.kp_world.proofs.PrefixLemmas.{follows}
 use Rattle.kp_world.proofs.SoundLemmas.{Sound, sound_fresh}
 use Rattle.kp_world.proofs.ListLemmas.{all_at}
+use Rattle.kp_world.proofs.ListLemmas.{found_in, left_in}
 
 -- ---- which request a reply names
 
@@ -60,7 +61,7 @@ names_its k s = at_request (find (λ (r : Request). int_eq (pos r.correlation) k
     at_option (Some q) at = at_test q (int_eq (pos q.correlation) k) refl at
 
     at_request : (o : Option Request) → find (λ (r : Request). int_eq (pos r.correlation) k) s.requests ≡ o → Names k s (or_id k s o)
-    at_request (Some r) is = (Decides-int_eq (pos r.correlation) k).0 (found (λ (x : Request). int_eq (pos x.correlation) k) s.requests r is).1
+    at_request (Some r) is = (Decides-int_eq (pos r.correlation) k).0 (found_in (λ (x : Request). int_eq (pos x.correlation) k) s.requests r is).1
     at_request None is = at_option s.id_request refl
 
 -- ---- what a code means

@@ -2,7 +2,7 @@
 -- stay open unless the partition is fenced, in their order, and none is in flight that was not. Only handing over, and a
 -- fresh id, do more.
 use Rattle.std.proofs.Common.{◌≡◌, ◌⊎◌, ℕ, ◌<◌, Bool, true, false, not, cond, List, [], ◌∷◌, length, map, Some, None, refl, sym, ap, ◌∙◌, subst, inl, inr, ⊎_elim}
-use Rattle.std.specs.Prelude.{Option, find, if◌then◌else◌, ◌==◌, ◌||◌}
+use Rattle.std.specs.Prelude.{Option, if◌then◌else◌, ◌==◌, ◌||◌}
 use Rattle.std.specs.List.{AllByRecursion, filter, list_any}
 use Rattle.std.proofs.lemmas.Bool.{eqb-true, and_parts}
 use Rattle.std.proofs.lemmas.List.{get_or-map, length-map}
@@ -27,6 +27,7 @@ use Rattle.kp_core.specs.Tick.{Ticks, expired_front, is_open_late, passed, ticke
 use Rattle.kp_core.proofs.CallLemmas.{at_appended, at_ticked}
 use Rattle.kp_world.proofs.KeepingLemmas.{Keeps, keeps_same, keeps_more, keeps_dropped, keeps_marked, keeps_queued, keeps_fenced, keeps_given_up, keeps_expired, keeps_without, keeps_settled, length-changed_at, at-changed_at}
 use Rattle.kp_world.proofs.ListLemmas.{all_filter, all_map}
+use Rattle.kp_world.proofs.ListLemmas.{found_in, left_in}
 
 -- ---- open batches
 
@@ -134,15 +135,6 @@ leaves_mapped P e f a t t' opens fence acked keeps = record {
   keeps = keeps;
 }
 
--- what a filter leaves
-pub left_in : {A : Type 0} (p : A → Bool) (xs : List A) (x : A) → In x (filter p xs) → In x xs × (p x ≡ true)
-left_in p [] x i = absurd (In-nil x i)
-left_in {A = A} p (y ∷ xs) x i = at_test (p y) refl i (left_in p xs x)
-  where
-    at_test : (b : Bool) → p y ≡ b → In x (cond b (y ∷ filter p xs) (filter p xs)) → (In x (filter p xs) → In x xs × (p x ≡ true)) → In x (y ∷ xs) × (p x ≡ true)
-    at_test true is j later = ⊎_elim (λ (same : x ≡ y). (subst (λ (z : A). In z (y ∷ xs)) (sym same) (In-head y xs), ap p same ∙ is)) (λ (k : In x (filter p xs)). let l = later k in (In-tail x y xs l.0, l.1)) (In-cons x y (filter p xs) j)
-    at_test false is j later = let l = later j in (In-tail x y xs l.0, l.1)
-
 rising_left : (p : Open → Bool) (os : List Open) → Rising os → Rising (filter p os)
 rising_left p [] h = tt
 rising_left p (x ∷ os) h = at_test (p x) (rising_left p os h.1)
@@ -159,14 +151,6 @@ awaits_is k o e = at_attempt o.attempt e
     at_attempt : (a : Attempt) → is_attempt_in k a ≡ true → a ≡ InFlight k
     at_attempt (InFlight c) e' = ap InFlight (eqb-true c k e')
     at_attempt (Waiting since) e' = absurd cc
-
-pub found : {A : Type 0} (p : A → Bool) (xs : List A) (x : A) → find p xs ≡ Some x → In x xs × (p x ≡ true)
-found p [] x e = absurd cc
-found {A = A} p (y ∷ xs) x e = at_test (p y) refl e (found p xs x)
-  where
-    at_test : (b : Bool) → p y ≡ b → cond b (Some y) (find p xs) ≡ Some x → (find p xs ≡ Some x → In x xs × (p x ≡ true)) → In x (y ∷ xs) × (p x ≡ true)
-    at_test true is e' later = let same : y ≡ x = cc in (subst (λ (z : A). In z (y ∷ xs)) same (In-head y xs), ap p (sym same) ∙ is)
-    at_test false is e' later = let l = later e' in (In-tail x y xs l.0, l.1)
 
 -- ---- the rules for a partition
 
@@ -299,7 +283,7 @@ leaves_answered P e now k t a only kept = at_option (awaiting k t) refl
 
     at_option : (o : Option Open) → awaiting k t ≡ o → Leaves P e t (answered_if now k t a o).after
     at_option None is = leaves_same P e t
-    at_option (Some o) is = let f = found (awaits k) t.open_batches o is in at_verdict o f.0 (awaits_is k o f.1) (verdict_of a.error_code) refl
+    at_option (Some o) is = let f = found_in (awaits k) t.open_batches o is in at_verdict o f.0 (awaits_is k o f.1) (verdict_of a.error_code) refl
 
 -- ---- the core
 

@@ -1,9 +1,10 @@
 -- Lists: what holds of all elements, and which elements there are.
 use Rattle.std.proofs.Common.{◌≡◌, ◌⊎◌, ℕ, suc, zero, Bool, true, false, cond, List, [], ◌∷◌, ◌++◌, map, Some, sym, ap, ◌∙◌, subst, inl, inr, ⊎_elim}
-use Rattle.std.specs.Prelude.{filter, take, drop, slice_get}
+use Rattle.std.specs.Prelude.{find, filter, take, drop, slice_get}
 use Rattle.std.specs.List.{AllByRecursion}
 use Rattle.std.proofs.lemmas.List.{map-append}
-use Rattle.kp_log.proofs.PlaceLemmas.{In, In-nil, In-cons, In-head, In-tail, In-append_cases}
+use Rattle.kp_core.proofs.ListLemmas.{found, filtered}
+use Rattle.kp_log.proofs.PlaceLemmas.{In-from_contains, contains_from_In, In, In-nil, In-cons, In-head, In-tail, In-append_cases}
 
 pub all_front : {A : Type 0} (P : A → Type 0) (xs ys : List A) → AllByRecursion P (xs ++ ys) → AllByRecursion P xs
 all_front P [] ys h = tt
@@ -66,3 +67,10 @@ pub in_at : {A : Type 0} (xs : List A) (j : ℕ) (x : A) → slice_get xs j ≡ 
 in_at [] j x e = absurd cc
 in_at (y ∷ xs) zero x e = let same : y ≡ x = cc in subst (λ z. In z (y ∷ xs)) same (In-head y xs)
 in_at (y ∷ xs) (suc j) x e = In-tail x y xs (in_at xs j x e)
+
+pub found_in : {A : Type 0} (test : A → Bool) (xs : List A) (x : A) → find test xs ≡ Some x → In x xs × (test x ≡ true)
+found_in test xs x e = let f = found test xs x e in (In-from_contains xs x f.0, f.1)
+
+pub left_in : {A : Type 0} (test : A → Bool) (xs : List A) (x : A) → In x (filter test xs) → In x xs × (test x ≡ true)
+left_in test xs x i =
+    let f = filtered test xs x (contains_from_In (filter test xs) x i) in (In-from_contains xs x f.0, f.1)

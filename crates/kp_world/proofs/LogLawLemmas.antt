@@ -19,10 +19,11 @@ use Rattle.kp_world.specs.World.{World}
 use Rattle.kp_world.proofs.DeliveredLemmas.{open_there}
 use Rattle.kp_world.proofs.HearingLemmas.{old_not_in_flight}
 use Rattle.kp_world.proofs.LawfulLemmas.{PartsIn, IsLawful}
-use Rattle.kp_world.proofs.LeavingLemmas.{awaits_is, found}
+use Rattle.kp_world.proofs.LeavingLemmas.{awaits_is}
 use Rattle.kp_world.proofs.PrefixLemmas.{lands}
 use Rattle.kp_world.proofs.RunLemmas.{lawful_reached}
 use Rattle.kp_world.proofs.ListLemmas.{all_at}
+use Rattle.kp_world.proofs.ListLemmas.{found_in}
 
 -- ---- the log is a prefix
 
@@ -45,7 +46,7 @@ none_awaited n w g k a x code = at_option (awaiting k (partition_of a.partition 
     at_option : (o : Option Open) → awaiting k (partition_of a.partition w) ≡ o → o ≡ None
     at_option None is = refl
     at_option (Some o) is =
-        let f = found (awaits k) (partition_of a.partition w).open_batches o is in
+        let f = found_in (awaits k) (partition_of a.partition w).open_batches o is in
         let h : a.partition < n = subst (λ (m : ℕ). a.partition < m) g.count (open_there w.core.partitions a.partition o f.0) in
         absurd (old_not_in_flight a.partition w.core.correlation k w.core.ended (partition_of a.partition w) (handed_at a.partition w.handed) (log_at a.partition w.logs) w.packets w.replies x.reply x.parts a (g.agree a.partition h).steady reply_in x.content (sym x.correlation) part_in refl code o f.0 (awaits_is k o f.1))
 

@@ -4,25 +4,21 @@ use Rattle.std.proofs.Common.{◌≡◌, ℕ, ◌+◌, ◌<◌, List, [], ◌∷
 use Rattle.std.specs.Prelude.{Option, Result, Ok, Err, slice_get}
 use Rattle.std.specs.List.{AllByRecursion}
 use Rattle.kp_accum.specs.declared.config.Config.{Config}
-use Rattle.kp_accum.specs.declared.fault.AppendFault.{AppendFault}
-use Rattle.kp_accum.specs.declared.item.Item.{Item}
 use Rattle.kp_log.specs.BrokerStep.{BrokerStep}
 use Rattle.kp_log.specs.History.{History}
 use Rattle.kp_log.proofs.LoopbackLemmas.{loopback_step, late_step}
 use Rattle.kp_log.proofs.PlaceLemmas.{In, In-head, In-tail, contains_from_In, In-append_left}
-use Rattle.kp_core.specs.Appending.{appended}
 use Rattle.kp_core.specs.Next.{Sending, Demand, Produce, InitProducerId}
 use Rattle.kp_core.specs.Partitions.{partition_at}
 use Rattle.kp_core.specs.Records.{Batch, Partition, Core}
-use Rattle.kp_core.specs.Requesting.{Outgoing, Requested}
-use Rattle.kp_core.proofs.CallLemmas.{at_requested}
+use Rattle.kp_core.specs.Requesting.{Outgoing}
 use Rattle.kp_core.proofs.ListLemmas.{all_append}
 use Rattle.kp_world.specs.declared.event.Event.{Event}
 use Rattle.kp_world.specs.declared.event.Event.TheVariants as event
 use Rattle.kp_world.specs.declared.event.Treatment.{Treatment}
 use Rattle.kp_world.specs.declared.event.Treatment.TheVariants.{Judged, Refused, Late}
-use Rattle.kp_world.specs.Accepting.{taking_of}
-use Rattle.kp_world.specs.Client.{handed_at, sending, has_partition, client}
+use Rattle.kp_core.specs.Requesting.{requested}
+use Rattle.kp_world.specs.Client.{handed_at, has_partition, client}
 use Rattle.kp_world.specs.Delivering.{log_at, PartDelivers, PartsDeliver, IsFresh, Delivers}
 use Rattle.kp_world.specs.Loopback.{treated, with_part, answer_to, logs_with, answers_to, next_id, with_id, delivered}
 use Rattle.kp_world.specs.Message.{sent_of}
@@ -31,7 +27,7 @@ use Rattle.kp_world.specs.Replay.{MayTreat, MayHappen, arrived, stepped, replaye
 use Rattle.kp_world.specs.Run.{with_delivery, with_others_at, Arrives, Steps, Run}
 use Rattle.kp_world.specs.World.{Reply, World, opening}
 use Rattle.kp_world.proofs.BrokerLemmas.{AllAgree, Known, PartsDelivered, parts_delivered}
-use Rattle.kp_world.proofs.EventLemmas.{OfEvent, at_client, at_only_if}
+use Rattle.kp_world.proofs.EventLemmas.{at_sent, at_taken, OfEvent, at_client, at_only_if}
 use Rattle.kp_world.proofs.FlightLemmas.{Carried}
 use Rattle.kp_world.proofs.LawfulLemmas.{IsLawfulWithin}
 use Rattle.kp_world.proofs.RunLemmas.{parts_known, lawful_step, lawful_opening_within}
@@ -113,20 +109,16 @@ drawn_client w drawn = record {
   not_accepted = λ s p. (drawn, drawn);
   accepted = λ s p value there at going fits. drawn;
   none_taken = λ s. drawn;
-  taken = λ s i there is. taken s i (appended i w.core).answer;
+  taken = λ s i there is. at_taken (λ v. AreDrawn v.ids) s i w drawn drawn;
   now = λ moment. drawn;
   tick = drawn;
-  send = at_requested (λ (r : Requested). AreDrawn (sending w r.after r.answer).ids) w.moment w.core (record { ended = drawn; idle = drawn; spent = drawn; out = λ d is. drawn });
+  send = let step = requested w.moment w.core in at_sent (λ v. AreDrawn v.ids) w step.after step.answer (λ line. drawn) (λ o line. drawn);
   reply = λ j r is. drawn;
   lost = drawn;
   close = drawn;
   end = drawn;
   flush = drawn;
 }
-  where
-    taken : (s : ℕ) (i : Item) (a : Result (Unit {0}) AppendFault) → AreDrawn (taking_of s (appended i w.core).after (appended i w.core).told a w).ids
-    taken s i (Ok x) = drawn
-    taken s i (Err x) = drawn
 
 arrives : {most : ℕ} (n k : ℕ) (how : Treatment) (w v : World) → MayTreat how → IsLawfulWithin most n w → AreDrawn w.ids → arrived k how (slice_get w.packets k) w ≡ Some v → Arrives w k v × AreDrawn v.ids
 unfolding with_delivery noted

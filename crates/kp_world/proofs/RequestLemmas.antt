@@ -1,19 +1,17 @@
 -- What a request has for each partition, and what is handed over for it when the request goes out.
 use Rattle.std.proofs.Common.{◌≡◌, ℕ, ◌<◌, Bool, true, false, List, [], ◌∷◌, ◌++◌, length, Some, refl, sym, ap, ◌∙◌, subst, ⊎_elim, arith, length-append}
-use Rattle.std.specs.Prelude.{Err, if◌then◌else◌, ◌==◌, ◌||◌}
+use Rattle.std.specs.Prelude.{if◌then◌else◌, ◌==◌, ◌||◌}
 use Rattle.std.specs.List.{AllByRecursion}
 use Rattle.std.proofs.lemmas.Bool.{eqb-true, eq-eqb, eqb-false}
 use Rattle.std.proofs.lemmas.List.{length-set, get_or-set_same, get_or-set_other}
 use Rattle.kp_log.proofs.PlaceLemmas.{In, In-nil, In-cons, In-head, In-tail}
 use Rattle.kp_core.specs.HandingOver.{sent_in}
 use Rattle.kp_core.specs.MaySend.{sends}
-use Rattle.kp_core.specs.Next.{Sending, Demand, Produce, flags_of, next_demand}
+use Rattle.kp_core.specs.Next.{Sending, Produce, flags_of}
 use Rattle.kp_core.specs.Partitions.{partition_at, is_in}
 use Rattle.kp_core.specs.Records.{Batch, Partition, Core}
-use Rattle.kp_core.specs.Requesting.{Requested, nothing_out, goes_out, requested_for, partitions_in, sent_out}
-use Rattle.kp_core.specs.declared.fault.CoreFault.TheVariants as fault
+use Rattle.kp_core.specs.Requesting.{partitions_in, sent_out}
 use Rattle.kp_world.specs.Client.{grown_by, handed_at, with_sending, with_sendings}
-use Rattle.kp_world.specs.World.{World}
 use Rattle.kp_world.proofs.KeepingLemmas.{at-changed_at}
 use Rattle.kp_world.proofs.SendingLemmas.{IsSent}
 use Rattle.kp_world.proofs.ListLemmas.{all_at, all_in, all_weaker}
@@ -41,7 +39,7 @@ in_part (y ∷ xs) p e = at_test (y.partition == p) refl e (in_part xs p)
     at_test false is e' later = let l = later e' in (l.0, In-tail l.0 y xs l.1, l.2)
 
 -- a partition that is in the request has a batch there
-pub in_request : (now : ℕ) (s : Core) (xs : List Sending) (p : ℕ) → AllByRecursion (IsSent now s) xs → is_in p (partitions_in xs) ≡ true → (x : Sending) × IsSent now s x × (x.partition ≡ p)
+in_request : (now : ℕ) (s : Core) (xs : List Sending) (p : ℕ) → AllByRecursion (IsSent now s) xs → is_in p (partitions_in xs) ≡ true → (x : Sending) × IsSent now s x × (x.partition ≡ p)
 in_request now s xs p all e =
     let x = in_part xs p e in (x.0, all_at (IsSent now s) xs x.0 all x.1, x.2)
 
@@ -56,7 +54,7 @@ not_in_request xs p is x i same =
 abbrev pub Only : ℕ → Batch → List Sending → Type 0
 Only p b xs = AllByRecursion (λ (x : Sending). x.partition ≡ p → x.batch ≡ b) xs
 
-pub only_this : (now : ℕ) (s : Core) (xs : List Sending) (x : Sending) → AllByRecursion (IsSent now s) xs → IsSent now s x → Only x.partition x.batch xs
+only_this : (now : ℕ) (s : Core) (xs : List Sending) (x : Sending) → AllByRecursion (IsSent now s) xs → IsSent now s x → Only x.partition x.batch xs
 only_this now s xs x all is = all_weaker (IsSent now s) (λ (y : Sending). y.partition ≡ x.partition → y.batch ≡ x.batch) one xs all
   where
     one : (y : Sending) → IsSent now s y → y.partition ≡ x.partition → y.batch ≡ x.batch
@@ -65,7 +63,7 @@ only_this now s xs x all is = all_weaker (IsSent now s) (λ (y : Sending). y.par
         let both : Some y.batch ≡ Some x.batch = sym mine ∙ is.sends in
         cc
 
-pub none_here : (now : ℕ) (s : Core) (p : ℕ) (b : Batch) (xs : List Sending) → is_in p (partitions_in xs) ≡ false → Only p b xs
+none_here : (now : ℕ) (s : Core) (p : ℕ) (b : Batch) (xs : List Sending) → is_in p (partitions_in xs) ≡ false → Only p b xs
 none_here now s p b xs is = all_in (λ (x : Sending). x.partition ≡ p → x.batch ≡ b) xs (λ x i same. absurd (not_in_request xs p is x i same))
 
 -- ---- a partition's batches, with one that has gone out
@@ -177,13 +175,3 @@ at_sent_out Q now s xs handed p all size within c = at_test (is_in p (partitions
     at_test false is =
         let none : Batch = record { number = 0; id = 0; sequence = 0; items = [] } in
         both false none is (none_here now s p none xs is) (c.passed_by is)
-
--- ---- the cases of a request
-
-abbrev pub spent_step : World → Demand → Bool → Requested
-spent_step w d b =
-    if b then nothing_out w.core (Err fault.CorrelationSpent) else goes_out w.moment w.core d
-
-abbrev pub end_step : World → Bool → Requested
-end_step w b = if b then nothing_out w.core (Err fault.Ended) else requested_for w.moment w.core
-    (next_demand w.moment w.core)

@@ -19,8 +19,7 @@ use Rattle.kp_core.proofs.OutcomeLemmas.{each_outcome}
 use Rattle.kp_world.specs.Causes.{MayBeTold, TellsByRule}
 use Rattle.kp_world.specs.Message.{response_of}
 use Rattle.kp_world.proofs.ListLemmas.{all_weaker}
-use Rattle.kp_world.proofs.EventLemmas.{OfEvent, at_step}
-use Rattle.kp_world.proofs.GateLemmas.{at_sent, at_taken}
+use Rattle.kp_world.proofs.EventLemmas.{at_sent, at_taken, OfEvent, at_step}
 use Rattle.kp_world.proofs.ListLemmas.{in_at}
 use Rattle.kp_log.proofs.PlaceLemmas.{In}
 

@@ -4,7 +4,6 @@ use Rattle.std.proofs.Common.{◌≡◌, ◌⊎◌, ℕ, ◌<◌, ◌≤◌, Boo
 use Rattle.std.specs.Prelude.{Result, Ok, Err, if◌then◌else◌, ◌||◌, nat_lt}
 use Rattle.std.proofs.lemmas.Bool.{ltb-false}
 use Rattle.std.proofs.lemmas.List.{get_or-replicate, length-replicate, length-set}
-use Rattle.kp_accum.specs.declared.fault.AppendFault.{AppendFault}
 use Rattle.kp_accum.specs.declared.config.Config.{Config}
 use Rattle.kp_accum.specs.declared.fault.ConfigFault.{ConfigFault}
 use Rattle.kp_accum.specs.declared.fault.ConfigFault.TheVariants.{BatchSize, Linger, BufferMemory, MaxRequestSize, RequestTimeout, DeliveryTimeout, RetryBackoff, MaxInFlight}
@@ -23,7 +22,7 @@ use Rattle.kp_core.specs.Records.{Batch, Partition, Core}
 use Rattle.kp_core.specs.Requesting.{Outgoing}
 use Rattle.kp_core.specs.Tick.{ticked, disconnected, closed}
 use Rattle.kp_world.specs.declared.event.Event.{Event}
-use Rattle.kp_world.specs.Accepting.{taking, taking_of}
+use Rattle.kp_world.specs.Accepting.{taking}
 use Rattle.kp_world.specs.Client.{handed_at}
 use Rattle.kp_world.specs.Delivering.{log_at, PartsDeliver, Delivery, IsFresh, IsError, Delivers, given}
 use Rattle.kp_world.specs.Loopback.{other_record, logs_with_others}
@@ -31,7 +30,7 @@ use Rattle.kp_world.specs.Noting.{noted}
 use Rattle.kp_world.specs.Run.{with_delivery, Steps, IsReached}
 use Rattle.kp_world.specs.World.{PartAnswer, ReplyContent, Batches, Id, Reply, World, opening, FIRST_ID, FIRST_CORRELATION}
 use Rattle.kp_world.proofs.BrokerLemmas.{Agrees, AllAgree, Known, PartsDelivered, parts_delivered, agree_set, PartAgrees}
-use Rattle.kp_world.proofs.EventLemmas.{OfEvent, at_step, OfStep, at_run}
+use Rattle.kp_world.proofs.EventLemmas.{at_taken, OfEvent, at_step, OfStep, at_run}
 use Rattle.kp_world.proofs.FlightLemmas.{Carries, PartHolds, ContentHolds, steady_new, steady_grown, steady_replied}
 use Rattle.kp_world.proofs.HearingLemmas.{lawful_reply}
 use Rattle.kp_world.proofs.LawfulLemmas.{Lawful, IsLawful, StoredAt, lawful_core, lawful_sending, IsLawfulWithin, PartsIn, Given}
@@ -187,14 +186,9 @@ lawful_called n w s g l = lawful_core n w.core s w.logs w.handed w.packets w.rep
 
 lawful_taken : {most : ℕ} (n s : ℕ) (i : Item) (w : World) → IsLawfulWithin most n w → IsLawfulWithin most n (taking s (Some i) w)
 unfolding noted
-lawful_taken {most = most} n s i w g = at_answer (appended i w.core).answer
-  where
-    after : Lawful most n (appended i w.core).after w.logs w.handed w.packets w.replies w.ids
-    after = lawful_called n w (appended i w.core).after g (left_appended (StoredAt w.logs) i w.core)
-
-    at_answer : (a : Result (Unit {0}) AppendFault) → IsLawfulWithin most n (taking_of s (appended i w.core).after (appended i w.core).told a w)
-    at_answer (Ok y) = after
-    at_answer (Err refusal) = after
+lawful_taken {most = most} n s i w g =
+    let after : Lawful most n (appended i w.core).after w.logs w.handed w.packets w.replies w.ids = lawful_called n w (appended i w.core).after g (left_appended (StoredAt w.logs) i w.core) in
+    at_taken (IsLawfulWithin most n) s i w after after
 
 lawful_client : {most : ℕ} (n : ℕ) (w : World) → IsLawfulWithin most n w → OfEvent (IsLawfulWithin most n) w
 unfolding noted

@@ -13,13 +13,13 @@ use Rattle.kp_core.specs.Partitions.{partition_at, new_partition}
 use Rattle.kp_core.specs.Records.{Batch, Open, Partition, Core}
 use Rattle.kp_core.proofs.ListLemmas.{all_append}
 use Rattle.kp_world.proofs.KeepingLemmas.{OpenIn}
-use Rattle.kp_world.proofs.LeavingLemmas.{found}
 use Rattle.kp_world.proofs.ListLemmas.{all_at, all_drop, all_take, all_weaker}
+use Rattle.kp_world.proofs.ListLemmas.{found_in}
 
 -- ---- a batch goes out again
 
 pub find_open : (handed : List Batch) (os : List Open) (o : Open) → find is_waiting os ≡ Some o → OpenIn handed os → In o.batch handed
-find_open handed os o e h = all_at (λ (x : Open). In x.batch handed) os o h (found is_waiting os o e).0
+find_open handed os o e h = all_at (λ (x : Open). In x.batch handed) os o h (found_in is_waiting os o e).0
 
 -- what holds of the open batches holds of them still
 pub all_again : (P : Batch → Type 0) (k : ℕ) (os : List Open) → AllByRecursion (λ (o : Open). P o.batch) os → AllByRecursion (λ (o : Open). P o.batch) (sent_again_in k os)

@@ -23,8 +23,7 @@ use Rattle.kp_world.specs.Client.{handed_at, handed_with, grown_by, with_sending
 use Rattle.kp_world.proofs.AccountLemmas.{IsAccounted}
 use Rattle.kp_world.proofs.AccountRunLemmas.{IsInOrder, order_step, order_opening}
 use Rattle.kp_world.proofs.DeliveredLemmas.{Truly, AllTruly, truly_grown, truly_told}
-use Rattle.kp_world.proofs.EventLemmas.{OfEvent, at_step, at_run}
-use Rattle.kp_world.proofs.GateLemmas.{at_sent, at_taken}
+use Rattle.kp_world.proofs.EventLemmas.{at_sent, at_taken, OfEvent, at_step, at_run}
 use Rattle.kp_world.proofs.LawfulLemmas.{IsLawful}
 use Rattle.kp_world.proofs.RuledLemmas.{MayBeToldIn, TellsIn, told_step}
 use Rattle.kp_world.proofs.ListLemmas.{all_at, in_at, one_more}
