@@ -24,7 +24,7 @@ use Rattle.kp_core.specs.Attempts.{awaits, awaiting, dropped_batch, without_atte
 use Rattle.kp_core.specs.Awaited.{Nothing, Batches, Id, id_awaited, or_id, awaited}
 use Rattle.kp_core.specs.Fence.{told_given_up, fenced, given_up, ended}
 use Rattle.kp_core.specs.Mismatch.{Answers, is_for, answers_for, answers_of}
-use Rattle.kp_core.specs.Causes.{IsAtLateFront, IsOpenIn, IsQueuedIn, IsAnswered}
+use Rattle.kp_core.specs.Causes.{IsAtLateFront, IsOpenIn, IsQueuedIn, IsAnswered, Settles}
 use Rattle.kp_core.specs.OutcomeRule.{Call, Append, Tick, Reply, End, told_by, MayTell}
 use Rattle.kp_core.specs.Partitions.{partition_at, items_open, items_queued}
 use Rattle.kp_core.specs.Records.{Open, Partition, Request, IdRequest, Core, Told, Step}
@@ -264,6 +264,10 @@ open_without k t i h = record {
   has = h.has;
 }
 
+abbrev settles : (s : Core) (response : Response) (p : ℕ) (o : Open) (a : PartitionProduceResponse) → IsAnswered s response p o a
+    → (v : Verdict) → verdict_of a.error_code ≡ v → (n : ℕ) (i : Item) → slice_get o.batch.items n ≡ Some i → Settles s response i v
+settles s response p o a is v means n i e = record { partition = p; batch = o; answer = a; answered = is; means = means; place = n; item = e }
+
 at_settled : (now k p : ℕ) (s : Core) (response : Response) (o : Open)
     (a : PartitionProduceResponse) → IsAnswered s response p o a
     → (v : Verdict) → verdict_of a.error_code ≡ v
@@ -277,24 +281,12 @@ at_settled now k p s response o a is Stored v = all_enumerated (MayBeTold s (Rep
         → MayBeTold s (Reply now response)
         (record { item = i; outcome = Delivered (a.base_offset +ℤ pos (0 + n)) })
     one n i e = let same : 0 + n ≡ n = omega arith
-        in (
-          record {
-            partition = p;
-            batch = o;
-            answer = a;
-            answered = is;
-            means = v;
-            place =
-                n;
-            item = e;
-          },
-          ap (λ (m : ℕ). a.base_offset +ℤ pos m) same,
-        )
+        in (settles s response p o a is Stored v n i e, ap (λ (m : ℕ). a.base_offset +ℤ pos m) same)
 at_settled now k p s response o a is Duplicate v =
     all_told (MayBeTold s (Reply now response)) DeliveredNoOffset o.batch.items
     (all_placed (λ (i : Item). MayBeTold s (Reply now response)
     (record { item = i; outcome = DeliveredNoOffset })) o.batch.items
-    (λ n i e. record { partition = p; batch = o; answer = a; answered = is; means = v; place = n; item = e }))
+    (settles s response p o a is Duplicate v))
 at_settled now k p s response o a is Retry v = tt
 at_settled now k p s response o a is Reject v =
     all_append (MayBeTold s (Reply now response)) (told_all (Rejected a.error_code) o.batch.items)
@@ -302,19 +294,7 @@ at_settled now k p s response o a is Reject v =
     (all_told (MayBeTold s (Reply now response)) (Rejected a.error_code) o.batch.items
     (all_placed (λ (i : Item). MayBeTold s (Reply now response)
     (record { item = i; outcome = Rejected a.error_code })) o.batch.items
-    (λ n i e. (
-      record {
-        partition = p;
-        batch = o;
-        answer = a;
-        answered = is;
-        means = v;
-        place =
-            n;
-        item = e;
-      },
-      refl,
-    ))))
+    (λ n i e. (settles s response p o a is Reject v n i e, refl))))
     (all_given_up (MayBeTold s (Reply now response)) reason.Fenced (without_attempt k (partition_at p s.partitions))
     (λ i h. (
       p,

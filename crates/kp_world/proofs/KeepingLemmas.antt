@@ -11,13 +11,13 @@ use Rattle.kp_log.proofs.PlaceLemmas.{In}
 use Rattle.kp_core.specs.declared.attempt.Attempt.TheVariants.{Waiting}
 use Rattle.kp_core.specs.declared.verdict.Verdict.{Verdict}
 use Rattle.kp_core.specs.declared.verdict.Verdict.TheVariants.{Stored, Duplicate, Retry, Reject}
-use Rattle.kp_core.specs.Answered.{without_attempt, waiting_since, settled, answered_if, answered, verdict_of}
+use Rattle.kp_core.specs.Answered.{acknowledged, without_attempt, waiting_since, settled, answered_if, answered, verdict_of}
 use Rattle.kp_core.specs.Appending.{with_queued}
 use Rattle.kp_core.specs.Attempts.{awaits, awaiting, dropped_batch, without_attempts}
 use Rattle.kp_core.specs.Fence.{fenced, given_up}
 use Rattle.kp_core.specs.Flush.{marked_open, with_marks}
 use Rattle.kp_core.specs.Partitions.{partition_at, changed_at, new_partition, is_in}
-use Rattle.kp_core.specs.Records.{Batch, Open, Partition}
+use Rattle.kp_core.specs.Records.{Batch, Open, Partition, Told}
 use Rattle.kp_core.specs.Tick.{behind_late, expired_front, is_open_late, passed}
 use Rattle.kp_world.proofs.ListLemmas.{all_filter, all_map}
 
@@ -116,22 +116,19 @@ keeps_without k t = record {
   queue = λ h. h;
 }
 
+keeps_acknowledged : (k : ℕ) (t : Partition) (o : Open) (told : List Told) → Keeps t (acknowledged k t o told).after
+keeps_acknowledged k t o told = record {
+  number = refl;
+  sequence = refl;
+  ids = refl;
+  opens = (keeps_without k t).opens;
+  queue = λ h. h;
+}
+
 pub keeps_settled : (now k : ℕ) (t : Partition) (o : Open) (a : PartitionProduceResponse) (v : Verdict)
     → Keeps t (settled now k t o a v).after
-keeps_settled now k t o a Stored = record {
-  number = refl;
-  sequence = refl;
-  ids = refl;
-  opens = (keeps_without k t).opens;
-  queue = λ h. h;
-}
-keeps_settled now k t o a Duplicate = record {
-  number = refl;
-  sequence = refl;
-  ids = refl;
-  opens = (keeps_without k t).opens;
-  queue = λ h. h;
-}
+keeps_settled now k t o a Stored = keeps_acknowledged k t o []
+keeps_settled now k t o a Duplicate = keeps_acknowledged k t o []
 keeps_settled now k t o a Retry = record {
   number = refl;
   sequence = refl;
