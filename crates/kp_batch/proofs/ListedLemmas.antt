@@ -1,11 +1,8 @@
 -- The records in a list of things that have one.
 use Rattle.std.proofs.Common.{◌≡◌, ℕ, ◌<◌, max, List, [], ◌∷◌, ◌++◌, length, map, get_or, refl, sym, ap, ◌∙◌, arith}
-use Rattle.std.proofs.lemmas.List.{length-map, get_or-map}
+use Rattle.std.proofs.lemmas.List.{get_or-map}
 use Rattle.kp_batch.specs.declared.record.Record.{Record}
 use Rattle.kp_batch.specs.Spelling.{base_timestamp, max_timestamp}
-
-pub as_many : {T : Type 0} (record_in : T → Record) (items : List T) → length (map record_in items) ≡ length items
-as_many record_in items = length-map items record_in
 
 -- the record in the item at place k stands at place k
 pub record_here : {T : Type 0} (record_in : T → Record) (items : List T) (k : ℕ) (item : T) (r : Record) → k < length items → item ≡ get_or items k item → r ≡ record_in item → r ≡ get_or (map record_in items) k r

@@ -1,7 +1,9 @@
 -- A batch by what is known of its records.
 use Rattle.std.proofs.Common.{◌≡◌, ℕ, ◌<◌, Bool, true, false, ◌&&◌, List, [], ◌∷◌, length, pos, Ok, Err, refl, sym, ap, ◌∙◌, arith}
-use Rattle.std.specs.Prelude.{nat_abs, not}
+use Rattle.std.specs.Prelude.{nat_abs}
 use Rattle.std.specs.Ordering.{int_eq}
+use Rattle.std.proofs.lemmas.Bool.{and_left}
+use Rattle.kp_batch.specs.Spelling.{max_timestamp}
 use Rattle.std.proofs.Math.Dec.{eqb-suc-zero}
 use Rattle.kp_wire.specs.declared.fault.WireFault.{WireFault}
 use Rattle.kp_wire.specs.declared.fault.WireFault.TheVariants.{BadLength}
@@ -52,19 +54,9 @@ whole bytes f s body rest rs opens reads none places times = rw (opens, all_read
 
 -- ---- the times, by what is known
 
-and_late : (b m z : Bool) → (b && m) ≡ false → (b && m && z) ≡ false
-and_late true true z e = absurd cc
-and_late true false z e = refl
-and_late false m z e = refl
-
-and_last : (b m z : Bool) → (b && m) ≡ true → (b && m && z) ≡ z
-and_last true true z e = refl
-and_last true false z e = absurd cc
-and_last false m z e = absurd cc
-
 late : (s : Summary) (rs : List RelativeRecord) → are_timely s.base_timestamp 0 rs ≡ false → is_timed s rs ≡ false
 unfolding is_timed
-late s rs e = and_late (begins_at_base rs) (are_moments s.base_timestamp rs) _ (sym (timely_are s.base_timestamp rs) ∙ e)
+late s rs e = and_left (begins_at_base rs && are_moments s.base_timestamp rs) _ (sym (timely_are s.base_timestamp rs) ∙ e)
 
 pub untimely : (s : Summary) (rs : List RelativeRecord) (g : Gathered) → Known s.base_timestamp rs g → g.timed ≡ false → is_timed s rs ≡ false
 untimely s rs g known e = late s rs (sym known.times ∙ e)
@@ -72,7 +64,7 @@ untimely s rs g known e = late s rs (sym known.times ∙ e)
 by_greatest : (s : Summary) (rs : List RelativeRecord) (g : Gathered) → Known s.base_timestamp rs g → g.timed ≡ true → is_timed s rs ≡ int_eq s.max_timestamp (pos g.greatest)
 unfolding is_timed
 by_greatest s rs g known e =
-    and_last (begins_at_base rs) (are_moments s.base_timestamp rs) _ (sym (timely_are s.base_timestamp rs) ∙ sym known.times ∙ e)
+    ap (λ (t : Bool). t && int_eq s.max_timestamp (pos (max_timestamp (records_of s.base_timestamp rs)))) (sym (timely_are s.base_timestamp rs) ∙ sym known.times ∙ e)
     ∙ ap (λ (n : ℕ). int_eq s.max_timestamp (pos n)) (sym (known.greatest e))
 
 pub other_greatest : (s : Summary) (rs : List RelativeRecord) (g : Gathered) → Known s.base_timestamp rs g → g.timed ≡ true → int_eq s.max_timestamp (pos g.greatest) ≡ false → is_timed s rs ≡ false
@@ -80,13 +72,3 @@ other_greatest s rs g known e other = by_greatest s rs g known e ∙ other
 
 pub same_greatest : (s : Summary) (rs : List RelativeRecord) (g : Gathered) → Known s.base_timestamp rs g → g.timed ≡ true → int_eq s.max_timestamp (pos g.greatest) ≡ true → is_timed s rs ≡ true
 same_greatest s rs g known e same = by_greatest s rs g known e ∙ same
-
--- ---- tests turned round
-
-pub not_true : (b : Bool) → not b ≡ true → b ≡ false
-not_true true e = absurd cc
-not_true false e = refl
-
-pub not_false : (b : Bool) → not b ≡ false → b ≡ true
-not_false true e = refl
-not_false false e = absurd cc

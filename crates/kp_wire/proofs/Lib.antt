@@ -1,3 +1,4 @@
+pub mod ListLemmas
 pub mod ReadLemmas
 pub mod VarintLemmas
 pub mod ChecksumLemmas

@@ -1,6 +1,7 @@
 use Rattle.std.proofs.Common.{◌≡◌, max, map, arith}
 use Rattle.std.proofs.lemmas.Int.{ints}
-use Rattle.kp_batch.proofs.ListedLemmas.{as_many, record_here}
+use Rattle.std.proofs.lemmas.List.{length-map}
+use Rattle.kp_batch.proofs.ListedLemmas.{record_here}
 use Rattle.kp_batch.proofs.WritingLemmas.{latest_further}
 use Rattle.kp_batch.proofs.writing.latest_of.Goals.{then-millis, else-millis}
 use Rattle.kp_batch.proofs.writing.latest_of.Goals as goal
@@ -16,4 +17,4 @@ loop-item-preserved g c =
       | then-millis w ↦ omega (arith, ints, w.if-millis.true, w.latest-is, c.millis.ensures.value, c.millis-in-loop-item.ensures.value)
       | else-millis w ↦ omega (arith, ints, w.if-millis.false, w.latest-is, c.millis.ensures.value, c.millis-in-loop-item.ensures.value)
     ] in
-    latest_further (map record_in items) c.loop-item.item-index body c.loop-item.latest _ _ (omega (arith, as_many record_in items)) is next c.loop-item.invariant
+    latest_further (map record_in items) c.loop-item.item-index body c.loop-item.latest _ _ (omega (arith, length-map items record_in)) is next c.loop-item.invariant

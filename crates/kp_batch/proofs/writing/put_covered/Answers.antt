@@ -4,9 +4,10 @@ use Rattle.std.specs.Int.{w16, w32, w64}
 use mir.Val.{to_z, of_z}
 use Rattle.std.proofs.lemmas.Int.{ints}
 use Rattle.std.proofs.lemmas.Result.{err_from_is_err_and}
+use Rattle.std.proofs.lemmas.List.{length-map}
 use Rattle.kp_batch.specs.Spelling.{summary, summary_of, base_timestamp, max_timestamp}
 use Rattle.kp_batch.proofs.SizeLemmas.{size_of_batch-is}
-use Rattle.kp_batch.proofs.ListedLemmas.{as_many, first_timestamp, latest_timestamp}
+use Rattle.kp_batch.proofs.ListedLemmas.{first_timestamp, latest_timestamp}
 use Rattle.kp_batch.proofs.WritingLemmas.{summary_fits, covered_spelled}
 use Rattle.kp_batch.proofs.writing.put_covered.Goals as goal
 
@@ -21,7 +22,7 @@ pub returns-clause-spelled : goal.returns-clause-spelled
 returns-clause-spelled g c =
     let items = c.args.records.now in
     let rs = map g.T.AsRecord.body items in
-    let many = as_many g.T.AsRecord.body items in
+    let many = length-map items g.T.AsRecord.body in
     let some : 0 < length rs = omega (arith, many, c.requires.some) in
     let few : length rs ≤ 2147483647 = omega (arith, many, c.requires.few) in
     let first = first_timestamp g.T.AsRecord.body items _ _ c.requires.some c.index-records-0.is c.as_record.ensures in
@@ -37,7 +38,7 @@ pub returns-clause-fits : goal.returns-clause-fits
 returns-clause-fits g c =
     let items = c.args.records.now in
     let rs = map g.T.AsRecord.body items in
-    let many = as_many g.T.AsRecord.body items in
+    let many = length-map items g.T.AsRecord.body in
     let some : 0 < length rs = omega (arith, many, c.requires.some) in
     let few : length rs ≤ 2147483647 = omega (arith, many, c.requires.few) in
     let first = first_timestamp g.T.AsRecord.body items _ _ c.requires.some c.index-records-0.is c.as_record.ensures in

@@ -4,10 +4,11 @@ use Rattle.std.specs.Int.{w32, w64}
 use mir.Val.{to_z, of_z}
 use Rattle.std.proofs.lemmas.Int.{ints}
 use Rattle.std.proofs.lemmas.Result.{err_from_is_err_and}
+use Rattle.std.proofs.lemmas.List.{length-map}
 use Rattle.kp_batch.specs.Record.{relative_record}
 use Rattle.kp_batch.specs.Spelling.{relative}
-use Rattle.kp_batch.proofs.SizeLemmas.{bytes_from-here}
-use Rattle.kp_batch.proofs.ListedLemmas.{as_many, record_here}
+use Rattle.kp_batch.proofs.SizeLemmas.{bytes_from-here, delta_is}
+use Rattle.kp_batch.proofs.ListedLemmas.{record_here}
 use Rattle.kp_batch.proofs.WritingLemmas.{record_more, fits_more, moments_further}
 use Rattle.kp_batch.proofs.writing.put_records.Goals as goal
 
@@ -20,10 +21,10 @@ loop-k-preserved g c =
     let body = c.as_record-body.result.now in
     let k = c.loop-k.k in
     let is = record_here record_in items k c.index-records-k.result body (omega arith) c.index-records-k.is c.as_record-body.ensures in
-    let lt : k < length records = omega (arith, as_many record_in items) in
+    let lt : k < length records = omega (arith, length-map items record_in) in
     let index : to_z w32 k ≡ pos k = omega (arith, ints, c.requires) in
     let delta : to_z w64 (of_z w64 (to_z w64 (of_z w64 c.millis.result) -ℤ to_z w64 (of_z w64 c.millis-in-loop-k.result))) ≡ pos body.timestamp -ℤ pos base =
-    omega (arith, ints, c.millis.ensures.value, c.millis.ensures.fits, c.millis-in-loop-k.ensures.value, c.millis-in-loop-k.ensures.fits) in
+    delta_is _ _ _ _ c.millis.ensures.value c.millis.ensures.fits c.millis-in-loop-k.ensures.value c.millis-in-loop-k.ensures.fits in
     let spelled : c.put_record.new.out.items ≡ c.loop-k.out.items ++ relative_record.spell (relative base k body) = rw (delta, index) at c.in_ok-put_record.ensures.spelled in
     let fits : relative_record.Fits (relative base k body) = rw (delta, index) at c.in_ok-put_record.ensures.fits in
     record {
@@ -42,10 +43,10 @@ returns-in_err-put_record-clause-long_only g c = λ e.
     let body = c.as_record-body.result.now in
     let k = c.loop-k.k in
     let is = record_here record_in items k c.index-records-k.result body (omega arith) c.index-records-k.is c.as_record-body.ensures in
-    let lt : k < length records = omega (arith, as_many record_in items) in
+    let lt : k < length records = omega (arith, length-map items record_in) in
     let index : to_z w32 k ≡ pos k = omega (arith, ints, c.requires) in
     let delta : to_z w64 (of_z w64 (to_z w64 (of_z w64 c.millis.result) -ℤ to_z w64 (of_z w64 c.millis-in-loop-k.result))) ≡ pos body.timestamp -ℤ pos base =
-    omega (arith, ints, c.millis.ensures.value, c.millis.ensures.fits, c.millis-in-loop-k.ensures.value, c.millis-in-loop-k.ensures.fits) in
+    delta_is _ _ _ _ c.millis.ensures.value c.millis.ensures.fits c.millis-in-loop-k.ensures.value c.millis-in-loop-k.ensures.fits in
     let p = err_from_is_err_and c.from_residual.result c.from_residual.ensures.1 in
     let long : 2147483647 < length (relative_record.spell (relative base k body)) = rw (delta, index) at (c.in_err-put_record.ensures.long_only (rw (p.1, p.2) at e)) in
     omega (arith, long, bytes_from-here base k records body lt is, c.loop-k.invariant.left)
