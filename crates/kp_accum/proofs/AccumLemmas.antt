@@ -3,7 +3,9 @@ use Rattle.std.proofs.Common.{◌≡◌, ◌∙◌, ℕ, zero, suc, ◌+◌, ◌
 use Rattle.std.specs.Prelude.{Ok, not, nat_le, sum_by, if◌then◌else◌, replicate, filter}
 use Rattle.std.specs.List.{AllByRecursion}
 use Rattle.std.proofs.lemmas.List.Sums.{sum_by-set, sum_by-cons}
+use Rattle.std.proofs.lemmas.List.Folds.{sum_by-replicate}
 use Rattle.std.proofs.lemmas.List.{length-map, take_all, drop_all, append-nil, get_or_default}
+use Rattle.kp_wire.proofs.ListLemmas.{all_replicate}
 use Rattle.kp_batch.specs.Spelling.{measured}
 use Rattle.kp_accum.specs.declared.config.Config.{Config}
 use Rattle.kp_accum.specs.declared.item.Item.{Item}
@@ -30,14 +32,6 @@ all-set P (x ∷ xs) (suc k) y it all = (all.0, all-set P xs k y it all.1)
 pub all-map : {X : Type 0} (P : X → Type 0) (f : X → X) → ((x : X) → P x → P (f x)) → (xs : List X) → AllByRecursion P xs → AllByRecursion P (map f xs)
 all-map P f kept [] all = all
 all-map P f kept (x ∷ xs) all = (kept x all.0, all-map P f kept xs all.1)
-
-pub all-replicate : {X : Type 0} (P : X → Type 0) (x : X) → P x → (n : ℕ) → AllByRecursion P (replicate n x)
-all-replicate P x it zero = tt
-all-replicate P x it (suc n) = (it, all-replicate P x it n)
-
-pub sum_by-replicate_none : {X : Type 0} (f : X → ℕ) (x : X) → f x ≡ 0 → (n : ℕ) → 0 ≡ sum_by f (replicate n x)
-sum_by-replicate_none f x e zero = refl
-sum_by-replicate_none f x e (suc n) = omega (arith, e, sum_by-replicate_none f x e n, sum_by-cons f x (replicate n x))
 
 -- a loop that wrote f x over each element x of xs
 pub map_over_all : {X : Type 0} (f : X → X) (n : ℕ) (xs : List X) → length xs ≤ n → map f (take n xs) ++ drop n xs ≡ map f xs
@@ -107,9 +101,9 @@ pub sound-new : (c : Config) (limit n : ℕ) → checked c ≡ Ok tt → limit �
 sound-new c limit n e l = record {
   allowed = e;
   limited = l;
-  counted = sum_by-replicate_none length [] refl n;
-  marks = sum_by-replicate_none marked_in [] refl n;
-  fitting = all-replicate (AllFit c) [] tt n;
+  counted = omega (arith, sum_by-replicate {X = List Pending} length n []);
+  marks = omega (arith, sum_by-replicate marked_in n []);
+  fitting = all_replicate (AllFit c) n [] tt;
 }
 
 -- one queue is another, of which so many more or fewer are counted

@@ -3,6 +3,7 @@ use Rattle.std.proofs.Common.{◌≡◌, ℕ, suc, ◌+◌, ◌-◌, max, Bool, 
 use Rattle.std.specs.Prelude.{nat_abs, ◌+ℤ◌}
 use Rattle.std.specs.Ordering.{int_eq}
 use Rattle.std.proofs.lemmas.Bool.{lt-ltb, and_left, and_right}
+use Rattle.std.proofs.lemmas.Option.{cond_some}
 use Rattle.std.proofs.Math.Bool.{and-true, and_assoc, and_comm}
 use Rattle.std.proofs.lemmas.List.{map-append}
 use Rattle.kp_wire.specs.Codec.{read_many}
@@ -76,8 +77,7 @@ max_timestamp-end [] r = omega arith
 max_timestamp-end (x ∷ rs) r = omega (arith, max_timestamp-end rs r)
 
 timely : (b : Bool) (x t : ℕ) → Some t ≡ cond b (Some x) None → (b ≡ true) × (t ≡ x)
-timely true x t e = (refl, cc)
-timely false x t e = absurd cc
+timely b x t e = let c = cond_some b x t (sym e) in (c.0, sym c.1)
 
 untimely : (b : Bool) (x : ℕ) → None ≡ cond b (Some x) None → b ≡ false
 untimely true x e = absurd cc

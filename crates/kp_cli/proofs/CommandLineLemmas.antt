@@ -34,6 +34,3 @@ is_taken program = refl
 pub is_simple_app : is_simple kprod_app ≡ true
 unfolding clap_on_literals
 is_simple_app = refl
-
-pub same_rows : (found rows : List Row) → Some found ≡ Some rows → found ≡ rows
-same_rows found rows same = cc

@@ -1,19 +1,17 @@
 -- A history that came by what was handed over stays one.
 use Rattle.std.proofs.Common.{◌≡◌, ◌⊎◌, ℕ, ◌+◌, Bool, true, false, cond, List, [], ◌∷◌, ◌++◌, length, replicate, pos, negsuc, refl, sym, ap, ◌∙◌, subst, ⊎_elim, arith, append_assoc, Contains}
 use Rattle.std.specs.Prelude.{◌==◌}
-use Rattle.std.specs.Ordering.{int_eq}
 use Rattle.std.proofs.lemmas.Bool.{eqb-true}
-use Rattle.std.proofs.lemmas.Bool.Decides.{Decides-int_eq}
 use Rattle.std.proofs.lemmas.List.{append-nil}
 use Rattle.std.proofs.lemmas.List.Concat.{flat_map-append}
 use Rattle.std.proofs.lemmas.List.Elements.{All-nil, All-weaker, All-push, filter-append}
 use Rattle.kp_batch.specs.declared.record.Record.{Record}
 use Rattle.kp_log.specs.Log.{count_of, stored_as}
-use Rattle.kp_log.specs.History.{Sent, History, stored_of, records_of, of_id, empty_history, with_batch, with_others, NO_ID}
+use Rattle.kp_log.specs.History.{Sent, batch_of, History, stored_of, records_of, of_id, empty_history, with_batch, with_others, NO_ID}
 use Rattle.kp_log.specs.KeptBatches.{kept_in}
 use Rattle.kp_log.specs.BrokerStep.{Offered, offered_to}
 use Rattle.kp_log.specs.HandedOver.{Follows, AreInSequence, IsStored, CameBy}
-use Rattle.kp_log.proofs.LogLemmas.{count_of-append, count_of_others}
+use Rattle.kp_log.proofs.LogLemmas.{int_apart, count_of-append, count_of_others}
 use Rattle.kp_log.proofs.PlaceLemmas.{In, In-append_cases, In-nil, cut_cases}
 use Rattle.kp_log.proofs.SequenceLemmas.{CountFrom, size_of, count_of-records_of, count_front, count_rest, below, first_batch, counts}
 use Rattle.kp_log.proofs.OffsetLemmas.{stored_still, stands_last}
@@ -64,12 +62,8 @@ came_of_more handed b h came = record {
   counted = came.counted;
 }
 
-no_id_at : (id : ℕ) (t : Bool) → int_eq NO_ID (pos id) ≡ t → int_eq NO_ID (pos id) ≡ false
-no_id_at id true is = absurd (let same : negsuc 0 ≡ pos id = (Decides-int_eq NO_ID (pos id)).0 is in cc)
-no_id_at id false is = is
-
 pub others_count : (id n : ℕ) (body : Record) → count_of (pos id) (stored_as NO_ID (replicate n body)) ≡ 0
-others_count id n body = count_of_others (pos id) NO_ID (replicate n body) (no_id_at id (int_eq NO_ID (pos id)) refl)
+others_count id n body = count_of_others (pos id) NO_ID (replicate n body) (int_apart NO_ID (pos id) (λ same. absurd (let apart : negsuc 0 ≡ pos id = same in cc)))
 
 pub came_others : (handed : List Sent) (h : History) (n : ℕ) (body : Record) → CameBy handed h → CameBy handed (with_others n body h)
 came_others handed h n body came = record {
@@ -133,7 +127,7 @@ came_appended handed h b s came at is = record {
         ((came.first id).0, (came.first id).1 ∙ ap (λ z. z ++ (came.first id).0) end)
 
 came_by : (handed : List Sent) (h : History) (b : Sent) → AreInSequence handed → CameBy handed h → Contains handed b
-    → (r : Ruling h.records (kept_in b.id h).spans b) → CameBy handed (offered_of h b r).history
+    → (r : Ruling h.records (kept_in b.id h).spans (batch_of b)) → CameBy handed (offered_of h b r).history
 came_by handed h b s came at (Repeats span is) = came
 came_by handed h b s came at (GoesOn fresh is) = came_appended handed h b s came at (count_at h b is)
 came_by handed h b s came at (IsOlder fresh is old) = came
@@ -142,5 +136,5 @@ came_by handed h b s came at (LeavesGap fresh is old) = came
 pub came_offered : (handed : List Sent) (h : History) (b : Sent) → AreInSequence handed → CameBy handed h → Contains handed b
     → CameBy handed (offered_to h b).history
 came_offered handed h b s came at =
-    let r : Ruling h.records (kept_in b.id h).spans b = ruling h.records (kept_in b.id h).spans b in
+    let r : Ruling h.records (kept_in b.id h).spans (batch_of b) = ruling h.records (kept_in b.id h).spans (batch_of b) in
     subst (λ (o : Offered). CameBy handed o.history) (sym (offered_as h b (some_of handed b s at) r)) (came_by handed h b s came at r)
