@@ -147,8 +147,10 @@ charge-small a i c queues used limit batches marked e sound fits =
     omega (arith, fits, (allowed c sound.allowed).request, ap (λ (x : Accum). x.config.max_request_size) e)
 
 -- there is room exactly where the memory is not exhausted
-pub exhausted-is : (a : Accum) (i : Item) (c : Config) (queues : List (List Pending)) (used limit batches marked n : ℕ) (room : Bool) → record { config = c; queues = queues; used = used } ≡ a → IsSound c queues limit batches marked → n ≡ charge_of i → room ≡ nat_le (used + n) limit → is_exhausted i a ≡ not room
-exhausted-is a i c queues used limit batches marked n room e sound one is =
+pub exhausted-is : (a : Accum) (i : Item) (c : Config) (queues : List (List Pending)) (used limit batches marked n : ℕ) (room : Bool) → record { config = c; queues = queues; used = used } ≡ a → IsSound c queues limit batches marked
+    → charge_of i ≤ a.config.max_request_size → (charge_of i ≤ 2147483647 → n ≡ charge_of i) → room ≡ nat_le (used + n) limit → is_exhausted i a ≡ not room
+exhausted-is a i c queues used limit batches marked n room e sound fits exact is =
+    let one = exact (charge-small a i c queues used limit batches marked e sound fits) in
     let memory : limit ≡ a.config.buffer_memory = sound.limited ∙ ap (λ (x : Accum). x.config.buffer_memory) e in
     let before : used ≡ a.used = ap (λ (x : Accum). x.used) e in
     grind (arith, nat_tests)

@@ -2,12 +2,14 @@
 use Rattle.std.proofs.Common.{◌≡◌, ℕ, suc, ◌<◌, ◌^◌, true, List, [], ◌∷◌, length, get_or, drop, drop-cons, add-one, ◌+◌, ℤ, pos, negsuc, refl, sym, ap, ◌∙◌, arith}
 use Rattle.std.specs.Prelude.{nat_abs, ◌+ℤ◌, ◌-ℤ◌}
 use Rattle.std.specs.List.{AllByRecursion}
-use Rattle.std.proofs.lemmas.Int.{ints}
+use Rattle.std.specs.Int.{w32, w64}
+use mir.Val.{to_z, of_z}
+use Rattle.std.proofs.lemmas.Int.{ints, to_z_pos}
 use Rattle.std.proofs.lemmas.Bool.{and_parts}
 use Rattle.std.proofs.lemmas.Bool.Decides.{Decides-int_eq}
 use Rattle.kp_batch.specs.declared.record.Record.{Record}
 use Rattle.kp_batch.specs.declared.relative.RelativeRecord.{RelativeRecord}
-use Rattle.kp_batch.specs.Spelling.{base_timestamp, relative, relatives_from, relatives}
+use Rattle.kp_batch.specs.Spelling.{base_timestamp, relative, relative_by, relatives_from, relatives}
 use Rattle.kp_batch.specs.Reading.{in_places, is_moment, are_moments, begins_at_base, absolute, records_of}
 
 abbrev pub HasMoment : Record → Type 0
@@ -46,6 +48,14 @@ pub begins_at_base-relatives : (rs : List Record) → begins_at_base (relatives 
 unfolding begins_at_base
 begins_at_base-relatives [] = refl
 begins_at_base-relatives (r ∷ rs) = let e : pos r.timestamp -ℤ pos r.timestamp ≡ pos 0 = omega (arith, ints) in rw e refl
+
+-- what stands in a batch, as the machine counts it
+pub relative_as : (m n : ℤ) (base k : ℕ) (r : Record) → m ≡ pos r.timestamp → r.timestamp < 2 ^ 63 → n ≡ pos base → base < 2 ^ 63 → k < 2 ^ 31
+    → relative_by (to_z w64 (of_z w64 (to_z w64 (of_z w64 m) -ℤ to_z w64 (of_z w64 n)))) (to_z w32 k) r ≡ relative base k r
+relative_as m n base k r is small base_is base_small few =
+    let delta : to_z w64 (of_z w64 (to_z w64 (of_z w64 m) -ℤ to_z w64 (of_z w64 n))) ≡ pos r.timestamp -ℤ pos base = omega (arith, ints) in
+    let index : to_z w32 k ≡ pos k = to_z_pos w32 k few in
+    rw (delta, index) refl
 
 -- ---- and back
 

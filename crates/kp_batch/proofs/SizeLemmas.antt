@@ -1,9 +1,5 @@
 -- Sizes of fields, of records and of batches.
-use Rattle.std.proofs.Common.{◌≡◌, ℕ, zero, suc, ◌+◌, ◌-◌, ◌/◌, ◌^◌, ◌<◌, ◌≤◌, List, [], ◌∷◌, ◌++◌, length, get_or, drop, ℤ, pos, negsuc, Some, None, inl, inr, refl, ap, ◌∙◌, arith}
-use Rattle.std.specs.Prelude.{◌-ℤ◌}
-use Rattle.std.specs.Int.{w64}
-use mir.Val.{to_z, of_z}
-use Rattle.std.proofs.lemmas.Int.{ints}
+use Rattle.std.proofs.Common.{◌≡◌, ℕ, zero, suc, ◌+◌, ◌-◌, ◌/◌, ◌<◌, ◌≤◌, List, [], ◌∷◌, ◌++◌, length, get_or, drop, ℤ, pos, negsuc, Some, None, inl, inr, refl, ap, ◌∙◌, arith}
 use Rattle.std.specs.List.{flat_map}
 use Rattle.std.proofs.lemmas.Bool.{cases_lt}
 use Rattle.std.proofs.lemmas.Bool.Decides.{nat_tests}
@@ -21,10 +17,6 @@ use Rattle.kp_batch.specs.Spelling.{relative, relatives_from, base_timestamp, me
 -- the bytes of the records from place k on
 abbrev pub bytes_from : ℕ → ℕ → List Record → ℕ
 bytes_from base k rs = length (flat_map relative_record.spell (relatives_from base k rs))
-
--- the difference of two moments, as the machine has it
-pub delta_is : (m n : ℤ) (t base : ℕ) → m ≡ pos t → t < 2 ^ 63 → n ≡ pos base → base < 2 ^ 63 → to_z w64 (of_z w64 (to_z w64 (of_z w64 m) -ℤ to_z w64 (of_z w64 n))) ≡ pos t -ℤ pos base
-delta_is m n t base is small base_is base_small = omega (arith, ints)
 
 -- ---- measured sizes
 

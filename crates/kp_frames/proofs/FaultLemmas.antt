@@ -19,19 +19,20 @@ pub answered_found : {X : Type 0} (begun : Type 0) (P : X → Type 0) (result re
 answered_found begun P (Ok x) read a holds = holds x a
 answered_found begun P (Err fault) read a holds = tt
 
-refused_only : {X : Type 0} (begun : Type 0) (fault : FrameFault) (read : Result X FrameFault) (x : X) → Refuses begun fault read → read ≡ Ok x → fault ≡ OutOfMemory
-refused_only begun OutOfMemory read x r e = refl
-refused_only begun Short read x r e = absurd (no_fault Short x (sym r ∙ e))
-refused_only begun Trailing read x r e = absurd (no_fault Trailing x (sym r ∙ e))
-refused_only begun UnknownApi read x r e = absurd (no_fault UnknownApi x (sym r ∙ e))
-refused_only begun UnknownVersion read x r e = absurd (no_fault UnknownVersion x (sym r ∙ e))
-refused_only begun (Wire w) read x r e = absurd (no_fault (Wire w) x (sym r ∙ e))
-refused_only begun TooLarge read x r e = absurd (no_fault TooLarge x (sym r ∙ e))
-refused_only begun Mismatch read x r e = absurd (no_fault Mismatch x (sym r ∙ e))
+-- what holds of each fault of reading, and of memory refused, holds of the fault that was given
+refused_fault : {X : Type 0} (P : FrameFault → Type 0) (begun : Type 0) (fault : FrameFault) (read : Result X FrameFault) → P OutOfMemory → ((f : FrameFault) → read ≡ Err f → P f) → Refuses begun fault read → P fault
+refused_fault P begun OutOfMemory read memory holds r = memory
+refused_fault P begun Short read memory holds r = holds Short r
+refused_fault P begun Trailing read memory holds r = holds Trailing r
+refused_fault P begun UnknownApi read memory holds r = holds UnknownApi r
+refused_fault P begun UnknownVersion read memory holds r = holds UnknownVersion r
+refused_fault P begun (Wire w) read memory holds r = holds (Wire w) r
+refused_fault P begun TooLarge read memory holds r = holds TooLarge r
+refused_fault P begun Mismatch read memory holds r = holds Mismatch r
 
 pub answered_only : {X : Type 0} (begun : Type 0) (x : X) (result read : Result X FrameFault) → Answers begun (λ x. x) result read → read ≡ Ok x → MatchResult result (λ y. y ≡ x) (λ fault. fault ≡ OutOfMemory)
 answered_only begun x (Ok y) read a e = ok_is y x (sym a ∙ e)
-answered_only begun x (Err fault) read a e = refused_only begun fault read x a e
+answered_only begun x (Err fault) read a e = refused_fault (λ f. f ≡ OutOfMemory) begun fault read refl (λ f is. absurd (no_fault f x (sym is ∙ e))) a
 
 -- ---- which faults come
 
@@ -64,16 +65,6 @@ refuse_err P false fault next f here holds e = holds e
 pub whole_err : {A : Type 0} (P : FrameFault → Type 0) (x : A) (rest : List ℕ) (f : FrameFault) → P Trailing → whole x rest ≡ Err f → P f
 whole_err P x [] f here e = absurd (no_fault f x (sym e))
 whole_err P x (b ∷ rest) f here e = is_error P Trailing f here e
-
-refused_fault : {X : Type 0} (P : FrameFault → Type 0) (begun : Type 0) (fault : FrameFault) (read : Result X FrameFault) → P OutOfMemory → ((f : FrameFault) → read ≡ Err f → P f) → Refuses begun fault read → P fault
-refused_fault P begun OutOfMemory read memory holds r = memory
-refused_fault P begun Short read memory holds r = holds Short r
-refused_fault P begun Trailing read memory holds r = holds Trailing r
-refused_fault P begun UnknownApi read memory holds r = holds UnknownApi r
-refused_fault P begun UnknownVersion read memory holds r = holds UnknownVersion r
-refused_fault P begun (Wire w) read memory holds r = holds (Wire w) r
-refused_fault P begun TooLarge read memory holds r = holds TooLarge r
-refused_fault P begun Mismatch read memory holds r = holds Mismatch r
 
 pub answered_fault : {X : Type 0} (P : FrameFault → Type 0) (begun : Type 0) (result read : Result X FrameFault) → P OutOfMemory → ((f : FrameFault) → read ≡ Err f → P f) → Answers begun (λ x. x) result read → IfErr result P
 answered_fault P begun (Ok x) read memory holds a = tt

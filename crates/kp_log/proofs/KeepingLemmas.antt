@@ -1,5 +1,5 @@
 -- A history that came by what was handed over stays one.
-use Rattle.std.proofs.Common.{◌≡◌, ◌⊎◌, ℕ, ◌+◌, Bool, true, false, cond, List, [], ◌∷◌, ◌++◌, length, replicate, pos, negsuc, refl, sym, ap, ◌∙◌, subst, ⊎_elim, arith, append_assoc, Contains}
+use Rattle.std.proofs.Common.{◌≡◌, ◌⊎◌, ℕ, ◌+◌, Bool, true, false, List, [], ◌∷◌, ◌++◌, length, replicate, pos, negsuc, refl, sym, ap, ◌∙◌, subst, ⊎_elim, arith, append_assoc, Contains}
 use Rattle.std.specs.Prelude.{◌==◌}
 use Rattle.std.proofs.lemmas.Bool.{eqb-true}
 use Rattle.std.proofs.lemmas.List.{append-nil}
@@ -13,7 +13,7 @@ use Rattle.kp_log.specs.BrokerStep.{Offered, offered_to}
 use Rattle.kp_log.specs.HandedOver.{Follows, AreInSequence, IsStored, CameBy}
 use Rattle.kp_log.proofs.LogLemmas.{int_apart, count_of-append, count_of_others}
 use Rattle.kp_log.proofs.PlaceLemmas.{In, In-append_cases, In-nil, cut_cases}
-use Rattle.kp_log.proofs.SequenceLemmas.{CountFrom, size_of, count_of-records_of, count_front, count_rest, below, first_batch, counts}
+use Rattle.kp_log.proofs.SequenceLemmas.{CountFrom, size_of, count_of-records_of, count_front, count_rest, below, first_batch, counts, of_id-own, of_id-other}
 use Rattle.kp_log.proofs.OffsetLemmas.{stored_still, stands_last}
 use Rattle.kp_log.proofs.RulingLemmas.{Ruling, Repeats, GoesOn, IsOlder, LeavesGap, ruling}
 use Rattle.kp_log.proofs.LoopbackLemmas.{offered_of, offered_as, handed_in, some_of, count_at}
@@ -113,17 +113,14 @@ came_appended handed h b s came at is = record {
     own_at : (later : List Sent) × (of_id b.id handed ≡ (appended ++ b ∷ []) ++ later)
     own_at = (next.0, (came.first b.id).1 ∙ ap (λ z. appended ++ z) next.1 ∙ sym (append_assoc appended (b ∷ []) next.0))
 
-    pushed : (id : ℕ) → of_id id (h.batches ++ b ∷ []) ≡ of_id id h.batches ++ cond (b.id == id) (b ∷ []) []
-    pushed id = filter-append (λ (c : Sent). c.id == id) h.batches (b ∷ [])
-
     at_id : (id : ℕ) (t : Bool) → (b.id == id) ≡ t → (later : List Sent) × (of_id id handed ≡ of_id id (h.batches ++ b ∷ []) ++ later)
     at_id id true same =
         let here : b.id ≡ id = eqb-true b.id id same in
-        let end : of_id id h.batches ++ b ∷ [] ≡ of_id id (h.batches ++ b ∷ []) = sym (pushed id ∙ ap (λ t. of_id id h.batches ++ cond t (b ∷ []) []) same) in
+        let end : of_id id h.batches ++ b ∷ [] ≡ of_id id (h.batches ++ b ∷ []) = sym (of_id-own id h.batches b same) in
         let moved : (later : List Sent) × (of_id id handed ≡ (of_id id h.batches ++ b ∷ []) ++ later) = subst (λ i. (later : List Sent) × (of_id i handed ≡ (of_id i h.batches ++ b ∷ []) ++ later)) here own_at in
         (moved.0, moved.1 ∙ ap (λ z. z ++ moved.0) end)
     at_id id false other =
-        let end : of_id id h.batches ≡ of_id id (h.batches ++ b ∷ []) = sym (pushed id ∙ ap (λ t. of_id id h.batches ++ cond t (b ∷ []) []) other ∙ append-nil (of_id id h.batches)) in
+        let end : of_id id h.batches ≡ of_id id (h.batches ++ b ∷ []) = sym (of_id-other id h.batches b other) in
         ((came.first id).0, (came.first id).1 ∙ ap (λ z. z ++ (came.first id).0) end)
 
 came_by : (handed : List Sent) (h : History) (b : Sent) → AreInSequence handed → CameBy handed h → Contains handed b

@@ -3,6 +3,7 @@ use Rattle.std.proofs.Common.{◌≡◌, ◌⊎◌, ℕ, ◌+◌, ◌<◌, ◌�
 use Rattle.std.specs.Prelude.{◌==◌}
 use Rattle.std.specs.Ordering.{int_eq}
 use Rattle.std.proofs.lemmas.Bool.{eqb-true, eqb-false}
+use Rattle.std.proofs.lemmas.List.{append-nil}
 use Rattle.std.proofs.lemmas.List.Elements.{filter-append}
 use Rattle.kp_log.specs.Log.{count_of}
 use Rattle.kp_log.specs.History.{Sent, of_id, records_of, stored_of}
@@ -23,6 +24,13 @@ size_of-append (x ∷ xs) ys = omega (arith, size_of-append xs ys)
 
 pub ids_apart : (m n : ℕ) → (m == n) ≡ false → int_eq (pos m) (pos n) ≡ false
 ids_apart m n other = int_apart (pos m) (pos n) (λ e. let same : m ≡ n = cc in eqb-false m n other same)
+
+-- with one batch more, an id has one batch more or the same
+pub of_id-own : (id : ℕ) (bs : List Sent) (b : Sent) → (b.id == id) ≡ true → of_id id (bs ++ b ∷ []) ≡ of_id id bs ++ b ∷ []
+of_id-own id bs b own = filter-append (λ (c : Sent). c.id == id) bs (b ∷ []) ∙ ap (λ t. of_id id bs ++ cond t (b ∷ []) []) own
+
+pub of_id-other : (id : ℕ) (bs : List Sent) (b : Sent) → (b.id == id) ≡ false → of_id id (bs ++ b ∷ []) ≡ of_id id bs
+of_id-other id bs b other = filter-append (λ (c : Sent). c.id == id) bs (b ∷ []) ∙ ap (λ t. of_id id bs ++ cond t (b ∷ []) []) other ∙ append-nil (of_id id bs)
 
 -- an id's records in the batches are those of its batches
 pub count_of-records_of : (id : ℕ) (bs : List Sent) → count_of (pos id) (records_of bs) ≡ size_of (of_id id bs)

@@ -3,8 +3,8 @@ use Rattle.std.proofs.Common.{◌≡◌, ℕ, ◌+◌, ◌-◌, ◌<◌, Bool, t
 use Rattle.std.specs.Prelude.{◌==◌}
 use Rattle.std.specs.Ordering.{int_eq}
 use Rattle.std.proofs.lemmas.Bool.{eqb-false, eqb-true, eq-eqb, ne_eqb}
-use Rattle.std.proofs.lemmas.List.{append-nil, drop-drop, length-drop, map_push}
-use Rattle.std.proofs.lemmas.List.Elements.{All-head, All-tail, All-filter, filter-append}
+use Rattle.std.proofs.lemmas.List.{drop-drop, length-drop, map_push}
+use Rattle.std.proofs.lemmas.List.Elements.{All-head, All-tail, All-filter}
 use Rattle.kp_batch.specs.declared.record.Record.{Record}
 use Rattle.kp_log.specs.declared.kept.Kept.{Kept}
 use Rattle.kp_log.specs.declared.kept.Span.{Span}
@@ -17,7 +17,7 @@ use Rattle.kp_log.specs.BrokerStep.{Answered, Offered, answered, offered_to}
 use Rattle.kp_log.specs.HandedOver.{IsStored}
 use Rattle.kp_log.proofs.LogLemmas.{int_eq_same, kept_of-appended, count_of-append, count_of_own, count_of_others}
 use Rattle.kp_log.proofs.RuleLemmas.{last_kept_push}
-use Rattle.kp_log.proofs.SequenceLemmas.{ids_apart}
+use Rattle.kp_log.proofs.SequenceLemmas.{ids_apart, of_id-own, of_id-other}
 use Rattle.kp_log.proofs.OffsetLemmas.{span_still, span_last}
 use Rattle.kp_log.proofs.RulingLemmas.{Ruling, Repeats, GoesOn, IsOlder, LeavesGap, ruling, step_of}
 use Rattle.kp_log.proofs.RuleLemmas.{judged_as}
@@ -76,7 +76,7 @@ kept_more h b whole some is =
     let old : List Span = map (span_in h.records) (of_id b.id h.batches) in
     let new : List Stored = h.records ++ stored_of b in
     let span : Span = span_at b (length h.records) in
-    let pushed : of_id b.id (h.batches ++ b ∷ []) ≡ of_id b.id h.batches ++ b ∷ [] = filter-append (λ (c : Sent). c.id == b.id) h.batches (b ∷ []) ∙ ap (λ t. of_id b.id h.batches ++ cond t (b ∷ []) []) (eq-eqb b.id b.id refl) in
+    let pushed : of_id b.id (h.batches ++ b ∷ []) ≡ of_id b.id h.batches ++ b ∷ [] = of_id-own b.id h.batches b (eq-eqb b.id b.id refl) in
     let still : map (span_in new) (of_id b.id h.batches) ≡ old = spans_agree h.records (stored_of b) (of_id b.id h.batches) (All-filter (λ (c : Sent). c.id == b.id) (IsStored h.records) h.batches whole) in
     let spans : map (span_in new) (of_id b.id (h.batches ++ b ∷ [])) ≡ old ++ span ∷ [] = ap (map (span_in new)) pushed ∙ map_push (span_in new) (of_id b.id h.batches) b ∙ ap (λ z. z ++ span_in new b ∷ []) still ∙ ap (λ s. old ++ s ∷ []) (span_last h.records b some is) in
     let count : count_of (pos b.id) new ≡ count_of (pos b.id) h.records + length b.bodies = count_of-append (pos b.id) h.records (stored_of b) ∙ ap (λ n. count_of (pos b.id) h.records + n) (count_of_own (pos b.id) b.bodies) in
@@ -101,7 +101,7 @@ appended_is_of_appended h log offset leader_epoch b of whole some is = record {
         (ap (λ t. cond t (kept_after (kept_of (pos b.id) log) (span_of log (arrived offset leader_epoch b))) (kept_of (pos b.id) log)) (int_eq_same (pos b.id)) ∙ own)
     at_id id false other =
         let swapped : (id == b.id) ≡ false = ne_eqb id b.id (λ e. eqb-false b.id id other (sym e)) in
-        let behind : of_id id (h.batches ++ b ∷ []) ≡ of_id id h.batches = filter-append (λ (c : Sent). c.id == id) h.batches (b ∷ []) ∙ ap (λ t. of_id id h.batches ++ cond t (b ∷ []) []) other ∙ append-nil (of_id id h.batches) in
+        let behind : of_id id (h.batches ++ b ∷ []) ≡ of_id id h.batches = of_id-other id h.batches b other in
         ap (λ t. cond t (kept_after (kept_of (pos b.id) log) (span_of log (arrived offset leader_epoch b))) (kept_of (pos id) log)) (ids_apart id b.id swapped)
         ∙ of.kept id
         ∙ sym (kept_still id h (stored_of b) (h.batches ++ b ∷ []) whole (count_of_others (pos id) (pos b.id) b.bodies (ids_apart b.id id other)) behind)

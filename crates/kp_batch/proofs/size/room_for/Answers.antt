@@ -17,8 +17,8 @@ loop-item-preserved g c =
     let base = base_timestamp records in
     let k = c.loop-item.item-index in
     let body = c.as_record.result.now in
-    let is = record_here record_in items k c.item-item.result body c.loop-item-test.true c.item-item.is c.as_record.ensures in
-    let step = bytes_from-here base k records body (omega (arith, length-map items record_in)) is in
+    let here = record_here record_in items k c.item-item.result body c.loop-item-test.true c.item-item.is c.as_record.ensures in
+    let step = bytes_from-here base k records body here.0 here.1 in
     let one = c.record_room.ensures (pos body.timestamp -ℤ pos base) (pos k) in
     record {
       left = omega (arith, step, c.loop-item.invariant.left);
