@@ -87,15 +87,15 @@ marked_in-all (b ∷ bs) = ap suc (marked_in-all bs)
 
 -- ---- all queues
 
+sum_by-map_as : {X : Type 0} (f g : X → ℕ) (h : X → X) → ((x : X) → f (h x) ≡ g x) → (xs : List X) → sum_by f (map h xs) ≡ sum_by g xs
+sum_by-map_as f g h same [] = refl
+sum_by-map_as f g h same (x ∷ xs) = omega (arith, same x, sum_by-map_as f g h same xs, sum_by-cons f (h x) (map h xs), sum_by-cons g x xs)
+
 pub all_marked-counted : (queues : List (List Pending)) → sum_by marked_in (map (map marked_by_flush) queues) ≡ sum_by length queues
-all_marked-counted [] = refl
-all_marked-counted (q ∷ qs) =
-    omega (arith, marked_in-all q, all_marked-counted qs, sum_by-cons marked_in (map marked_by_flush q) (map (map marked_by_flush) qs), sum_by-cons {X = List Pending} length q qs)
+all_marked-counted queues = sum_by-map_as marked_in length (map marked_by_flush) marked_in-all queues
 
 pub all_marked-as_many : (queues : List (List Pending)) → sum_by length (map (map marked_by_flush) queues) ≡ sum_by length queues
-all_marked-as_many [] = refl
-all_marked-as_many (q ∷ qs) =
-    omega (arith, length-map q marked_by_flush, all_marked-as_many qs, sum_by-cons {X = List Pending} length (map marked_by_flush q) (map (map marked_by_flush) qs), sum_by-cons {X = List Pending} length q qs)
+all_marked-as_many queues = sum_by-map_as length length (map marked_by_flush) (λ q. length-map q marked_by_flush) queues
 
 pub sound-new : (c : Config) (limit n : ℕ) → checked c ≡ Ok tt → limit ≡ c.buffer_memory → IsSound c (replicate n []) limit 0 0
 sound-new c limit n e l = record {

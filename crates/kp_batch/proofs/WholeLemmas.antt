@@ -61,14 +61,8 @@ late s rs e = and_left (begins_at_base rs && are_moments s.base_timestamp rs) _ 
 pub untimely : (s : Summary) (rs : List RelativeRecord) (g : Gathered) → Known s.base_timestamp rs g → g.timed ≡ false → is_timed s rs ≡ false
 untimely s rs g known e = late s rs (sym known.times ∙ e)
 
-by_greatest : (s : Summary) (rs : List RelativeRecord) (g : Gathered) → Known s.base_timestamp rs g → g.timed ≡ true → is_timed s rs ≡ int_eq s.max_timestamp (pos g.greatest)
+pub by_greatest : (s : Summary) (rs : List RelativeRecord) (g : Gathered) → Known s.base_timestamp rs g → g.timed ≡ true → is_timed s rs ≡ int_eq s.max_timestamp (pos g.greatest)
 unfolding is_timed
 by_greatest s rs g known e =
     ap (λ (t : Bool). t && int_eq s.max_timestamp (pos (max_timestamp (records_of s.base_timestamp rs)))) (sym (timely_are s.base_timestamp rs) ∙ sym known.times ∙ e)
     ∙ ap (λ (n : ℕ). int_eq s.max_timestamp (pos n)) (sym (known.greatest e))
-
-pub other_greatest : (s : Summary) (rs : List RelativeRecord) (g : Gathered) → Known s.base_timestamp rs g → g.timed ≡ true → int_eq s.max_timestamp (pos g.greatest) ≡ false → is_timed s rs ≡ false
-other_greatest s rs g known e other = by_greatest s rs g known e ∙ other
-
-pub same_greatest : (s : Summary) (rs : List RelativeRecord) (g : Gathered) → Known s.base_timestamp rs g → g.timed ≡ true → int_eq s.max_timestamp (pos g.greatest) ≡ true → is_timed s rs ≡ true
-same_greatest s rs g known e same = by_greatest s rs g known e ∙ same

@@ -5,7 +5,7 @@ use Rattle.std.specs.BTreeMap.{insert_entry, is_at}
 use Rattle.std.specs.Map.{lookup}
 use Rattle.std.proofs.lemmas.Bool.{and_parts, leb-true, false_from_ne_true}
 use Rattle.std.proofs.lemmas.Bool.Decides.{Decides-int_eq, not_from_Decides}
-use Rattle.std.proofs.lemmas.List.{length-append}
+use Rattle.std.proofs.lemmas.List.{length-append, length-map}
 use Rattle.kp_wire.proofs.ChoiceLemmas.{cond_under}
 use Rattle.kp_batch.specs.declared.batch.Batch.{Batch}
 use Rattle.kp_batch.specs.declared.record.Record.{Record}
@@ -79,8 +79,7 @@ count_of_others id owner [] other = refl
 count_of_others id owner (r ∷ rs) other = rw other (count_of_others id owner rs other)
 
 pub length-stored_as : (id : ℤ) (rs : List Record) → length (stored_as id rs) ≡ length rs
-length-stored_as id [] = refl
-length-stored_as id (r ∷ rs) = ap suc (length-stored_as id rs)
+length-stored_as id rs = length-map rs _
 
 -- ---- the next batch
 
