@@ -1,21 +1,23 @@
 -- An accumulator with one queue changed, or all.
-use Rattle.std.proofs.Common.{◌≡◌, ◌∙◌, ℕ, zero, suc, ◌+◌, ◌-◌, ◌<◌, ◌≤◌, Bool, true, false, List, [], ◌∷◌, ◌++◌, length, map, take, drop, get_or, set, refl, sym, ap, subst, arith}
+use Rattle.std.proofs.Common.{◌≡◌, ◌∙◌, cond, ℕ, zero, suc, ◌+◌, ◌-◌, ◌<◌, ◌≤◌, Bool, true, false, List, [], ◌∷◌, ◌++◌, length, map, take, drop, get_or, set, refl, sym, ap, subst, arith}
 use Rattle.std.specs.Prelude.{Ok, not, nat_le, sum_by, if◌then◌else◌, replicate, filter}
 use Rattle.std.specs.List.{AllByRecursion}
 use Rattle.std.proofs.lemmas.List.Sums.{sum_by-set, sum_by-cons}
 use Rattle.std.proofs.lemmas.List.Folds.{sum_by-replicate}
-use Rattle.std.proofs.lemmas.List.{length-map, take_all, drop_all, append-nil, get_or_default}
-use Rattle.kp_wire.proofs.ListLemmas.{all_replicate}
+use Rattle.std.proofs.lemmas.List.{length-map, take_all, drop_all, append-nil, get_or_default, length-set, length-append}
+use Rattle.std.proofs.lemmas.List.Elements.{filter-append}
+use Rattle.std.proofs.lemmas.List.Sums.{length-filter}
+use Rattle.kp_wire.proofs.ListLemmas.{all_append, all_replicate}
 use Rattle.kp_batch.specs.Spelling.{measured}
 use Rattle.kp_accum.specs.declared.config.Config.{Config}
 use Rattle.kp_accum.specs.declared.item.Item.{Item}
 use Rattle.kp_accum.specs.Config.{checked}
-use Rattle.kp_accum.specs.Queue.{Pending, charge_of, joins, joined_by, begun_by, with_item, marked_by_flush, is_marked, marked_in}
+use Rattle.kp_accum.specs.Queue.{Pending, charge_of, joined_by, begun_by, with_item, marked_by_flush, is_marked, marked_in}
 use Rattle.kp_accum.specs.Accum.{Accum, is_exhausted, refusal, appended, marked}
 use Rattle.kp_accum.specs.declared.fault.AppendFault.TheVariants.{BufferFull, OutOfMemory}
 use Rattle.std.proofs.lemmas.Bool.Decides.{nat_tests}
 use Rattle.kp_accum.specs.Sound.{Fits, AllFit, IsSound}
-use Rattle.kp_accum.proofs.QueueLemmas.{IsAllowed, allowed, joined_size}
+use Rattle.kp_accum.proofs.QueueLemmas.{IsAllowed, allowed, joined_size, at_with_item}
 
 -- ---- lists
 
@@ -39,46 +41,30 @@ map_over_all f n xs le = rw (take_all n xs le, drop_all n xs le) (append-nil (ma
 
 -- ---- one queue
 
-at_join : (c : Config) (i : Item) (b : Pending) (z : Bool) → joins c i b ≡ z → IsAllowed c → charge_of i ≤ c.max_request_size → Fits c b → AllFit c (if z then joined_by i b ∷ [] else b ∷ begun_by i ∷ [])
-at_join c i b true e a one fits = (omega (arith, joined_size c i b e, a.within), tt)
-at_join c i b false e a one fits = (fits, (one, tt))
-
 pub fits-with_item : (c : Config) (i : Item) (qs : List Pending) → IsAllowed c → charge_of i ≤ c.max_request_size → AllFit c qs → AllFit c (with_item c i qs)
-unfolding with_item
-fits-with_item c i [] a one all = (one, tt)
-fits-with_item c i (b ∷ []) a one all = at_join c i b (joins c i b) refl a one all.0
-fits-with_item c i (b ∷ b' ∷ bs) a one all = (all.0, fits-with_item c i (b' ∷ bs) a one all.1)
+fits-with_item c i qs a one all =
+    at_with_item (AllFit c) c i qs
+    (λ n d last e. all-set (Fits c) qs n (joined_by i (get_or qs n d)) (omega (arith, joined_size c i (get_or qs n d) e, a.within)) all)
+    (all_append (Fits c) qs (begun_by i ∷ []) all (one, tt))
 
 -- it has one batch more at most, which is not marked
-at_join-length : (c : Config) (i : Item) (b : Pending) (z : Bool) → (n : ℕ) × (length (if z then joined_by i b ∷ [] else b ∷ begun_by i ∷ []) ≡ 1 + n) × (n ≤ 1)
-at_join-length c i b true = (0, omega arith, omega arith)
-at_join-length c i b false = (1, omega arith, omega arith)
-
 pub length-with_item : (c : Config) (i : Item) (qs : List Pending) → (n : ℕ) × (length (with_item c i qs) ≡ length qs + n) × (n ≤ 1)
-unfolding with_item
-length-with_item c i [] = (1, omega arith, omega arith)
-length-with_item c i (b ∷ []) = at_join-length c i b (joins c i b)
-length-with_item c i (b ∷ b' ∷ bs) =
-    let rest = length-with_item c i (b' ∷ bs) in
-    (rest.0, omega (arith, rest.1), rest.2)
+length-with_item c i qs =
+    at_with_item (λ new. (n : ℕ) × (length new ≡ length qs + n) × (n ≤ 1)) c i qs
+    (λ k d last e. (0, omega (arith, length-set qs k (joined_by i (get_or qs k d))), omega arith))
+    (1, omega (arith, length-append qs (begun_by i ∷ [])), omega arith)
 
-at_mark : (z : Bool) (b : Pending) (rest : List Pending) → length (if z then b ∷ filter is_marked rest else filter is_marked rest) ≡ (if z then 1 else 0) + marked_in rest
-at_mark true b rest = omega arith
-at_mark false b rest = omega arith
-
-pub marked_in-cons : (b : Pending) (rest : List Pending) → marked_in (b ∷ rest) ≡ (if b.marked then 1 else 0) + marked_in rest
-marked_in-cons b rest = at_mark b.marked b rest
-
-at_join-marked : (c : Config) (i : Item) (b : Pending) (z : Bool) → marked_in (if z then joined_by i b ∷ [] else b ∷ begun_by i ∷ []) ≡ marked_in (b ∷ [])
-at_join-marked c i b true = marked_in-cons (joined_by i b) [] ∙ sym (marked_in-cons b [])
-at_join-marked c i b false = refl
+-- a batch in the place of one that is marked as it is
+marked_in-set : (qs : List Pending) (k : ℕ) (y d : Pending) → k < length qs → y.marked ≡ (get_or qs k d).marked → marked_in (set qs k y) ≡ marked_in qs
+marked_in-set qs k y d lt same =
+    let count : Bool → ℕ = λ t. cond t 1 0 in
+    omega (arith, length-filter is_marked (set qs k y), length-filter is_marked qs, sum_by-set (λ b. count b.marked) qs k y d lt, ap count same)
 
 pub marked_in-with_item : (c : Config) (i : Item) (qs : List Pending) → marked_in (with_item c i qs) ≡ marked_in qs
-unfolding with_item
-marked_in-with_item c i [] = refl
-marked_in-with_item c i (b ∷ []) = at_join-marked c i b (joins c i b)
-marked_in-with_item c i (b ∷ b' ∷ bs) =
-    omega (arith, marked_in-cons b (with_item c i (b' ∷ bs)), marked_in-cons b (b' ∷ bs), marked_in-with_item c i (b' ∷ bs))
+marked_in-with_item c i qs =
+    at_with_item (λ new. marked_in new ≡ marked_in qs) c i qs
+    (λ k d last e. marked_in-set qs k (joined_by i (get_or qs k d)) d (omega arith) refl)
+    (ap length (filter-append is_marked qs (begun_by i ∷ []) ∙ append-nil (filter is_marked qs)))
 
 -- where all are marked, they are as many as there are
 pub marked_in-all : (qs : List Pending) → marked_in (map marked_by_flush qs) ≡ length qs
