@@ -7,6 +7,8 @@ use Rattle.kp_batch.specs.Spelling.{max_timestamp}
 use Rattle.std.proofs.Math.Dec.{eqb-suc-zero}
 use Rattle.kp_wire.specs.declared.fault.WireFault.{WireFault}
 use Rattle.kp_wire.specs.declared.fault.WireFault.TheVariants.{BadLength}
+use Rattle.std.specs.Prelude.{not}
+use Rattle.kp_wire.specs.Reading.{◌>>=◌, refuse}
 use Rattle.kp_wire.specs.Codec.{read_many}
 use Rattle.kp_batch.specs.declared.fault.BatchFault.TheVariants.{BadRecord, Deltas, Timestamps}
 use Rattle.kp_batch.specs.declared.relative.RelativeRecord.{RelativeRecord}
@@ -22,35 +24,29 @@ use Rattle.kp_batch.proofs.GatherLemmas.{timely_are}
 abbrev pub IsOpen : List ℕ → Front → Summary → List ℕ → Type 0
 IsOpen bytes f s body = opened bytes ≡ Ok (opened_of f s body)
 
-pub record_fault : (bytes : List ℕ) (f : Front) (s : Summary) (body : List ℕ) (w : WireFault) → IsOpen bytes f s body → read_many relative_record.read (nat_abs s.count) body ≡ Err w → batch_at bytes ≡ Err (BadRecord w)
-unfolding batch_at all_records
-record_fault bytes f s body w opens reads = rw (opens, reads) refl
+-- In what follows n is the count as the machine has it.
 
-pub bytes_behind : (bytes : List ℕ) (f : Front) (s : Summary) (body rest : List ℕ) (rs : List RelativeRecord) → IsOpen bytes f s body → read_many relative_record.read (nat_abs s.count) body ≡ Ok (rs, rest) → 0 < length rest
+pub record_fault : (bytes : List ℕ) (f : Front) (s : Summary) (body : List ℕ) (n : ℕ) (w : WireFault) → IsOpen bytes f s body → n ≡ nat_abs s.count → read_many relative_record.read n body ≡ Err w
+    → batch_at bytes ≡ Err (BadRecord w)
+unfolding batch_at all_records
+record_fault bytes f s body n w opens count reads = rw (opens, ← count, reads) refl
+
+pub bytes_behind : (bytes : List ℕ) (f : Front) (s : Summary) (body rest : List ℕ) (n : ℕ) (rs : List RelativeRecord) → IsOpen bytes f s body → n ≡ nat_abs s.count → read_many relative_record.read n body ≡ Ok (rs, rest) → 0 < length rest
     → batch_at bytes ≡ Err (BadRecord BadLength)
 unfolding batch_at all_records
-bytes_behind bytes f s body [] rs opens reads more = absurd (omega arith)
-bytes_behind bytes f s body (x ∷ rest) rs opens reads more = rw (opens, reads, eqb-suc-zero (length rest)) refl
+bytes_behind bytes f s body [] n rs opens count reads more = absurd (omega arith)
+bytes_behind bytes f s body (x ∷ rest) n rs opens count reads more = rw (opens, ← count, reads, eqb-suc-zero (length rest)) refl
 
 all_read : (n : ℕ) (body rest : List ℕ) (rs : List RelativeRecord) → read_many relative_record.read n body ≡ Ok (rs, rest) → length rest ≡ 0 → all_records n body ≡ Ok rs
 unfolding all_records
 all_read n body rest rs reads none = rw (reads, none) refl
 
-pub out_of_places : (bytes : List ℕ) (f : Front) (s : Summary) (body rest : List ℕ) (rs : List RelativeRecord) → IsOpen bytes f s body → read_many relative_record.read (nat_abs s.count) body ≡ Ok (rs, rest) → length rest ≡ 0
-    → in_places 0 rs ≡ false → batch_at bytes ≡ Err Deltas
+-- all records are read: the rows are left that look at their places and times
+pub by_rows : (bytes : List ℕ) (f : Front) (s : Summary) (body rest : List ℕ) (n : ℕ) (rs : List RelativeRecord) (places times : Bool) → IsOpen bytes f s body → n ≡ nat_abs s.count → read_many relative_record.read n body ≡ Ok (rs, rest)
+    → length rest ≡ 0 → in_places 0 rs ≡ places → is_timed s rs ≡ times
+    → batch_at bytes ≡ (refuse (not places) Deltas >>= λ _. refuse (not times) Timestamps >>= λ _. Ok (record { base_offset = f.base_offset; leader_epoch = f.leader_epoch; head = s.head; records = records_of s.base_timestamp rs }))
 unfolding batch_at
-out_of_places bytes f s body rest rs opens reads none places = rw (opens, all_read (nat_abs s.count) body rest rs reads none, places) refl
-
-pub not_timed : (bytes : List ℕ) (f : Front) (s : Summary) (body rest : List ℕ) (rs : List RelativeRecord) → IsOpen bytes f s body → read_many relative_record.read (nat_abs s.count) body ≡ Ok (rs, rest) → length rest ≡ 0
-    → in_places 0 rs ≡ true → is_timed s rs ≡ false → batch_at bytes ≡ Err Timestamps
-unfolding batch_at
-not_timed bytes f s body rest rs opens reads none places times = rw (opens, all_read (nat_abs s.count) body rest rs reads none, places, times) refl
-
-pub whole : (bytes : List ℕ) (f : Front) (s : Summary) (body rest : List ℕ) (rs : List RelativeRecord) → IsOpen bytes f s body → read_many relative_record.read (nat_abs s.count) body ≡ Ok (rs, rest) → length rest ≡ 0
-    → in_places 0 rs ≡ true → is_timed s rs ≡ true
-    → batch_at bytes ≡ Ok (record { base_offset = f.base_offset; leader_epoch = f.leader_epoch; head = s.head; records = records_of s.base_timestamp rs })
-unfolding batch_at
-whole bytes f s body rest rs opens reads none places times = rw (opens, all_read (nat_abs s.count) body rest rs reads none, places, times) refl
+by_rows bytes f s body rest n rs places times opens count reads none placed timed = rw (opens, ← count, all_read n body rest rs reads none, placed, timed) refl
 
 -- ---- the times, by what is known
 
