@@ -1,19 +1,23 @@
 -- An accumulator with one queue changed, or all.
-use Rattle.std.proofs.Common.{◌≡◌, ◌∙◌, ℕ, zero, suc, ◌+◌, ◌-◌, ◌<◌, ◌≤◌, Bool, true, false, List, [], ◌∷◌, ◌++◌, length, map, take, drop, get_or, set, refl, sym, ap, subst, arith}
+use Rattle.std.proofs.Common.{◌≡◌, ◌∙◌, cond, ℕ, zero, suc, ◌+◌, ◌-◌, ◌<◌, ◌≤◌, Bool, true, false, List, [], ◌∷◌, ◌++◌, length, map, take, drop, get_or, set, refl, sym, ap, subst, arith}
 use Rattle.std.specs.Prelude.{Ok, not, nat_le, sum_by, if◌then◌else◌, replicate, filter}
 use Rattle.std.specs.List.{AllByRecursion}
 use Rattle.std.proofs.lemmas.List.Sums.{sum_by-set, sum_by-cons}
-use Rattle.std.proofs.lemmas.List.{length-map, take_all, drop_all, append-nil, get_or_default}
+use Rattle.std.proofs.lemmas.List.Folds.{sum_by-replicate}
+use Rattle.std.proofs.lemmas.List.{length-map, take_all, drop_all, append-nil, get_or_default, length-set, length-append}
+use Rattle.std.proofs.lemmas.List.Elements.{filter-append}
+use Rattle.std.proofs.lemmas.List.Sums.{length-filter}
+use Rattle.kp_wire.proofs.ListLemmas.{all_append, all_replicate}
 use Rattle.kp_batch.specs.Spelling.{measured}
 use Rattle.kp_accum.specs.declared.config.Config.{Config}
 use Rattle.kp_accum.specs.declared.item.Item.{Item}
 use Rattle.kp_accum.specs.Config.{checked}
-use Rattle.kp_accum.specs.Queue.{Pending, charge_of, joins, joined_by, begun_by, with_item, marked_by_flush, is_marked, marked_in}
+use Rattle.kp_accum.specs.Queue.{Pending, charge_of, joined_by, begun_by, with_item, marked_by_flush, is_marked, marked_in}
 use Rattle.kp_accum.specs.Accum.{Accum, is_exhausted, refusal, appended, marked}
 use Rattle.kp_accum.specs.declared.fault.AppendFault.TheVariants.{BufferFull, OutOfMemory}
 use Rattle.std.proofs.lemmas.Bool.Decides.{nat_tests}
 use Rattle.kp_accum.specs.Sound.{Fits, AllFit, IsSound}
-use Rattle.kp_accum.proofs.QueueLemmas.{IsAllowed, allowed, joined_size}
+use Rattle.kp_accum.proofs.QueueLemmas.{IsAllowed, allowed, joined_size, at_with_item}
 
 -- ---- lists
 
@@ -31,60 +35,36 @@ pub all-map : {X : Type 0} (P : X → Type 0) (f : X → X) → ((x : X) → P x
 all-map P f kept [] all = all
 all-map P f kept (x ∷ xs) all = (kept x all.0, all-map P f kept xs all.1)
 
-pub all-replicate : {X : Type 0} (P : X → Type 0) (x : X) → P x → (n : ℕ) → AllByRecursion P (replicate n x)
-all-replicate P x it zero = tt
-all-replicate P x it (suc n) = (it, all-replicate P x it n)
-
-pub sum_by-replicate_none : {X : Type 0} (f : X → ℕ) (x : X) → f x ≡ 0 → (n : ℕ) → 0 ≡ sum_by f (replicate n x)
-sum_by-replicate_none f x e zero = refl
-sum_by-replicate_none f x e (suc n) = omega (arith, e, sum_by-replicate_none f x e n, sum_by-cons f x (replicate n x))
-
 -- a loop that wrote f x over each element x of xs
 pub map_over_all : {X : Type 0} (f : X → X) (n : ℕ) (xs : List X) → length xs ≤ n → map f (take n xs) ++ drop n xs ≡ map f xs
 map_over_all f n xs le = rw (take_all n xs le, drop_all n xs le) (append-nil (map f xs))
 
 -- ---- one queue
 
-at_join : (c : Config) (i : Item) (b : Pending) (z : Bool) → joins c i b ≡ z → IsAllowed c → charge_of i ≤ c.max_request_size → Fits c b → AllFit c (if z then joined_by i b ∷ [] else b ∷ begun_by i ∷ [])
-at_join c i b true e a one fits = (omega (arith, joined_size c i b e, a.within), tt)
-at_join c i b false e a one fits = (fits, (one, tt))
-
 pub fits-with_item : (c : Config) (i : Item) (qs : List Pending) → IsAllowed c → charge_of i ≤ c.max_request_size → AllFit c qs → AllFit c (with_item c i qs)
-unfolding with_item
-fits-with_item c i [] a one all = (one, tt)
-fits-with_item c i (b ∷ []) a one all = at_join c i b (joins c i b) refl a one all.0
-fits-with_item c i (b ∷ b' ∷ bs) a one all = (all.0, fits-with_item c i (b' ∷ bs) a one all.1)
+fits-with_item c i qs a one all =
+    at_with_item (AllFit c) c i qs
+    (λ n d last e. all-set (Fits c) qs n (joined_by i (get_or qs n d)) (omega (arith, joined_size c i (get_or qs n d) e, a.within)) all)
+    (all_append (Fits c) qs (begun_by i ∷ []) all (one, tt))
 
 -- it has one batch more at most, which is not marked
-at_join-length : (c : Config) (i : Item) (b : Pending) (z : Bool) → (n : ℕ) × (length (if z then joined_by i b ∷ [] else b ∷ begun_by i ∷ []) ≡ 1 + n) × (n ≤ 1)
-at_join-length c i b true = (0, omega arith, omega arith)
-at_join-length c i b false = (1, omega arith, omega arith)
-
 pub length-with_item : (c : Config) (i : Item) (qs : List Pending) → (n : ℕ) × (length (with_item c i qs) ≡ length qs + n) × (n ≤ 1)
-unfolding with_item
-length-with_item c i [] = (1, omega arith, omega arith)
-length-with_item c i (b ∷ []) = at_join-length c i b (joins c i b)
-length-with_item c i (b ∷ b' ∷ bs) =
-    let rest = length-with_item c i (b' ∷ bs) in
-    (rest.0, omega (arith, rest.1), rest.2)
+length-with_item c i qs =
+    at_with_item (λ new. (n : ℕ) × (length new ≡ length qs + n) × (n ≤ 1)) c i qs
+    (λ k d last e. (0, omega (arith, length-set qs k (joined_by i (get_or qs k d))), omega arith))
+    (1, omega (arith, length-append qs (begun_by i ∷ [])), omega arith)
 
-at_mark : (z : Bool) (b : Pending) (rest : List Pending) → length (if z then b ∷ filter is_marked rest else filter is_marked rest) ≡ (if z then 1 else 0) + marked_in rest
-at_mark true b rest = omega arith
-at_mark false b rest = omega arith
-
-pub marked_in-cons : (b : Pending) (rest : List Pending) → marked_in (b ∷ rest) ≡ (if b.marked then 1 else 0) + marked_in rest
-marked_in-cons b rest = at_mark b.marked b rest
-
-at_join-marked : (c : Config) (i : Item) (b : Pending) (z : Bool) → marked_in (if z then joined_by i b ∷ [] else b ∷ begun_by i ∷ []) ≡ marked_in (b ∷ [])
-at_join-marked c i b true = marked_in-cons (joined_by i b) [] ∙ sym (marked_in-cons b [])
-at_join-marked c i b false = refl
+-- a batch in the place of one that is marked as it is
+marked_in-set : (qs : List Pending) (k : ℕ) (y d : Pending) → k < length qs → y.marked ≡ (get_or qs k d).marked → marked_in (set qs k y) ≡ marked_in qs
+marked_in-set qs k y d lt same =
+    let count : Bool → ℕ = λ t. cond t 1 0 in
+    omega (arith, length-filter is_marked (set qs k y), length-filter is_marked qs, sum_by-set (λ b. count b.marked) qs k y d lt, ap count same)
 
 pub marked_in-with_item : (c : Config) (i : Item) (qs : List Pending) → marked_in (with_item c i qs) ≡ marked_in qs
-unfolding with_item
-marked_in-with_item c i [] = refl
-marked_in-with_item c i (b ∷ []) = at_join-marked c i b (joins c i b)
-marked_in-with_item c i (b ∷ b' ∷ bs) =
-    omega (arith, marked_in-cons b (with_item c i (b' ∷ bs)), marked_in-cons b (b' ∷ bs), marked_in-with_item c i (b' ∷ bs))
+marked_in-with_item c i qs =
+    at_with_item (λ new. marked_in new ≡ marked_in qs) c i qs
+    (λ k d last e. marked_in-set qs k (joined_by i (get_or qs k d)) d (omega arith) refl)
+    (ap length (filter-append is_marked qs (begun_by i ∷ []) ∙ append-nil (filter is_marked qs)))
 
 -- where all are marked, they are as many as there are
 pub marked_in-all : (qs : List Pending) → marked_in (map marked_by_flush qs) ≡ length qs
@@ -93,23 +73,23 @@ marked_in-all (b ∷ bs) = ap suc (marked_in-all bs)
 
 -- ---- all queues
 
+sum_by-map_as : {X : Type 0} (f g : X → ℕ) (h : X → X) → ((x : X) → f (h x) ≡ g x) → (xs : List X) → sum_by f (map h xs) ≡ sum_by g xs
+sum_by-map_as f g h same [] = refl
+sum_by-map_as f g h same (x ∷ xs) = omega (arith, same x, sum_by-map_as f g h same xs, sum_by-cons f (h x) (map h xs), sum_by-cons g x xs)
+
 pub all_marked-counted : (queues : List (List Pending)) → sum_by marked_in (map (map marked_by_flush) queues) ≡ sum_by length queues
-all_marked-counted [] = refl
-all_marked-counted (q ∷ qs) =
-    omega (arith, marked_in-all q, all_marked-counted qs, sum_by-cons marked_in (map marked_by_flush q) (map (map marked_by_flush) qs), sum_by-cons {X = List Pending} length q qs)
+all_marked-counted queues = sum_by-map_as marked_in length (map marked_by_flush) marked_in-all queues
 
 pub all_marked-as_many : (queues : List (List Pending)) → sum_by length (map (map marked_by_flush) queues) ≡ sum_by length queues
-all_marked-as_many [] = refl
-all_marked-as_many (q ∷ qs) =
-    omega (arith, length-map q marked_by_flush, all_marked-as_many qs, sum_by-cons {X = List Pending} length (map marked_by_flush q) (map (map marked_by_flush) qs), sum_by-cons {X = List Pending} length q qs)
+all_marked-as_many queues = sum_by-map_as length length (map marked_by_flush) (λ q. length-map q marked_by_flush) queues
 
 pub sound-new : (c : Config) (limit n : ℕ) → checked c ≡ Ok tt → limit ≡ c.buffer_memory → IsSound c (replicate n []) limit 0 0
 sound-new c limit n e l = record {
   allowed = e;
   limited = l;
-  counted = sum_by-replicate_none length [] refl n;
-  marks = sum_by-replicate_none marked_in [] refl n;
-  fitting = all-replicate (AllFit c) [] tt n;
+  counted = omega (arith, sum_by-replicate {X = List Pending} length n []);
+  marks = omega (arith, sum_by-replicate marked_in n []);
+  fitting = all_replicate (AllFit c) n [] tt;
 }
 
 -- one queue is another, of which so many more or fewer are counted
@@ -153,8 +133,10 @@ charge-small a i c queues used limit batches marked e sound fits =
     omega (arith, fits, (allowed c sound.allowed).request, ap (λ (x : Accum). x.config.max_request_size) e)
 
 -- there is room exactly where the memory is not exhausted
-pub exhausted-is : (a : Accum) (i : Item) (c : Config) (queues : List (List Pending)) (used limit batches marked n : ℕ) (room : Bool) → record { config = c; queues = queues; used = used } ≡ a → IsSound c queues limit batches marked → n ≡ charge_of i → room ≡ nat_le (used + n) limit → is_exhausted i a ≡ not room
-exhausted-is a i c queues used limit batches marked n room e sound one is =
+pub exhausted-is : (a : Accum) (i : Item) (c : Config) (queues : List (List Pending)) (used limit batches marked n : ℕ) (room : Bool) → record { config = c; queues = queues; used = used } ≡ a → IsSound c queues limit batches marked
+    → charge_of i ≤ a.config.max_request_size → (charge_of i ≤ 2147483647 → n ≡ charge_of i) → room ≡ nat_le (used + n) limit → is_exhausted i a ≡ not room
+exhausted-is a i c queues used limit batches marked n room e sound fits exact is =
+    let one = exact (charge-small a i c queues used limit batches marked e sound fits) in
     let memory : limit ≡ a.config.buffer_memory = sound.limited ∙ ap (λ (x : Accum). x.config.buffer_memory) e in
     let before : used ≡ a.used = ap (λ (x : Accum). x.used) e in
     grind (arith, nat_tests)

@@ -1,9 +1,11 @@
 -- Sizes of batches that wait, and where an item goes.
-use Rattle.std.proofs.Common.{◌≡◌, ◌∙◌, ℕ, zero, suc, ◌+◌, ◌-◌, ◌^◌, ◌<◌, ◌≤◌, true, false, List, [], ◌∷◌, ◌++◌, length, map, get_or, set, refl, sym, ap, arith}
+use Rattle.std.proofs.Common.{◌≡◌, ◌∙◌, ℕ, zero, suc, ◌+◌, ◌-◌, ◌^◌, ◌<◌, ◌≤◌, true, false, true≢false, List, [], ◌∷◌, ◌++◌, length, map, get_or, set, refl, sym, ap, subst, arith}
 use Rattle.std.specs.Prelude.{Ok, if◌then◌else◌}
 use Rattle.std.proofs.lemmas.List.{length-map, map-append}
 use Rattle.std.proofs.lemmas.List.Sums.{sum_by-cons}
+use Rattle.std.proofs.lemmas.Bool.{cond_both}
 use Rattle.std.proofs.lemmas.Bool.Decides.{nat_tests}
+use Rattle.kp_wire.proofs.ChoiceLemmas.{cond_under}
 use Rattle.kp_batch.specs.Spelling.{measured, size_of_batch, base_timestamp}
 use Rattle.kp_batch.proofs.SizeLemmas.{small_measured, size_of_batch-is, many_records}
 use Rattle.kp_accum.specs.declared.config.Config.{Config}
@@ -87,27 +89,35 @@ joined_size c i b e = grind (arith, nat_tests)
 
 -- ---- the queue with one item more
 
-pub joined_last : (c : Config) (i : Item) (qs : List Pending) (n : ℕ) (d : Pending) → suc n ≡ length qs → joins c i (get_or qs n d) ≡ true → with_item c i qs ≡ set qs n (joined_by i (get_or qs n d))
+-- by whether it joins the last batch
+with_item-last : (c : Config) (i : Item) (qs : List Pending) (n : ℕ) (d : Pending) → suc n ≡ length qs
+    → with_item c i qs ≡ (if joins c i (get_or qs n d) then set qs n (joined_by i (get_or qs n d)) else qs ++ begun_by i ∷ [])
 unfolding with_item
-joined_last c i [] n d h e = absurd (omega arith)
-joined_last c i (b ∷ []) zero d h e = ap (λ z. if z then joined_by i b ∷ [] else b ∷ begun_by i ∷ []) e
-joined_last c i (b ∷ []) (suc n) d h e = absurd (omega arith)
-joined_last c i (b ∷ b' ∷ bs) zero d h e = absurd (omega arith)
-joined_last c i (b ∷ b' ∷ bs) (suc n) d h e = let k : suc n ≡ length (b' ∷ bs) = omega arith in ap (λ z. b ∷ z) (joined_last c i (b' ∷ bs) n d k e)
+with_item-last c i [] n d h = absurd (omega arith)
+with_item-last c i (b ∷ []) zero d h = refl
+with_item-last c i (b ∷ []) (suc n) d h = absurd (omega arith)
+with_item-last c i (b ∷ b' ∷ bs) zero d h = absurd (omega arith)
+with_item-last c i (b ∷ b' ∷ bs) (suc n) d h =
+    let k : suc n ≡ length (b' ∷ bs) = omega arith in
+    ap (λ z. b ∷ z) (with_item-last c i (b' ∷ bs) n d k) ∙ cond_under (λ z. b ∷ z) (joins c i (get_or (b' ∷ bs) n d)) _ _
 
-begun_last : (c : Config) (i : Item) (qs : List Pending) (n : ℕ) (d : Pending) → suc n ≡ length qs → joins c i (get_or qs n d) ≡ false → with_item c i qs ≡ qs ++ begun_by i ∷ []
+-- what holds of the queue where the item joins the last batch, and where it begins one behind it, holds
+pub at_with_item : (P : List Pending → Type 0) (c : Config) (i : Item) (qs : List Pending)
+    → ((n : ℕ) (d : Pending) → suc n ≡ length qs → joins c i (get_or qs n d) ≡ true → P (set qs n (joined_by i (get_or qs n d)))) → P (qs ++ begun_by i ∷ []) → P (with_item c i qs)
 unfolding with_item
-begun_last c i [] n d h e = absurd (omega arith)
-begun_last c i (b ∷ []) zero d h e = ap (λ z. if z then joined_by i b ∷ [] else b ∷ begun_by i ∷ []) e
-begun_last c i (b ∷ []) (suc n) d h e = absurd (omega arith)
-begun_last c i (b ∷ b' ∷ bs) zero d h e = absurd (omega arith)
-begun_last c i (b ∷ b' ∷ bs) (suc n) d h e = let k : suc n ≡ length (b' ∷ bs) = omega arith in ap (λ z. b ∷ z) (begun_last c i (b' ∷ bs) n d k e)
+at_with_item P c i [] joined begun = begun
+at_with_item P c i (b ∷ bs) joined begun =
+    subst P (sym (with_item-last c i (b ∷ bs) (length bs) b refl))
+    (cond_both (joins c i (get_or (b ∷ bs) (length bs) b)) _ _ P (λ e. joined (length bs) b refl e) (λ e. begun))
+
+pub joined_last : (c : Config) (i : Item) (qs : List Pending) (n : ℕ) (d : Pending) → suc n ≡ length qs → joins c i (get_or qs n d) ≡ true → with_item c i qs ≡ set qs n (joined_by i (get_or qs n d))
+joined_last c i qs n d h e = with_item-last c i qs n d h ∙ ap (λ z. if z then set qs n (joined_by i (get_or qs n d)) else qs ++ begun_by i ∷ []) e
 
 -- where the item joins no last batch
 pub begun_behind : (c : Config) (i : Item) (qs : List Pending) → ((d : Pending) → 0 < length qs → false ≡ joins c i (get_or qs (length qs - 1) d)) → with_item c i qs ≡ qs ++ begun_by i ∷ []
-unfolding with_item
-begun_behind c i [] h = refl
-begun_behind c i (b ∷ bs) h =
-    let at : suc (length (b ∷ bs) - 1) ≡ length (b ∷ bs) = omega arith in
-    let some : 0 < length (b ∷ bs) = omega arith in
-    begun_last c i (b ∷ bs) (length (b ∷ bs) - 1) b at (sym (h b some))
+begun_behind c i qs h =
+    at_with_item (λ new. new ≡ qs ++ begun_by i ∷ []) c i qs
+    (λ n d last e.
+    let at : length qs - 1 ≡ n = omega arith in
+    absurd (true≢false (sym e ∙ sym (h d (omega arith) ∙ ap (λ k. joins c i (get_or qs k d)) at))))
+    refl

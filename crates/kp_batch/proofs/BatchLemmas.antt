@@ -1,20 +1,19 @@
 -- What is read as a batch is spelled so, and what is spelled so is read.
-use Rattle.std.proofs.Common.{◌≡◌, ℕ, ◌+◌, ◌<◌, Bool, true, false, cond, not, eqb, List, [], ◌++◌, length, ℤ, pos, negsuc, Result, Ok, Err, refl, sym, ap, subst, ◌∙◌, append_assoc, arith}
+use Rattle.std.proofs.Common.{◌≡◌, ℕ, ◌+◌, ◌<◌, true, false, cond, not, eqb, List, [], ◌++◌, length, ℤ, pos, negsuc, Result, Ok, Err, refl, sym, ap, subst, ◌∙◌, append_assoc, arith}
 use Rattle.std.specs.Prelude.{nat_abs, ◌+ℤ◌, ◌-ℤ◌, int_le, IfOk, MatchResult}
-use Rattle.std.specs.Int.{w8, w16, w32, w64}
+use Rattle.std.specs.Int.{w8, w32}
 use Rattle.std.specs.List.{flat_map, AllByRecursion}
 use Rattle.std.specs.Ordering.{int_eq}
 use Rattle.std.proofs.lemmas.Int.{ints}
-use Rattle.std.proofs.lemmas.Bool.{eqb-true}
+use Rattle.std.proofs.lemmas.Bool.{eqb-true, and_parts, not-false}
 use Rattle.std.proofs.lemmas.Bool.Decides.{Decides-int_eq, Decides-eqb}
 use Rattle.std.proofs.lemmas.List.{length-append, length-map, append-nil, nil_from_length}
-use Rattle.kp_wire.specs.declared.fault.WireFault.{WireFault}
 use Rattle.kp_wire.specs.declared.fault.WireFault.TheVariants.{BadLength}
-use Rattle.kp_wire.specs.Reading.{◌>>=◌}
 use Rattle.kp_wire.specs.Codec.{read_many}
 use Rattle.kp_wire.specs.Checksum.{crc}
-use Rattle.kp_wire.proofs.ReadLemmas.{IsBytes, bind_ok, ok_is}
-use Rattle.kp_wire.proofs.CodecLemmas.{IsExact, pair_exact, made_exact, int_exact, number_exact, many_takes, many_again, one_spelling as codec_spelling, wide8, wide16, wide32, wide64}
+use Rattle.kp_wire.proofs.ReadLemmas.{IsBytes, bind_ok, ok_is, no_fault, let_through, refuse_ok, or_else_ok}
+use Rattle.kp_wire.proofs.FieldLemmas.{int16_exact, int32_exact, int64_exact}
+use Rattle.kp_wire.proofs.CodecLemmas.{IsExact, pair_exact, made_exact, int_exact, number_exact, many_takes, many_again, one_spelling as codec_spelling, wide8, wide32}
 use Rattle.kp_batch.specs.declared.fault.BatchFault.{BatchFault}
 use Rattle.kp_batch.specs.declared.fault.BatchFault.TheVariants.{Short, Length, Magic, Checksum, Attributes, Count, BadRecord, Deltas, Timestamps, OutOfMemory}
 use Rattle.kp_batch.specs.declared.batch.Batch.{Batch}
@@ -25,50 +24,36 @@ use Rattle.kp_batch.specs.declared.summary.Front.{Front}
 use Rattle.kp_batch.specs.declared.summary.Summary.{Summary}
 use Rattle.kp_batch.specs.Record.{relative_record}
 use Rattle.kp_batch.specs.Spelling.{front, head, summary, base_timestamp, max_timestamp, relatives_from, relatives, summary_of, covered, front_of, spelling, HasSpelling, Spells}
-use Rattle.kp_batch.specs.Reading.{refuse, or_else, is_short, is_misfit, is_counted, Opened, opened_of, opened, all_records, in_places, are_moments, begins_at_base, absolute, records_of, is_timed, batch_at, Answers, Refuses}
+use Rattle.kp_batch.specs.Reading.{is_short, is_misfit, is_counted, Opened, opened_of, opened, all_records, in_places, are_moments, begins_at_base, absolute, records_of, is_timed, batch_at, Answers, Refuses}
 use Rattle.kp_batch.proofs.RecordLemmas.{relative_record_exact}
-use Rattle.kp_batch.proofs.RelativeLemmas.{both, HasMoment, length-relatives_from, in_places-relatives_from, are_moments-relatives_from, records_of-relatives_from, begins_at_base-relatives, have_moments, relatives_from-records_of, base_timestamp-records_of}
+use Rattle.kp_batch.proofs.RelativeLemmas.{HasMoment, length-relatives_from, in_places-relatives_from, are_moments-relatives_from, records_of-relatives_from, begins_at_base-relatives, have_moments, relatives_from-records_of, base_timestamp-records_of}
 
 -- ---- the fields before the records
 
 front_exact : IsExact 0 front
 unfolding front
-front_exact = made_exact 0 _ _ _ (λ _. refl) (λ _. refl) (pair_exact 0 _ _ (int_exact w64 wide64) (pair_exact 0 _ _ (int_exact w32 wide32) (pair_exact 0 _ _ (int_exact w32 wide32) (pair_exact 0 _ _ (int_exact w8 wide8) (number_exact w32 wide32)))))
+front_exact = made_exact 0 _ _ _ (λ _. refl) (λ _. refl) (pair_exact 0 _ _ int64_exact (pair_exact 0 _ _ int32_exact (pair_exact 0 _ _ int32_exact (pair_exact 0 _ _ (int_exact w8 wide8) (number_exact w32 wide32)))))
 
 head_exact : IsExact 0 head
 unfolding head
-head_exact = made_exact 0 _ _ _ (λ _. refl) (λ _. refl) (pair_exact 0 _ _ (int_exact w64 wide64) (pair_exact 0 _ _ (int_exact w16 wide16) (int_exact w32 wide32)))
+head_exact = made_exact 0 _ _ _ (λ _. refl) (λ _. refl) (pair_exact 0 _ _ int64_exact (pair_exact 0 _ _ int16_exact int32_exact))
 
 summary_exact : IsExact 0 summary
 unfolding summary
-summary_exact = made_exact 0 _ _ _ (λ _. refl) (λ _. refl) (pair_exact 0 _ _ (int_exact w16 wide16) (pair_exact 0 _ _ (int_exact w32 wide32) (pair_exact 0 _ _ (int_exact w64 wide64) (pair_exact 0 _ _ (int_exact w64 wide64) (pair_exact 0 _ _ head_exact (int_exact w32 wide32))))))
+summary_exact = made_exact 0 _ _ _ (λ _. refl) (λ _. refl) (pair_exact 0 _ _ int16_exact (pair_exact 0 _ _ int32_exact (pair_exact 0 _ _ int64_exact (pair_exact 0 _ _ int64_exact (pair_exact 0 _ _ head_exact int32_exact)))))
 
 pub length-front : (f : Front) → length (front.spell f) ≡ 21
 unfolding front
 length-front f = refl
+
+pub length-before : (f : Front) (rest : List ℕ) → length (front.spell f ++ rest) ≡ 21 + length rest
+length-before f rest = length-append (front.spell f) rest ∙ ap (λ (n : ℕ). n + length rest) (length-front f)
 
 pub length-summary : (s : Summary) → length (summary.spell s) ≡ 40
 unfolding summary head
 length-summary s = refl
 
 -- ---- rows that let a batch through
-
-refuse_ok : {A : Type 0} (applies : Bool) (fault : BatchFault) (f : Unit {0} → Result A BatchFault) (y : A) → (refuse applies fault >>= f) ≡ Ok y → (applies ≡ false) × (f tt ≡ Ok y)
-refuse_ok true fault f y e = absurd cc
-refuse_ok false fault f y e = (refl, e)
-
-or_else_ok : {A B : Type 0} (fault : WireFault → BatchFault) (r : Result A WireFault) (f : A → Result B BatchFault) (y : B) → (or_else fault r >>= f) ≡ Ok y → (x : A) × (r ≡ Ok x) × (f x ≡ Ok y)
-or_else_ok fault (Ok x) f y e = (x, refl, e)
-or_else_ok fault (Err w) f y e = absurd cc
-
-abbrev given : {A : Type 0} → A → Result A BatchFault
-given x = Ok x
-
-no_fault : {A : Type 0} (fault : BatchFault) (x : A) → Err fault ≡ given x → ⊥
-no_fault fault x e = cc
-
-given_is : {A : Type 0} (x y : A) → given x ≡ given y → x ≡ y
-given_is x y e = cc
 
 -- what the rows before the records let through
 record IsOpened (bytes : List ℕ) (o : Opened) : Type 0 where
@@ -93,7 +78,7 @@ is_opened bytes o e =
     let d = refuse_ok (not (eqb (crc f.0.1) f.0.0.checksum)) Checksum _ o c.1 in
     let g = refuse_ok (not (int_eq s.0.0.attributes (pos 0))) Attributes _ o d.1 in
     let h = refuse_ok (not (is_counted s.0.0)) Count _ o g.1 in
-    subst (IsOpened bytes) (given_is (opened_of f.0.0 s.0.0 s.0.1) o h.1)
+    subst (IsOpened bytes) (ok_is (opened_of f.0.0 s.0.0 s.0.1) o h.1)
     (record { rest = f.0.1; front_read = f.1; summary_read = s.1; short = a.0; misfit = b.0; magic = c.0; checksum = d.0; attributes = g.0; counted = h.0 })
 
 opened_again : (bytes : List ℕ) (o : Opened) → IsOpened bytes o → opened bytes ≡ Ok o
@@ -101,10 +86,6 @@ unfolding opened
 opened_again bytes o p = rw (p.front_read, p.summary_read, p.short, p.misfit, p.magic, p.checksum, p.attributes, p.counted) refl
 
 -- ---- rows by what they say
-
-is_true : (b : Bool) → not b ≡ false → b ≡ true
-is_true true e = refl
-is_true false e = absurd cc
 
 -- the length is that of the input
 fits_length : (f : Front) (n : ℕ) → is_short f n ≡ false → is_misfit f n ≡ false → (pos n ≡ pos 12 +ℤ f.batch_length)
@@ -117,7 +98,7 @@ is_sized f m e = rw e (grind (arith, ints), grind (arith, ints))
 
 counts : (s : Summary) → not (is_counted s) ≡ false → (s.count ≡ pos (nat_abs s.count)) × (0 < nat_abs s.count) × (s.last_offset_delta ≡ s.count -ℤ pos 1)
 unfolding is_counted
-counts s e = by_count s.count (both _ _ (is_true _ e))
+counts s e = by_count s.count (and_parts _ _ (not-false _ e))
   where
     by_count : (n : ℤ) → (int_le (pos 1) n ≡ true) × (int_eq s.last_offset_delta (n -ℤ pos 1) ≡ true) → (n ≡ pos (nat_abs n)) × (0 < nat_abs n) × (s.last_offset_delta ≡ n -ℤ pos 1)
     by_count (pos n) h = (refl, grind (arith, ints), (Decides-int_eq _ _).0 h.1)
@@ -138,15 +119,11 @@ are_records : (n : ℕ) (bytes : List ℕ) (rs : List RelativeRecord) → IsByte
 unfolding all_records
 are_records n bytes rs fits e =
     let a = bind_ok (read_many relative_record.read n bytes) (λ x. cond (eqb (length x.1) 0) (Ok x.0) (Err BadLength)) rs e in
-    let u = whole (eqb (length a.0.1) 0) a.0.0 rs a.2 in
+    let u = let_through (eqb (length a.0.1) 0) BadLength a.0.0 rs a.2 in
     let t = many_takes 0 relative_record n bytes a.0 relative_record_exact fits a.1 in
     let none : a.0.1 ≡ [] = nil_from_length a.0.1 (eqb-true _ _ u.0) in
     subst (AreRecords n bytes) u.1
     (record { count = t.0; spelled = t.1.parts ∙ ap (λ (x : List ℕ). flat_map relative_record.spell a.0.0 ++ x) none ∙ append-nil (flat_map relative_record.spell a.0.0); fits = t.2 })
-  where
-    whole : (b : Bool) (x y : List RelativeRecord) → cond b (Ok x) (Err BadLength) ≡ Ok y → (b ≡ true) × (x ≡ y)
-    whole true x y e = (refl, ok_is x y e)
-    whole false x y e = absurd cc
 
 records_again : (rs : List RelativeRecord) → AllByRecursion relative_record.Fits rs → all_records (length rs) (flat_map relative_record.spell rs) ≡ Ok rs
 unfolding all_records
@@ -174,7 +151,7 @@ front_is f n m c e1 e2 e3 =
 -- the timestamps are as the batch names them
 timed : (s : Summary) (rs : List RelativeRecord) → is_timed s rs ≡ true → (begins_at_base rs ≡ true) × (are_moments s.base_timestamp rs ≡ true) × (s.max_timestamp ≡ pos (max_timestamp (records_of s.base_timestamp rs)))
 unfolding is_timed
-timed s rs e = let a = both _ _ e in let b = both _ _ a.0 in (b.0, b.1, (Decides-int_eq _ _).0 a.1)
+timed s rs e = let a = and_parts _ _ e in let b = and_parts _ _ a.0 in (b.0, b.1, (Decides-int_eq _ _).0 a.1)
 
 -- ---- a batch that was read
 
@@ -194,7 +171,7 @@ is_read_as bytes b e =
     let rs = or_else_ok BadRecord (all_records (nat_abs o.0.summary.count) o.0.records) _ b o.2 in
     let p = refuse_ok (not (in_places 0 rs.0)) Deltas _ b rs.2 in
     let t = refuse_ok (not (is_timed o.0.summary rs.0)) Timestamps _ b p.1 in
-    (o.0, rs.0, record { opens = is_opened bytes o.0 o.1; records = rs.1; places = is_true _ p.0; times = is_true _ t.0 }, given_is (batch_of o.0 rs.0) b t.1)
+    (o.0, rs.0, record { opens = is_opened bytes o.0 o.1; records = rs.1; places = not-false _ p.0; times = not-false _ t.0 }, ok_is (batch_of o.0 rs.0) b t.1)
 
 -- what stands before the records, and the records, as they are spelled
 record IsSpelledAs (bytes : List ℕ) (o : Opened) (rs : List RelativeRecord) (records : List Record) : Type 0 where
@@ -228,15 +205,15 @@ is_spelled_as bytes o rs fits p =
     let same : length recs ≡ length rs = length-map rs (absolute base) in
     let count-is : o.summary.count ≡ pos (length recs) = c.0 ∙ ap pos (sym r.count ∙ sym same) in
     let last-is : o.summary.last_offset_delta ≡ pos (length recs) -ℤ pos 1 = c.2 ∙ ap (λ (z : ℤ). z -ℤ pos 1) count-is in
-    let none : o.summary.attributes ≡ pos 0 = (Decides-int_eq _ _).0 (is_true _ p.opens.attributes) in
+    let none : o.summary.attributes ≡ pos 0 = (Decides-int_eq _ _).0 (not-false _ p.opens.attributes) in
     let sum : o.summary ≡ summary_of o.summary.head recs = summary_is o.summary _ _ _ _ _ none last-is base-is t.2 count-is in
     let cov : covered o.summary.head recs ≡ summary.spell o.summary ++ o.records = ap (λ (x : Summary). summary.spell x ++ flat_map relative_record.spell (relatives recs)) (sym sum) ∙ ap (λ (x : List RelativeRecord). summary.spell o.summary ++ flat_map relative_record.spell x) rel ∙ ap (λ (x : List ℕ). summary.spell o.summary ++ x) (sym r.spelled) in
     let rest-is : p.opens.rest ≡ covered o.summary.head recs = s.0.parts ∙ sym cov in
-    let size : length bytes ≡ 21 + length p.opens.rest = ap length f.0.parts ∙ length-append (front.spell o.front) p.opens.rest ∙ ap (λ (n : ℕ). n + length p.opens.rest) (length-front o.front) in
+    let size : length bytes ≡ 21 + length p.opens.rest = ap length f.0.parts ∙ length-before o.front p.opens.rest in
     let len : pos (length bytes) ≡ pos 12 +ℤ o.front.batch_length = fits_length o.front (length bytes) p.opens.short p.opens.misfit in
     let batch-length : o.front.batch_length ≡ pos (9 + length (covered o.summary.head recs)) = length_of o.front.batch_length (length bytes) (length (covered o.summary.head recs)) len (size ∙ ap (λ (x : List ℕ). 21 + length x) rest-is) in
-    let magic : o.front.magic ≡ pos 2 = (Decides-int_eq _ _).0 (is_true _ p.opens.magic) in
-    let sumcheck : o.front.checksum ≡ crc (covered o.summary.head recs) = sym (eqb-true _ _ (is_true _ p.opens.checksum)) ∙ ap crc rest-is in
+    let magic : o.front.magic ≡ pos 2 = (Decides-int_eq _ _).0 (not-false _ p.opens.magic) in
+    let sumcheck : o.front.checksum ≡ crc (covered o.summary.head recs) = sym (eqb-true _ _ (not-false _ p.opens.checksum)) ∙ ap crc rest-is in
     record {
       relative = rel;
       summarized = sum;
@@ -291,8 +268,7 @@ length-covered h rs = length-append (summary.spell (summary_of h rs)) (flat_map 
 pub length-spelling : (b : Batch) → length (spelling b) ≡ 61 + length (flat_map relative_record.spell (relatives b.records))
 unfolding spelling
 length-spelling b =
-    length-append (front.spell (front_of b)) (covered b.head b.records)
-    ∙ omega (arith, length-front (front_of b), length-covered b.head b.records)
+    length-before (front_of b) (covered b.head b.records) ∙ omega (arith, length-covered b.head b.records)
 
 opens_again : (b : Batch) → HasSpelling b → IsOpened (spelling b) (opened_as b)
 unfolding spelling front_of covered
@@ -350,7 +326,7 @@ only_memory bytes b Deltas e r = absurd (no_fault Deltas b (sym r ∙ e))
 only_memory bytes b Timestamps e r = absurd (no_fault Timestamps b (sym r ∙ e))
 
 pub only : (bytes : List ℕ) (r : Result Batch BatchFault) (b : Batch) → Answers bytes (λ b. b) r (batch_at bytes) → Spells bytes b → MatchResult r (λ x. x ≡ b) (λ fault. fault ≡ OutOfMemory)
-only bytes (Ok x) b e p = given_is x b (sym e ∙ batch_again bytes b p)
+only bytes (Ok x) b e p = ok_is x b (sym e ∙ batch_again bytes b p)
 only bytes (Err fault) b e p = only_memory bytes b fault (batch_again bytes b p) e
 
 -- ---- one spelling
@@ -367,4 +343,4 @@ one_spelling a b x y rest p q e =
     let longer : length (covered b.head b.records) ≡ length cov + length rest = ap length same.1 ∙ length-append cov rest in
     let none : rest ≡ [] = nil_from_length rest (omega (arith, ints)) in
     let equal : y ≡ x = e ∙ ap (λ (z : List ℕ). x ++ z) none ∙ append-nil x in
-    (given_is a b (sym (batch_again x a p) ∙ ap batch_at (sym equal) ∙ batch_again y b q), none)
+    (ok_is a b (sym (batch_again x a p) ∙ ap batch_at (sym equal) ∙ batch_again y b q), none)

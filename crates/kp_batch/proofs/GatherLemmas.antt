@@ -2,7 +2,9 @@
 use Rattle.std.proofs.Common.{◌≡◌, ℕ, suc, ◌+◌, ◌-◌, max, Bool, true, false, cond, ◌&&◌, List, [], ◌∷◌, ◌++◌, ◌⊎◌, length, ℤ, pos, Some, None, refl, sym, ap, ◌∙◌, arith, inl, inr}
 use Rattle.std.specs.Prelude.{nat_abs, ◌+ℤ◌}
 use Rattle.std.specs.Ordering.{int_eq}
-use Rattle.std.proofs.lemmas.Bool.{lt-ltb}
+use Rattle.std.proofs.lemmas.Bool.{lt-ltb, and_left, and_right}
+use Rattle.std.proofs.lemmas.Option.{cond_some}
+use Rattle.std.proofs.Math.Bool.{and-true, and_assoc, and_comm}
 use Rattle.std.proofs.lemmas.List.{map-append}
 use Rattle.kp_wire.specs.Codec.{read_many}
 use Rattle.kp_wire.proofs.ManyLemmas.{with_front, with_none}
@@ -20,20 +22,12 @@ all_from : {A : Type 0} → (ℕ → A → Bool) → ℕ → List A → Bool
 all_from test k [] = true
 all_from test k (x ∷ xs) = test k x && all_from test (suc k) xs
 
-and_true : (b : Bool) → (b && true) ≡ b
-and_true true = refl
-and_true false = refl
-
-and_assoc : (a b c : Bool) → (a && (b && c)) ≡ ((a && b) && c)
-and_assoc true b c = refl
-and_assoc false b c = refl
-
 all_from-end : {A : Type 0} (test : ℕ → A → Bool) (k : ℕ) (xs : List A) (x : A) → all_from test k (xs ++ x ∷ []) ≡ (all_from test k xs && test (k + length xs) x)
 unfolding all_from
-all_from-end test k [] x = let e : k + 0 ≡ k = omega arith in rw e (and_true (test k x))
+all_from-end test k [] x = let e : k + 0 ≡ k = omega arith in rw e (and-true (test k x))
 all_from-end test k (y ∷ xs) x =
     let e : k + suc (length xs) ≡ suc k + length xs = omega arith in
-    rw (e, all_from-end test (suc k) xs x) (and_assoc (test k y) (all_from test (suc k) xs) (test (suc k + length xs) x))
+    rw (e, all_from-end test (suc k) xs x) (sym (and_assoc (test k y) (all_from test (suc k) xs) (test (suc k + length xs) x)))
 
 in_place : ℕ → RelativeRecord → Bool
 in_place k r = int_eq r.offset_delta (pos k)
@@ -65,13 +59,10 @@ are_timely-end base rs r k is =
 later_are_moments : (base : ℤ) (k : ℕ) (rs : List RelativeRecord) → are_timely base (suc k) rs ≡ are_moments base rs
 unfolding are_timely are_moments
 later_are_moments base k [] = refl
-later_are_moments base k (r ∷ rs) = rw (lt-ltb 0 (suc k) (omega arith), and_true (is_moment (base +ℤ r.timestamp_delta)), later_are_moments base (suc k) rs) refl
+later_are_moments base k (r ∷ rs) = rw (lt-ltb 0 (suc k) (omega arith), and-true (is_moment (base +ℤ r.timestamp_delta)), later_are_moments base (suc k) rs) refl
 
 swapped : (m z w : Bool) → ((m && z) && w) ≡ (z && (m && w))
-swapped true true w = refl
-swapped true false w = refl
-swapped false true w = refl
-swapped false false w = refl
+swapped m z w = ap (λ (b : Bool). b && w) (and_comm m z) ∙ and_assoc z m w
 
 pub timely_are : (base : ℤ) (rs : List RelativeRecord) → are_timely base 0 rs ≡ (begins_at_base rs && are_moments base rs)
 unfolding are_timely begins_at_base are_moments
@@ -86,8 +77,7 @@ max_timestamp-end [] r = omega arith
 max_timestamp-end (x ∷ rs) r = omega (arith, max_timestamp-end rs r)
 
 timely : (b : Bool) (x t : ℕ) → Some t ≡ cond b (Some x) None → (b ≡ true) × (t ≡ x)
-timely true x t e = (refl, cc)
-timely false x t e = absurd cc
+timely b x t e = let c = cond_some b x t (sym e) in (c.0, sym c.1)
 
 untimely : (b : Bool) (x : ℕ) → None ≡ cond b (Some x) None → b ≡ false
 untimely true x e = absurd cc
@@ -113,20 +103,18 @@ known_more base front g r k t places many known timed moment place =
       greatest = λ _. rw (all, max_timestamp-end (records_of base front) (absolute base r), m.1, known.greatest timed) refl;
     }
 
-and_false : (a b : Bool) → (a ≡ false) ⊎ (b ≡ false) → false ≡ (a && b)
-and_false true b (inl e) = absurd cc
-and_false true b (inr e) = sym e
-and_false false b e = refl
-
 pub known_late : (base : ℤ) (front : List RelativeRecord) (g : Gathered) (r : RelativeRecord) (k : ℕ) (places : Bool) → length front ≡ k → Known base front g
     → (g.timed ≡ false) ⊎ (None ≡ timely_moment base k r) → places ≡ (g.in_places && int_eq r.offset_delta (pos k))
     → Known base (front ++ r ∷ []) (gathered g.records g.greatest places false)
 known_late base front g r k places many known late place =
-    let why : (are_timely base 0 front ≡ false) ⊎ (is_timely base k r ≡ false) =
-    elim late [ inl e ↦ inl (sym known.times ∙ e) | inr e ↦ inr (untimely (is_timely base k r) (nat_abs (base +ℤ r.timestamp_delta)) e) ] in
+    let why : (are_timely base 0 front && is_timely base k r) ≡ false =
+    elim late [
+      | inl e ↦ and_left _ _ (sym known.times ∙ e)
+      | inr e ↦ and_right _ _ (untimely (is_timely base k r) (nat_abs (base +ℤ r.timestamp_delta)) e)
+    ] in
     record {
       places = place ∙ ap (λ (b : Bool). b && int_eq r.offset_delta (pos k)) known.places ∙ sym (in_places-end front r k many);
-      times = and_false (are_timely base 0 front) (is_timely base k r) why ∙ sym (are_timely-end base front r k many);
+      times = sym (are_timely-end base front r k many ∙ why);
       records = λ e. absurd cc;
       greatest = λ e. absurd cc;
     }

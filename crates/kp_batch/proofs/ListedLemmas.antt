@@ -4,12 +4,10 @@ use Rattle.std.proofs.lemmas.List.{length-map, get_or-map}
 use Rattle.kp_batch.specs.declared.record.Record.{Record}
 use Rattle.kp_batch.specs.Spelling.{base_timestamp, max_timestamp}
 
-pub as_many : {T : Type 0} (record_in : T → Record) (items : List T) → length (map record_in items) ≡ length items
-as_many record_in items = length-map items record_in
-
 -- the record in the item at place k stands at place k
-pub record_here : {T : Type 0} (record_in : T → Record) (items : List T) (k : ℕ) (item : T) (r : Record) → k < length items → item ≡ get_or items k item → r ≡ record_in item → r ≡ get_or (map record_in items) k r
-record_here record_in items k item r lt here is = is ∙ ap record_in here ∙ sym (get_or-map record_in items k item r lt)
+pub record_here : {T : Type 0} (record_in : T → Record) (items : List T) (k : ℕ) (item : T) (r : Record) → k < length items → item ≡ get_or items k item → r ≡ record_in item
+    → (k < length (map record_in items)) × (r ≡ get_or (map record_in items) k r)
+record_here record_in items k item r lt here is = (omega (arith, length-map items record_in), is ∙ ap record_in here ∙ sym (get_or-map record_in items k item r lt))
 
 pub first_timestamp : {T : Type 0} (record_in : T → Record) (items : List T) (item : T) (r : Record) → 0 < length items → item ≡ get_or items 0 item → r ≡ record_in item → r.timestamp ≡ base_timestamp (map record_in items)
 first_timestamp record_in [] item r some here is = absurd (omega arith)

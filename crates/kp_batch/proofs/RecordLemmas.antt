@@ -1,15 +1,14 @@
 -- The fields of a record are read as they are written.
-use Rattle.std.proofs.Common.{◌≡◌, ℕ, zero, suc, ◌+◌, ◌-◌, ◌≤◌, Bool, true, false, cond, eqb, List, [], ◌∷◌, ◌++◌, length, ℤ, Ok, Err, refl, ap, subst, ◌∙◌, arith}
+use Rattle.std.proofs.Common.{◌≡◌, ℕ, zero, suc, ◌+◌, ◌-◌, ◌≤◌, true, cond, eqb, List, [], ◌∷◌, ◌++◌, length, ℤ, Ok, Err, refl, ap, subst, ◌∙◌, arith}
 use Rattle.std.specs.Prelude.{FitsSigned}
 use Rattle.std.specs.Int.{w32}
 use Rattle.std.proofs.lemmas.List.{length-append}
 use Rattle.std.proofs.lemmas.Bool.{eqb-true}
 use Rattle.std.proofs.lemmas.Bool.Decides.{Decides-eqb}
-use Rattle.kp_wire.specs.declared.fault.WireFault.{WireFault}
 use Rattle.kp_wire.specs.declared.fault.WireFault.TheVariants.{BadLength}
 use Rattle.kp_wire.specs.Codec.{within, plain, utf8}
 use Rattle.kp_wire.specs.Varint.{varint, varlong}
-use Rattle.kp_wire.proofs.ReadLemmas.{IsBytes, IsBytes-rest, Takes, bind_ok, ok_is}
+use Rattle.kp_wire.proofs.ReadLemmas.{IsBytes, IsBytes-rest, Takes, bind_ok, ok_is, let_through}
 use Rattle.kp_wire.proofs.CodecLemmas.{IsExact, pair_exact, made_exact, within_exact, sized_exact, nullable_sized_exact, array_exact, plain_exact, utf8_exact}
 use Rattle.kp_wire.proofs.VarintLemmas.{varint_exact, varlong_exact}
 use Rattle.kp_batch.specs.declared.relative.RelativeRecord.{RelativeRecord}
@@ -75,11 +74,6 @@ fits_here after r h = h
 fits_there : (after : ℕ) (r : RelativeRecord) → (fields 0).Fits r → (fields after).Fits r
 unfolding fields headers header text bytes_or_null length_field
 fits_there after r h = h
-
--- a test that lets a value through
-pub let_through : {A : Type 0} (b : Bool) (f : WireFault) (x y : A) → cond b (Ok x) (Err f) ≡ Ok y → (b ≡ true) × (x ≡ y)
-let_through true f x y e = (refl, ok_is x y e)
-let_through false f x y e = absurd cc
 
 sized_takes : (n : ℕ) (bytes : List ℕ) (x : RelativeRecord × List ℕ) → IsBytes bytes → read_fields n bytes ≡ Ok x → Takes bytes ((fields 0).spell x.0) x.1 × ((fields_size x.0 ≡ n) × (fields 0).Fits x.0)
 unfolding read_fields

@@ -1,10 +1,11 @@
 -- Sizes of fields, of records and of batches.
-use Rattle.std.proofs.Common.{◌≡◌, ℕ, zero, suc, ◌+◌, ◌-◌, ◌/◌, ◌<◌, ◌≤◌, List, [], ◌∷◌, ◌++◌, length, get_or, drop, drop-cons, ℤ, pos, negsuc, Some, None, inl, inr, refl, sym, ap, ◌∙◌, add-one, arith}
+use Rattle.std.proofs.Common.{◌≡◌, ℕ, zero, suc, ◌+◌, ◌-◌, ◌/◌, ◌<◌, ◌≤◌, List, [], ◌∷◌, ◌++◌, length, get_or, drop, ℤ, pos, negsuc, Some, None, inl, inr, refl, ap, ◌∙◌, arith}
 use Rattle.std.specs.List.{flat_map}
 use Rattle.std.proofs.lemmas.Bool.{cases_lt}
 use Rattle.std.proofs.lemmas.Bool.Decides.{nat_tests}
 use Rattle.std.proofs.lemmas.List.{length-append, drop_all, append-nil, nil_from_length}
-use Rattle.std.proofs.lemmas.List.Concat.{flat_map-cons}
+use Rattle.kp_wire.proofs.ListLemmas.{drop_here, length-flat_map-cons, length-flat_map-some}
+use Rattle.kp_batch.proofs.RelativeLemmas.{length-relatives_from, relatives_from-here}
 use Rattle.kp_wire.specs.Varint.{varint, varlong, zigzag, groups}
 use Rattle.kp_wire.proofs.VarintLemmas.{groups_some, length-groups_none, length-groups_last, length-groups_more}
 use Rattle.kp_batch.specs.declared.record.Header.{Header}
@@ -88,9 +89,6 @@ pub no_headers : (hs : List Header) → length hs ≡ 0 → (headers 0).spell hs
 unfolding headers length_field
 no_headers hs none = rw (nil_from_length hs none) (append-nil (varint.spell (pos 0)))
 
-pub length-no_headers : (hs : List Header) → length hs ≡ 0 → length ((headers 0).spell hs) ≡ length (varint.spell (pos 0))
-length-no_headers hs none = ap length (no_headers hs none)
-
 pub room_for_some : (s : List ℕ) → length ((bytes_or_null 0).spell (Some s)) ≤ length s + 5
 room_for_some s = omega (arith, length-some s, varint_few (pos (length s)))
 
@@ -120,40 +118,33 @@ pub some_bytes : (r : RelativeRecord) → 0 < length (relative_record.spell r)
 some_bytes r = omega (arith, length-relative_record r, fields_size-parts r)
 
 pub bytes_from-cons : (base k : ℕ) (r : Record) (rs : List Record) → bytes_from base k (r ∷ rs) ≡ length (relative_record.spell (relative base k r)) + bytes_from base (suc k) rs
-bytes_from-cons base k r rs =
-    ap length (flat_map-cons relative_record.spell (relative base k r) (relatives_from base (suc k) rs))
-    ∙ length-append (relative_record.spell (relative base k r)) (flat_map relative_record.spell (relatives_from base (suc k) rs))
+bytes_from-cons base k r rs = length-flat_map-cons relative_record.spell (relative base k r) (relatives_from base (suc k) rs)
 
 pub bytes_from-here : (base k : ℕ) (rs : List Record) (r : Record) → k < length rs → r ≡ get_or rs k r → bytes_from base k (drop k rs) ≡ length (relative_record.spell (relative base k r)) + bytes_from base (k + 1) (drop (k + 1) rs)
-bytes_from-here base k rs r lt e = rw (drop-cons rs k r, ← e, add-one) (bytes_from-cons base k r (drop (suc k) rs))
+bytes_from-here base k rs r lt e =
+    let behind = relatives_from base (k + 1) (drop (k + 1) rs) in
+    ap (λ (x : List RelativeRecord). length (flat_map relative_record.spell x)) (relatives_from-here base k rs r lt e) ∙ length-flat_map-cons relative_record.spell (relative base k r) behind
 
 pub length-headers_step : (hs : List Header) (k : ℕ) (h : Header) → k < length hs → h ≡ get_or hs k h → length (flat_map (header 0).spell (drop k hs)) ≡ length ((header 0).spell h) + length (flat_map (header 0).spell (drop (k + 1) hs))
 length-headers_step hs k h lt e =
-    rw (drop-cons hs k h, ← e, add-one)
-    (ap length (flat_map-cons (header 0).spell h (drop (suc k) hs)) ∙ length-append ((header 0).spell h) (flat_map (header 0).spell (drop (suc k) hs)))
+    ap (λ (x : List Header). length (flat_map (header 0).spell x)) (drop_here hs k h lt e) ∙ length-flat_map-cons (header 0).spell h (drop (k + 1) hs)
 
 -- each header has a byte at least
 pub some_header : (h : Header) → 0 < length ((header 0).spell h)
 some_header h = omega (arith, length-header h, groups_some 4 (zigzag (pos (length h.key))))
 
 pub many_headers : (hs : List Header) → length hs ≤ length (flat_map (header 0).spell hs)
-many_headers [] = omega arith
-many_headers (h ∷ hs) = rw flat_map-cons (omega (arith, some_header h, many_headers hs, length-append ((header 0).spell h) (flat_map (header 0).spell hs)))
+many_headers hs = length-flat_map-some (header 0).spell some_header hs
 
 -- the records behind the last have no bytes
 pub bytes_from-none : (base k : ℕ) (rs : List Record) → length rs ≤ k → bytes_from base k (drop k rs) ≡ 0
 bytes_from-none base k rs le = ap (bytes_from base k) (drop_all k rs le)
 
-pub first_has_base : (rs : List Record) (r : Record) → 0 < length rs → r ≡ get_or rs 0 r → base_timestamp rs ≡ r.timestamp
-first_has_base [] r some e = absurd (omega arith)
-first_has_base (x ∷ rs) r some e = ap (λ (y : Record). y.timestamp) (sym e)
-
 pub ruleset size_laws = (length-header, length-headers, fields_size-parts, length-relative_record)
 
 -- each record has a byte at least
 pub many_records : (base k : ℕ) (rs : List Record) → length rs ≤ bytes_from base k rs
-many_records base k [] = omega arith
-many_records base k (r ∷ rs) = omega (arith, bytes_from-cons base k r rs, some_bytes (relative base k r), many_records base (suc k) rs)
+many_records base k rs = omega (arith, length-flat_map-some relative_record.spell some_bytes (relatives_from base k rs), length-relatives_from base k rs)
 
 -- ---- one record more
 

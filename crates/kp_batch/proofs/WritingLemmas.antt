@@ -1,16 +1,17 @@
 -- What was appended field by field.
-use Rattle.std.proofs.Common.{◌≡◌, ℕ, zero, suc, ◌+◌, ◌-◌, ◌<◌, ◌≤◌, ◌^◌, max, List, [], ◌∷◌, ◌++◌, length, get_or, take, drop, ℤ, pos, negsuc, refl, sym, ap, subst, ◌∙◌, append_assoc, add-one, drop-cons, arith}
+use Rattle.std.proofs.Common.{◌≡◌, ℕ, ◌+◌, ◌-◌, ◌<◌, ◌≤◌, ◌^◌, max, List, [], ◌∷◌, ◌++◌, length, get_or, take, drop, ℤ, pos, negsuc, refl, sym, ap, subst, ◌∙◌, append_assoc, arith}
 use Rattle.std.specs.Prelude.{FitsSigned, Any, ◌-ℤ◌}
 use Rattle.std.proofs.lemmas.Int.{ints}
 use Rattle.std.specs.Int.{w8, w16, w32, w64, to_be_bytes}
 use Rattle.kp_wire.specs.Checksum.{crc}
-use Rattle.kp_batch.proofs.BatchLemmas.{length-front}
+use Rattle.kp_wire.proofs.ReadLemmas.{then_put}
+use Rattle.kp_wire.proofs.ListLemmas.{drop_here}
+use Rattle.std.proofs.lemmas.List.Folds.{length-flat_map-take}
 use Rattle.kp_wire.specs.Codec.{int, number}
 use Rattle.kp_batch.specs.declared.batch.BatchHead.{BatchHead}
 use Rattle.kp_batch.specs.declared.summary.Front.{Front}
 use Rattle.kp_batch.specs.declared.summary.Summary.{Summary}
 use Rattle.std.specs.List.{flat_map, AllByRecursion}
-use Rattle.std.proofs.lemmas.List.{length-append, take_at}
 use Rattle.std.proofs.lemmas.List.Concat.{flat_map-cons}
 use Rattle.kp_wire.specs.Varint.{varint, varlong}
 use Rattle.kp_batch.specs.declared.record.Header.{Header}
@@ -18,18 +19,11 @@ use Rattle.kp_batch.specs.declared.relative.RelativeRecord.{RelativeRecord}
 use Rattle.kp_batch.specs.Record.{attributes, length_field, bytes_or_null, header, headers, fields, fields_size, relative_record}
 use Rattle.kp_batch.specs.declared.record.Record.{Record}
 use Rattle.kp_batch.specs.Spelling.{front, head, summary, summary_of, covered, front_of, spelling, HasFields, Spells, written, relative, relatives_from, base_timestamp, max_timestamp}
-use Rattle.kp_batch.proofs.RelativeLemmas.{HasMoment}
+use Rattle.kp_batch.proofs.RelativeLemmas.{HasMoment, relatives_from-here}
 use Rattle.kp_batch.proofs.SizeLemmas.{length-headers}
 
-one_long : (hs : List Header) (k : ℕ) (h : Header) → k < length hs → get_or hs k h ≡ h → length ((header 0).spell h) ≤ length (flat_map (header 0).spell hs)
-one_long [] k h lt e = absurd (omega arith)
-one_long (x ∷ hs) zero h lt e =
-    rw (flat_map-cons (header 0).spell x hs) (let same : length ((header 0).spell x) ≡ length ((header 0).spell h) = ap (λ (y : Header). length ((header 0).spell y)) e in omega (arith, same, length-append ((header 0).spell x) (flat_map (header 0).spell hs)))
-one_long (x ∷ hs) (suc k) h lt e =
-    rw (flat_map-cons (header 0).spell x hs) (omega (arith, one_long hs k h (omega arith) e, length-append ((header 0).spell x) (flat_map (header 0).spell hs)))
-
 pub long_headers : (hs : List Header) → Any (λ h. 2147483647 < length ((header 0).spell h)) hs → 2147483647 < length ((headers 0).spell hs)
-long_headers hs any = omega (arith, one_long hs any.0 any.1 any.2 any.3, any.4, length-headers hs)
+long_headers hs any = omega (arith, length-flat_map-take (header 0).spell hs any.0 any.1 any.2, ap (λ (h : Header). length ((header 0).spell h)) any.3, any.4, length-headers hs)
 
 pub no_headers_fit : (hs : List Header) → length hs ≡ 0 → (headers 0).Fits hs
 unfolding headers length_field
@@ -43,16 +37,13 @@ fields_spelled r o0 o1 o2 o3 o4 o5 o6 e1 e2 e3 e4 e5 e6 = rw (e6, e5, e4, e3, e2
 
 pub record_spelled : (r : RelativeRecord) (o0 o1 o2 : List ℕ) → o1 ≡ o0 ++ varint.spell (pos (fields_size r)) → o2 ≡ o1 ++ (fields 0).spell r → o2 ≡ o0 ++ relative_record.spell r
 unfolding relative_record
-record_spelled r o0 o1 o2 e1 e2 = rw (e2, e1) (append_assoc o0 (varint.spell (pos (fields_size r))) ((fields 0).spell r))
+record_spelled r o0 o1 o2 e1 e2 = then_put o0 o1 o2 (varint.spell (pos (fields_size r))) ((fields 0).spell r) e1 e2
 
 pub record_fits : (r : RelativeRecord) → fields_size r ≤ 2147483647 → (fields 0).Fits r → relative_record.Fits r
 unfolding relative_record
 record_fits r small fits = let len : FitsSigned w32 (pos (fields_size r)) = record { sfits = omega arith } in (len, (refl, fits))
 
 -- ---- the records one by one
-
-pub relatives_from-here : (base k : ℕ) (rs : List Record) (r : Record) → k < length rs → r ≡ get_or rs k r → relatives_from base k (drop k rs) ≡ relative base k r ∷ relatives_from base (k + 1) (drop (k + 1) rs)
-relatives_from-here base k rs r lt e = rw (drop-cons rs k r, ← e, add-one) refl
 
 pub record_more : (base k : ℕ) (rs : List Record) (r : Record) (out more whole : List ℕ) → k < length rs → r ≡ get_or rs k r → more ≡ out ++ relative_record.spell (relative base k r)
     → out ++ flat_map relative_record.spell (relatives_from base k (drop k rs)) ≡ whole → more ++ flat_map relative_record.spell (relatives_from base (k + 1) (drop (k + 1) rs)) ≡ whole
@@ -69,12 +60,11 @@ fits_more base k rs r P lt e here so_far rest = so_far (subst (AllByRecursion re
 pub moments_further : (k : ℕ) (rs : List Record) (r : Record) (P : Type 0) → k < length rs → r ≡ get_or rs k r → HasMoment r
     → (AllByRecursion HasMoment (drop k rs) → P) → AllByRecursion HasMoment (drop (k + 1) rs) → P
 moments_further k rs r P lt e here so_far rest =
-    let one : drop k rs ≡ r ∷ drop (k + 1) rs = rw (drop-cons rs k r, ← e, add-one) refl in
-    so_far (subst (AllByRecursion HasMoment) (sym one) (here, rest))
+    so_far (subst (AllByRecursion HasMoment) (sym (drop_here rs k r lt e)) (here, rest))
 
 pub latest_further : (rs : List Record) (k : ℕ) (r : Record) (latest next whole : ℕ) → k < length rs → r ≡ get_or rs k r → next ≡ max latest r.timestamp → max latest (max_timestamp (drop k rs)) ≡ whole → max next (max_timestamp (drop (k + 1) rs)) ≡ whole
 latest_further rs k r latest next whole lt e is so_far =
-    let one : max_timestamp (drop k rs) ≡ max r.timestamp (max_timestamp (drop (k + 1) rs)) = rw (drop-cons rs k r, ← e, add-one) refl in
+    let one : max_timestamp (drop k rs) ≡ max r.timestamp (max_timestamp (drop (k + 1) rs)) = ap max_timestamp (drop_here rs k r lt e) in
     omega (arith, one, so_far, is)
 
 -- ---- the fields before the records
@@ -104,7 +94,7 @@ summary_fits h rs id epoch sequence some few first latest =
 
 pub covered_spelled : (h : BatchHead) (rs : List Record) (o0 o1 o2 : List ℕ) → o1 ≡ o0 ++ summary.spell (summary_of h rs) → o2 ≡ o1 ++ flat_map relative_record.spell (relatives_from (base_timestamp rs) 0 rs) → o2 ≡ o0 ++ covered h rs
 unfolding covered
-covered_spelled h rs o0 o1 o2 e1 e2 = rw (e2, e1) (append_assoc o0 (summary.spell (summary_of h rs)) (flat_map relative_record.spell (relatives_from (base_timestamp rs) 0 rs)))
+covered_spelled h rs o0 o1 o2 e1 e2 = then_put o0 o1 o2 (summary.spell (summary_of h rs)) (flat_map relative_record.spell (relatives_from (base_timestamp rs) 0 rs)) e1 e2
 
 -- ---- the batch
 
@@ -121,9 +111,6 @@ checksum_put f c rest bytes e = rw e refl
 pub behind_front : (f : Front) (rest : List ℕ) → drop 21 (front.spell f ++ rest) ≡ rest
 unfolding front
 behind_front f rest = refl
-
-pub length-before : (f : Front) (rest : List ℕ) → length (front.spell f ++ rest) ≡ 21 + length rest
-length-before f rest = length-append (front.spell f) rest ∙ ap (λ (n : ℕ). n + length rest) (length-front f)
 
 abbrev pub sealed : Front → List ℕ → Front
 sealed f rest = record f { batch_length = pos (9 + length rest); checksum = crc rest }
@@ -147,7 +134,3 @@ batch_spelled h rs bytes small fits sum is = record {
   is_batch = record { front = front_fits h rs small sum; fields = fits };
   is_spelling = is ∙ ap (λ (f : Front). front.spell f ++ covered h rs) (sealed_is_of h rs);
 }
-
--- all of the bytes went through the slice that was sealed
-pub sealed_whole : (n : ℕ) (bytes new : List ℕ) → n ≡ length new → take n (new ++ drop (length new) bytes) ≡ new
-sealed_whole n bytes new len = take_at new (drop (length new) bytes) n (sym len)

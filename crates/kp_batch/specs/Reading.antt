@@ -3,7 +3,7 @@ use Rattle.std.specs.Prelude.{◌≡◌, ℕ, suc, ◌^◌, List, [], ◌∷◌,
 use Rattle.std.specs.Ordering.{int_eq}
 use Rattle.kp_wire.specs.declared.fault.WireFault.{WireFault}
 use Rattle.kp_wire.specs.declared.fault.WireFault.TheVariants.{BadLength}
-use Rattle.kp_wire.specs.Reading.{◌>>=◌}
+use Rattle.kp_wire.specs.Reading.{◌>>=◌, refuse, or_else}
 use Rattle.kp_wire.specs.Codec.{read_many}
 use Rattle.kp_wire.specs.Checksum.{crc}
 use Rattle.kp_batch.specs.declared.fault.BatchFault.{BatchFault}
@@ -15,15 +15,6 @@ use Rattle.kp_batch.specs.declared.summary.Front.{Front}
 use Rattle.kp_batch.specs.declared.summary.Summary.{Summary}
 use Rattle.kp_batch.specs.Record.{relative_record}
 use Rattle.kp_batch.specs.Spelling.{front, summary, max_timestamp}
-
--- a row of the table: where it applies, the rows below it are not looked at
-abbrev pub refuse : Bool → BatchFault → Result (Unit {0}) BatchFault
-refuse applies fault = if applies then Err fault else Ok tt
-
--- a fault of the wire as a fault of the batch
-abbrev pub or_else : {A : Type 0} → (WireFault → BatchFault) → Result A WireFault → Result A BatchFault
-or_else fault (Ok x) = Ok x
-or_else fault (Err f) = Err (fault f)
 
 -- ---- the rows before the records
 

@@ -1,6 +1,6 @@
 -- What clap finds where the standard input is to be packed.
-use Rattle.std.proofs.Common.{◌≡◌, List, [], ◌∷◌, Option, None, Some, codes, true, refl, ap}
-use Rattle.clap.specs.Words.{Row, Text, first_of, is_simple, subcommand_of, takes}
+use Rattle.std.proofs.Common.{◌≡◌, List, [], ◌∷◌, Option, None, Some, codes, true, refl, ap, ap₂, ◌∙◌}
+use Rattle.clap.specs.Words.{App, Row, Text, first_of, is_simple, subcommand_of, takes}
 use Rattle.clap.proofs.OnLiterals.{clap_on_literals}
 use Rattle.kp_cli.specs.CommandLine.{AskToPackInput, kprod_app}
 
@@ -23,6 +23,10 @@ pub is_found : (program : Text) → subcommand_of kprod_app (words_of program) �
 unfolding clap_on_literals
 is_found program = refl
 
+-- the same of words that ask for it
+pub found_asked : (app : App) (words : List Text) → app ≡ kprod_app → AskToPackInput words → (program : Text) × (subcommand_of app words ≡ Some (codes "pack", rows_found program))
+found_asked app words same asked = let known = words_asked words asked in (known.0, ap₂ subcommand_of same known.1 ∙ is_found known.0)
+
 pub is_file : (program : Text) → first_of (codes "file") (rows_found program) ≡ Some (codes "-")
 unfolding clap_on_literals
 is_file program = refl
@@ -34,6 +38,3 @@ is_taken program = refl
 pub is_simple_app : is_simple kprod_app ≡ true
 unfolding clap_on_literals
 is_simple_app = refl
-
-pub same_rows : (found rows : List Row) → Some found ≡ Some rows → found ≡ rows
-same_rows found rows same = cc

@@ -1,5 +1,4 @@
 mod CommandLineLemmas
-mod KnownBytesLemmas
 mod LineLemmas
 mod OfferedLemmas
 mod PackedLemmas

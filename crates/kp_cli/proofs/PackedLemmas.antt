@@ -1,9 +1,11 @@
 -- The text of a log, record by record, and the text of values that were packed.
-use Rattle.std.proofs.Common.{◌≡◌, ℕ, zero, suc, ◌+◌, ◌<◌, ◌≤◌, List, [], ◌∷◌, ◌++◌, length, get_or, drop, pos, ℤ, refl, ap, sym, ◌∙◌, arith, add-one, lit≤, Result, Ok, Err, MatchResult, Some, None, slice_get}
-use Rattle.std.proofs.lemmas.Bool.Decides.{nat_tests}
+use Rattle.std.proofs.Common.{◌≡◌, ℕ, ◌+◌, ◌<◌, ◌≤◌, List, [], ◌∷◌, ◌++◌, length, get_or, drop, pos, ℤ, refl, ap, sym, ◌∙◌, arith, add-one, lit≤, Result, Ok, Err, MatchResult, Some, slice_get}
+use Rattle.std.specs.Option.{option_map}
+use Rattle.std.proofs.lemmas.Option.{get_or_from_slice_get, slice_get-map}
 use Rattle.std.proofs.Math.Seq.{drop-cons}
 use Rattle.kp_batch.specs.declared.size.TheConstants.{SIZE_LIMIT}
 use Rattle.kp_batch.specs.Spelling.{measured, size_of_batch}
+use Rattle.kp_batch.proofs.SizeLemmas.{small_measured, large_measured}
 use Rattle.kp_log.specs.declared.stored.Stored.{Stored}
 use Rattle.kp_log.specs.declared.answer.Answer.TheVariants as answer
 use Rattle.kp_log.specs.Log.{stored_as}
@@ -19,16 +21,8 @@ use Rattle.kp_cli.specs.Report.{answered, report_text, value_of, values_of}
 pub log_lines-drop : (values : List (List ℕ)) (k : ℕ) → k < length values → log_lines k (drop k values) ≡ log_line k (get_or values k []) ++ log_lines (k + 1) (drop (k + 1) values)
 log_lines-drop values k within = rw (add-one, drop-cons values k []) refl
 
-some_is : (a b : Stored) → Some a ≡ Some b → a ≡ b
-some_is a b same = cc
-
-none_is : (a : Stored) → Some a ≡ None → ⊥
-none_is a same = cc
-
 pub values_of-at : (records : List Stored) (k : ℕ) (s : Stored) → Some s ≡ slice_get records k → get_or (values_of records) k [] ≡ value_of s
-values_of-at [] k s is = absurd (none_is s is)
-values_of-at (x ∷ xs) zero s is = ap value_of (sym (some_is s x is))
-values_of-at (x ∷ xs) (suc k) s is = values_of-at xs k s is
+values_of-at records k s is = get_or_from_slice_get (values_of records) k (value_of s) [] (slice_get-map value_of records k ∙ ap (option_map value_of) (sym is))
 
 -- ---- the size
 
@@ -37,22 +31,14 @@ unfolding size_of_batch
 size-none [] none = lit≤ tt
 size-none (value ∷ values) none = absurd (omega arith)
 
-pub measured-within : (n : ℕ) → measured n ≤ SIZE_LIMIT → measured n ≡ n
-unfolding measured
-measured-within n within = grind (arith, nat_tests)
-
-pub measured-above : (n : ℕ) → SIZE_LIMIT < measured n → SIZE_LIMIT < n
-unfolding measured
-measured-above n above = grind (arith, nat_tests)
-
 -- what is decided on a measure is decided on what was measured
 pub decided-measured : (r : Result ℕ PackFault) (m n : ℕ) → m ≡ measured n
     → MatchResult r (λ same. (same ≡ m) × (m ≤ SIZE_LIMIT)) (λ fault. (fault ≡ TooLarge) × (SIZE_LIMIT < m))
     → MatchResult r (λ size. (size ≡ n) × (size ≤ SIZE_LIMIT)) (λ fault. (fault ≡ TooLarge) × (SIZE_LIMIT < n))
 decided-measured (Ok same) m n is decided =
-    let same_n : same ≡ n = decided.0 ∙ is ∙ measured-within n (rw is at decided.1) in
+    let same_n : same ≡ n = decided.0 ∙ small_measured m n is decided.1 in
     (same_n, omega (arith, decided.0, decided.1))
-decided-measured (Err fault) m n is decided = (decided.0, measured-above n (rw is at decided.1))
+decided-measured (Err fault) m n is decided = (decided.0, (large_measured m n is decided.1).1)
 
 -- ---- the whole text
 

@@ -1,72 +1,40 @@
 -- Steps of reading a message that did not fail.
-use Rattle.std.proofs.Common.{◌≡◌, ℕ, Bool, true, false, List, [], ◌∷◌, Result, Ok, Err, refl, sym, subst, ◌∙◌}
+use Rattle.std.proofs.Common.{◌≡◌, ℕ, Bool, true, false, List, [], ◌∷◌, Result, Ok, Err, refl, sym, ◌∙◌}
 use Rattle.std.specs.Prelude.{IfOk, IfErr, MatchResult}
 use Rattle.kp_wire.specs.declared.fault.WireFault.{WireFault}
 use Rattle.kp_wire.specs.declared.fault.WireFault.TheVariants as field
 use Rattle.kp_wire.specs.Fields.{IsFieldFault}
-use Rattle.kp_wire.specs.Reading.{◌>>=◌}
-use Rattle.kp_wire.specs.Codec.{Codec}
-use Rattle.kp_wire.proofs.ReadLemmas.{IsBytes, Takes, bind_ok, ok_is}
-use Rattle.kp_wire.proofs.CodecLemmas.{IsExact}
-use Rattle.kp_wire.proofs.FieldFaultLemmas.{wrong, error_is}
+use Rattle.kp_wire.specs.Reading.{◌>>=◌, refuse}
+use Rattle.kp_wire.proofs.ReadLemmas.{ok_is, no_fault, is_error}
 use Rattle.kp_frames.specs.declared.fault.FrameFault.{FrameFault}
 use Rattle.kp_frames.specs.declared.fault.FrameFault.TheVariants.{Short, Trailing, UnknownApi, UnknownVersion, Wire, TooLarge, OutOfMemory, Mismatch}
-use Rattle.kp_frames.specs.Fault.{of_wire, in_message, refuse, whole, Answers, Refuses, IsContentFault}
-
-abbrev pub given : {A : Type 0} → A → Result A FrameFault
-given x = Ok x
-
-pub given_is : {A : Type 0} (x y : A) → given x ≡ given y → x ≡ y
-given_is x y e = cc
-
-pub no_fault : {A : Type 0} (fault : FrameFault) (x : A) → Err fault ≡ given x → ⊥
-no_fault fault x e = cc
-
-pub in_message_ok : {A B : Type 0} (r : Result A WireFault) (f : A → Result B FrameFault) (y : B) → (in_message r >>= f) ≡ Ok y → (x : A) × (r ≡ Ok x) × (f x ≡ Ok y)
-in_message_ok (Ok x) f y e = (x, refl, e)
-in_message_ok (Err w) f y e = absurd cc
-
-pub refuse_ok : {A : Type 0} (applies : Bool) (fault : FrameFault) (f : Unit {0} → Result A FrameFault) (y : A) → (refuse applies fault >>= f) ≡ Ok y → (applies ≡ false) × (f tt ≡ Ok y)
-refuse_ok true fault f y e = absurd cc
-refuse_ok false fault f y e = (refl, e)
+use Rattle.kp_frames.specs.Fault.{of_wire, in_message, whole, Answers, Refuses, IsContentFault}
 
 pub whole_ok : {A : Type 0} (x : A) (rest : List ℕ) (y : A) → whole x rest ≡ Ok y → (rest ≡ []) × (x ≡ y)
-whole_ok x [] y e = (refl, given_is x y e)
+whole_ok x [] y e = (refl, ok_is x y e)
 whole_ok x (b ∷ rest) y e = absurd cc
-
--- one of the cases of a body
-pub variant_takes : {A B : Type 0} (c : Codec A) (make : A → B) (P : B → List ℕ → Type 0) (bytes : List ℕ) (x : B × List ℕ) → IsExact 0 c → IsBytes bytes
-    → ((a : A) (rest : List ℕ) → Takes bytes (c.spell a) rest → c.Fits a → P (make a) rest) → (c.read bytes >>= λ y. Ok (make y.0, y.1)) ≡ Ok x → P x.0 x.1
-variant_takes {B = B} c make P bytes x p fits holds e =
-    let a = bind_ok (c.read bytes) (λ y. Ok (make y.0, y.1)) x e in
-    let t = p.takes bytes a.0 fits a.1 in
-    let got : B × List ℕ = (make a.0.0, a.0.1) in
-    let R : B × List ℕ → Type 0 = λ y. P y.0 y.1 in
-    subst R (ok_is got x a.2) (holds a.0.0 a.0.1 t.0 t.1)
 
 -- what a reader gave, where it is known what reading gives
 pub answered_found : {X : Type 0} (begun : Type 0) (P : X → Type 0) (result read : Result X FrameFault) → Answers begun (λ x. x) result read → ((x : X) → read ≡ Ok x → P x) → IfOk result P
 answered_found begun P (Ok x) read a holds = holds x a
 answered_found begun P (Err fault) read a holds = tt
 
-refused_only : {X : Type 0} (begun : Type 0) (fault : FrameFault) (read : Result X FrameFault) (x : X) → Refuses begun fault read → read ≡ Ok x → fault ≡ OutOfMemory
-refused_only begun OutOfMemory read x r e = refl
-refused_only begun Short read x r e = absurd (no_fault Short x (sym r ∙ e))
-refused_only begun Trailing read x r e = absurd (no_fault Trailing x (sym r ∙ e))
-refused_only begun UnknownApi read x r e = absurd (no_fault UnknownApi x (sym r ∙ e))
-refused_only begun UnknownVersion read x r e = absurd (no_fault UnknownVersion x (sym r ∙ e))
-refused_only begun (Wire w) read x r e = absurd (no_fault (Wire w) x (sym r ∙ e))
-refused_only begun TooLarge read x r e = absurd (no_fault TooLarge x (sym r ∙ e))
-refused_only begun Mismatch read x r e = absurd (no_fault Mismatch x (sym r ∙ e))
+-- what holds of each fault of reading, and of memory refused, holds of the fault that was given
+refused_fault : {X : Type 0} (P : FrameFault → Type 0) (begun : Type 0) (fault : FrameFault) (read : Result X FrameFault) → P OutOfMemory → ((f : FrameFault) → read ≡ Err f → P f) → Refuses begun fault read → P fault
+refused_fault P begun OutOfMemory read memory holds r = memory
+refused_fault P begun Short read memory holds r = holds Short r
+refused_fault P begun Trailing read memory holds r = holds Trailing r
+refused_fault P begun UnknownApi read memory holds r = holds UnknownApi r
+refused_fault P begun UnknownVersion read memory holds r = holds UnknownVersion r
+refused_fault P begun (Wire w) read memory holds r = holds (Wire w) r
+refused_fault P begun TooLarge read memory holds r = holds TooLarge r
+refused_fault P begun Mismatch read memory holds r = holds Mismatch r
 
 pub answered_only : {X : Type 0} (begun : Type 0) (x : X) (result read : Result X FrameFault) → Answers begun (λ x. x) result read → read ≡ Ok x → MatchResult result (λ y. y ≡ x) (λ fault. fault ≡ OutOfMemory)
-answered_only begun x (Ok y) read a e = given_is y x (sym a ∙ e)
-answered_only begun x (Err fault) read a e = refused_only begun fault read x a e
+answered_only begun x (Ok y) read a e = ok_is y x (sym a ∙ e)
+answered_only begun x (Err fault) read a e = refused_fault (λ f. f ≡ OutOfMemory) begun fault read refl (λ f is. absurd (no_fault f x (sym is ∙ e))) a
 
 -- ---- which faults come
-
-pub is_error : {A : Type 0} (P : FrameFault → Type 0) (f g : FrameFault) → P f → wrong {A = A} f ≡ wrong g → P g
-is_error {A = A} P f g h e = subst P (error_is {A = A} f g e) h
 
 -- a field's fault as the message's
 carried : (P : FrameFault → Type 0) → ((f : FrameFault) → IsContentFault f → P f) → (w : WireFault) → IsFieldFault w → P (of_wire w)
@@ -97,16 +65,6 @@ refuse_err P false fault next f here holds e = holds e
 pub whole_err : {A : Type 0} (P : FrameFault → Type 0) (x : A) (rest : List ℕ) (f : FrameFault) → P Trailing → whole x rest ≡ Err f → P f
 whole_err P x [] f here e = absurd (no_fault f x (sym e))
 whole_err P x (b ∷ rest) f here e = is_error P Trailing f here e
-
-refused_fault : {X : Type 0} (P : FrameFault → Type 0) (begun : Type 0) (fault : FrameFault) (read : Result X FrameFault) → P OutOfMemory → ((f : FrameFault) → read ≡ Err f → P f) → Refuses begun fault read → P fault
-refused_fault P begun OutOfMemory read memory holds r = memory
-refused_fault P begun Short read memory holds r = holds Short r
-refused_fault P begun Trailing read memory holds r = holds Trailing r
-refused_fault P begun UnknownApi read memory holds r = holds UnknownApi r
-refused_fault P begun UnknownVersion read memory holds r = holds UnknownVersion r
-refused_fault P begun (Wire w) read memory holds r = holds (Wire w) r
-refused_fault P begun TooLarge read memory holds r = holds TooLarge r
-refused_fault P begun Mismatch read memory holds r = holds Mismatch r
 
 pub answered_fault : {X : Type 0} (P : FrameFault → Type 0) (begun : Type 0) (result read : Result X FrameFault) → P OutOfMemory → ((f : FrameFault) → read ≡ Err f → P f) → Answers begun (λ x. x) result read → IfErr result P
 answered_fault P begun (Ok x) read memory holds a = tt

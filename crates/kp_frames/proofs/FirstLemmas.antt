@@ -2,44 +2,23 @@
 use Rattle.std.proofs.Common.{◌≡◌, ℕ, ◌+◌, ◌<◌, ◌≤◌, Bool, true, false, ltb, List, ◌++◌, length, take, drop, ℤ, pos, negsuc, Result, Ok, Err, refl, sym, ap, subst, ◌∙◌, inl, inr, append_assoc, arith}
 use Rattle.std.specs.Prelude.{nat_abs, FitsSigned}
 use Rattle.std.specs.Int.{w32, from_be_bytes, to_be_bytes, cast_signed, cast_unsigned}
+use Rattle.std.proofs.Math.Facts.{Fits-of_z}
 use Rattle.std.proofs.lemmas.Int.{to_z-of_z, of_z-to_z}
 use Rattle.std.proofs.lemmas.Bool.{cases_lt, ltb-false, lt-ltb, le-ltb}
-use Rattle.std.proofs.lemmas.List.{length-append, length-take-le, take-append-drop, get_or_append_left, get_or_past, get_or-append-add}
-use Rattle.kp_wire.specs.Reading.{◌>>=◌}
+use Rattle.std.proofs.lemmas.List.{length-append, length-take-le, take-append-drop}
+use Rattle.kp_wire.specs.Reading.{◌>>=◌, refuse}
 use Rattle.kp_wire.specs.Codec.{read_bytes}
-use Rattle.kp_wire.proofs.ReadLemmas.{IsBytes}
-use Rattle.kp_wire.proofs.CodecLemmas.{bytes_again, wide32}
+use Rattle.kp_wire.proofs.ReadLemmas.{IsBytes, IsBytes-left, done, failed, no_fault, error_is, refuse_ok, or_else_is}
+use Rattle.kp_wire.proofs.CodecLemmas.{bytes_again, bytes_read, wide32}
 use Rattle.kp_frames.specs.declared.fault.FrameFault.{FrameFault}
 use Rattle.kp_frames.specs.declared.fault.FrameFault.TheVariants.{Short, TooLarge}
 use Rattle.kp_frames.specs.declared.frame.TheConstants.{CONTENT_LIMIT}
-use Rattle.kp_frames.specs.Fault.{in_message, refuse}
+use Rattle.kp_frames.specs.Fault.{of_wire, in_message}
 use Rattle.kp_frames.specs.Life.{behind}
 use Rattle.kp_frames.specs.Stream.{frame, is_no_size, first}
 
-pub IsBytes-left : (a b : List ℕ) → IsBytes (a ++ b) → IsBytes a
-IsBytes-left a b fits i =
-    elim (cases_lt i (length a)) [
-      | inl lt ↦ rw (sym (get_or_append_left a b 0 i lt)) (fits i)
-      | inr le ↦ rw (get_or_past a i 0 le) (omega arith)
-    ]
-
-pub IsBytes-right : (a b : List ℕ) → IsBytes (a ++ b) → IsBytes b
-IsBytes-right a b fits i = rw (sym (get_or-append-add a b i 0)) (fits (length a + i))
-
 abbrev pub First : Type 0
 First = Result (List ℕ × List ℕ) FrameFault
-
-abbrev pub fails : FrameFault → First
-fails f = Err f
-
-abbrev gives : List ℕ × List ℕ → First
-gives x = Ok x
-
-no_fault : (f : FrameFault) (x : List ℕ × List ℕ) → fails f ≡ gives x → ⊥
-no_fault f x e = cc
-
-given_is : (x y : List ℕ × List ℕ) → gives x ≡ gives y → x ≡ y
-given_is x y e = cc
 
 -- ---- one frame
 
@@ -93,28 +72,12 @@ pub record Fronted (bytes content behind : List ℕ) : Type 0 where
   pub parts : bytes ≡ front ++ behind
   pub is_front : IsFront front content
 
-not_refused : (b : Bool) (r : First) (x : List ℕ × List ℕ) → (refuse b TooLarge >>= λ _. r) ≡ Ok x → (b ≡ false) × (r ≡ Ok x)
-not_refused true r x e = absurd (no_fault TooLarge x e)
-not_refused false r x e = (refl, e)
-
-read_so : (n : ℕ) (bytes : List ℕ) (x : List ℕ × List ℕ) → in_message (read_bytes n bytes) ≡ Ok x → (length x.0 ≡ n) × (bytes ≡ x.0 ++ x.1)
-read_so n bytes x e =
-    elim (cases_lt (length bytes) n) [
-      | inl short ↦
-          let cut : in_message (read_bytes n bytes) ≡ Err Short = rw (lt-ltb (length bytes) n short) refl in
-          absurd (no_fault Short x (sym cut ∙ e))
-      | inr long ↦
-          let whole : in_message (read_bytes n bytes) ≡ Ok (take n bytes, drop n bytes) = rw (le-ltb (length bytes) n long) refl in
-          subst (λ (p : List ℕ × List ℕ). (length p.0 ≡ n) × (bytes ≡ p.0 ++ p.1)) (given_is (take n bytes, drop n bytes) x (sym whole ∙ e))
-          (length-take-le n bytes long, sym (take-append-drop n bytes))
-    ]
-
 fronted_at : (size behind : List ℕ) (x : List ℕ × List ℕ) → length size ≡ 4 → first (size ++ behind) ≡ Ok x → Fronted (size ++ behind) x.0 x.1
 fronted_at size behind x len e =
-    let a = not_refused (is_no_size (size_of size)) (in_message (read_bytes (nat_abs (size_of size)) behind)) x (sym (first_at size behind len) ∙ e) in
+    let a = refuse_ok (is_no_size (size_of size)) TooLarge (λ _. in_message (read_bytes (nat_abs (size_of size)) behind)) x (sym (first_at size behind len) ∙ e) in
     let b = sized_as (size_of size) a.0 in
     let read : in_message (read_bytes b.0 behind) ≡ Ok x = rw (sym (ap nat_abs b.1)) a.1 in
-    let c = read_so b.0 behind x read in
+    let c = bytes_read b.0 behind x (or_else_is of_wire (read_bytes b.0 behind) x read) in
     record {
       front = size ++ x.0;
       parts = ap (λ (t : List ℕ). size ++ t) c.1 ∙ sym (append_assoc size x.0 x.1);
@@ -143,14 +106,14 @@ is_refused : (b : Bool) (r : First) → (r ≡ Err TooLarge → ⊥) → (refuse
 is_refused true r other e = refl
 is_refused false r other e = absurd (other e)
 
-never_large : (n : ℕ) (bytes : List ℕ) → in_message (read_bytes n bytes) ≡ fails TooLarge → ⊥
+never_large : (n : ℕ) (bytes : List ℕ) → in_message (read_bytes n bytes) ≡ failed TooLarge → ⊥
 never_large n bytes e =
     elim (cases_lt (length bytes) n) [
       | inl short ↦
-          let cut : in_message (read_bytes n bytes) ≡ fails Short = rw (lt-ltb (length bytes) n short) refl in
+          let cut : in_message (read_bytes n bytes) ≡ failed Short = rw (lt-ltb (length bytes) n short) refl in
           cc
       | inr long ↦
-          let whole : in_message (read_bytes n bytes) ≡ gives (take n bytes, drop n bytes) = rw (le-ltb (length bytes) n long) refl in
+          let whole : in_message (read_bytes n bytes) ≡ done (take n bytes, drop n bytes) = rw (le-ltb (length bytes) n long) refl in
           cc
     ]
 
@@ -163,7 +126,7 @@ large_at size behind len e =
 pub large : (bytes : List ℕ) → first bytes ≡ Err TooLarge → IsLarge bytes
 large bytes e =
     elim (cases_lt (length bytes) 4) [
-      | inl short ↦ let cut : fails Short ≡ fails TooLarge = sym (first_short bytes short) ∙ e in absurd cc
+      | inl short ↦ let cut : Short ≡ TooLarge = error_is {A = List ℕ × List ℕ} Short TooLarge (sym (first_short bytes short) ∙ e) in absurd cc
       | inr long ↦
           let same = take-append-drop 4 bytes in
           subst IsLarge same (large_at (take 4 bytes) (drop 4 bytes) (length-take-le 4 bytes long) (ap first same ∙ e))
@@ -183,7 +146,7 @@ frame_front content small =
       size = to_be_bytes w32 (cast_unsigned w32 z);
       parts = refl;
       four = refl;
-      is = ap (cast_signed w32) (wide32.again (cast_unsigned w32 z) (wide32.unsigned z fits)) ∙ to_z-of_z w32 z fits;
+      is = ap (cast_signed w32) (wide32.again (cast_unsigned w32 z) (Fits-of_z fits).fits) ∙ to_z-of_z w32 z fits;
       small = small;
     }
 

@@ -1,8 +1,10 @@
 -- What is kept of bytes, and of pieces of them.
-use Rattle.std.proofs.Common.{◌≡◌, ℕ, ◌+◌, ◌-◌, ◌≤◌, Bool, true, false, cond, List, [], ◌∷◌, ◌++◌, length, take, Err, refl, sym, ap, ◌∙◌, ◌⊎◌, inl, inr, append_assoc, arith}
+use Rattle.std.proofs.Common.{◌≡◌, ℕ, ◌+◌, ◌-◌, ◌≤◌, Bool, true, false, cond, List, [], ◌∷◌, ◌++◌, length, take, Err, refl, sym, ap, ◌∙◌, inl, inr, append_assoc, arith}
 use Rattle.std.specs.List.{fold, concat}
+use Rattle.std.proofs.lemmas.Bool.{cases_Bool}
 use Rattle.std.proofs.lemmas.List.{length-append, append-nil, take_at}
 use Rattle.std.proofs.Math.Seq.{take-append-add}
+use Rattle.kp_wire.proofs.ReadLemmas.{end_is}
 use Rattle.kp_frames.specs.declared.fault.FrameFault.TheVariants.{Short, TooLarge}
 use Rattle.kp_frames.specs.Life.{behind}
 use Rattle.kp_frames.specs.Stream.{first, Split, stream, is_faulty_rest, is_faulty, kept}
@@ -14,10 +16,7 @@ unfolding is_faulty
 faulty_behind front frames rest p = ap (λ (s : Split). is_faulty_rest (first s.rest)) (p.over rest)
 
 pub rest_shorter : (bytes : List ℕ) → length (stream bytes).rest ≤ length bytes
-rest_shorter bytes =
-    let p = parts_of bytes in
-    let whole : length bytes ≡ length p.front + length (stream bytes).rest = ap length p.parts ∙ length-append p.front (stream bytes).rest in
-    omega arith
+rest_shorter bytes = let p = parts_of bytes in (end_is bytes p.front (stream bytes).rest p.parts).0
 
 cut_behind : (b : Bool) (front rest : List ℕ) (n m : ℕ) → n ≡ length front + m → cond b (take n (front ++ rest)) (front ++ rest) ≡ front ++ cond b (take m rest) rest
 cut_behind true front rest n m e = ap (λ (k : ℕ). take k (front ++ rest)) e ∙ take-append-add front rest m
@@ -100,10 +99,6 @@ stopped bytes frames p rest =
       keeps = ap kept e ∙ kept_behind p.front frames (p.size ++ rest) p.passes ∙ ap (λ (t : List ℕ). p.front ++ t) alone.keeps;
     }
 
-pub cases_of : (b : Bool) → (b ≡ true) ⊎ (b ≡ false)
-cases_of true = inl refl
-cases_of false = inr refl
-
 -- the bytes that are kept, where the rest begins with the size of no frame, and what was behind them
 stopped_whole : (bytes : List ℕ) (e : is_faulty bytes ≡ true) → let p = stops_of bytes e in kept bytes ≡ p.front ++ p.size
 stopped_whole bytes e =
@@ -112,7 +107,7 @@ stopped_whole bytes e =
 
 pub kept_again : (bytes more : List ℕ) → kept (kept bytes ++ more) ≡ kept (bytes ++ more)
 kept_again bytes more =
-    elim (cases_of (is_faulty bytes)) [
+    elim (cases_Bool (is_faulty bytes)) [
       | inl e ↦
           let p = stops_of bytes e in
           let frames = (stream bytes).frames in
@@ -132,7 +127,7 @@ pub record Keeps (bytes : List ℕ) : Type 0 where
 
 pub keeps : (bytes : List ℕ) → Keeps bytes
 keeps bytes =
-    elim (cases_of (is_faulty bytes)) [
+    elim (cases_Bool (is_faulty bytes)) [
       | inl e ↦
           let p = stops_of bytes e in
           let now = stopped bytes (stream bytes).frames p [] in

@@ -3,23 +3,20 @@ use Rattle.std.proofs.Common.{◌≡◌, ℕ, ◌+◌, ◌-◌, ◌≤◌, List,
 use Rattle.std.specs.List.{flat_map, AllByRecursion}
 use Rattle.std.proofs.lemmas.List.{append-nil}
 use Rattle.std.proofs.lemmas.List.Concat.{flat_map-append}
-use Rattle.kp_wire.proofs.ReadLemmas.{IsBytes}
-use Rattle.kp_wire.proofs.CodecLemmas.{IsBytes-take}
+use Rattle.kp_wire.proofs.ReadLemmas.{IsBytes, IsBytes-left, IsBytes-right, IsBytes-take}
+use Rattle.kp_wire.proofs.ListLemmas.{all_append}
+use Rattle.std.proofs.lemmas.Bool.{cases_Bool}
 use Rattle.kp_frames.specs.declared.frame.TheConstants.{CONTENT_LIMIT}
 use Rattle.kp_frames.specs.Life.{behind, Event, fed, gave, Lives, Lived, taken, given}
 use Rattle.kp_frames.specs.Stream.{frame, first, Split, stream, is_faulty, kept}
-use Rattle.kp_frames.proofs.FirstLemmas.{IsBytes-left, IsBytes-right, fronted, front_spelled}
+use Rattle.kp_frames.proofs.FirstLemmas.{fronted, front_spelled}
 use Rattle.kp_frames.proofs.StreamLemmas.{passes_spelled}
-use Rattle.kp_frames.proofs.KeptLemmas.{faulty_behind, kept_behind, cases_of, kept_again, keeps, kept_none}
-
-all_small : (a b : List (List ℕ)) → AllByRecursion (λ content. length content ≤ CONTENT_LIMIT) a → AllByRecursion (λ content. length content ≤ CONTENT_LIMIT) b → AllByRecursion (λ content. length content ≤ CONTENT_LIMIT) (a ++ b)
-all_small [] b p q = q
-all_small (x ∷ a) b p q = (p.0, all_small a b p.1 q)
+use Rattle.kp_frames.proofs.KeptLemmas.{faulty_behind, kept_behind, kept_again, keeps, kept_none}
 
 IsBytes-kept : (bytes : List ℕ) → IsBytes bytes → IsBytes (kept bytes)
 unfolding kept
 IsBytes-kept bytes fits =
-    elim (cases_of (is_faulty bytes)) [
+    elim (cases_Bool (is_faulty bytes)) [
       | inl e ↦ rw e (IsBytes-take (length bytes - length (stream bytes).rest + 4) bytes fits)
       | inr e ↦ rw e fits
     ]
@@ -49,7 +46,7 @@ has_less all frames held content behind fits e p =
     record {
       parts = p.parts ∙ ap (λ (t : List ℕ). before ++ t) (f.parts ∙ ap (λ (t : List ℕ). t ++ behind) same)
           ∙ sym (append_assoc before (frame.spell content) behind) ∙ ap (λ (t : List ℕ). t ++ behind) (sym more);
-      sizes = all_small frames (content ∷ []) p.sizes (f.is_front.small, tt);
+      sizes = all_append (λ c. length c ≤ CONTENT_LIMIT) frames (content ∷ []) p.sizes (f.is_front.small, tt);
     }
 
 has_after : (events : List Event) (all : List ℕ) (frames : List (List ℕ)) (held after : List ℕ) → IsBytes (all ++ taken events) → Has all frames held → Lives held events after → Has (all ++ taken events) (frames ++ given events) after

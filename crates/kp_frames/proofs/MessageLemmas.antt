@@ -1,14 +1,31 @@
 -- Messages are read as they are written.
-use Rattle.std.proofs.Common.{refl}
+use Rattle.std.proofs.Common.{◌≡◌, ℕ, List, ◌++◌, Ok, refl, subst}
+use Rattle.kp_wire.specs.Reading.{Read}
 use Rattle.kp_wire.specs.Fields.{int32}
 use Rattle.kp_wire.specs.Strings.{string}
+use Rattle.kp_wire.proofs.ReadLemmas.{IsBytes, Takes}
 use Rattle.kp_wire.proofs.CodecLemmas.{IsExact, pair_exact, made_exact}
 use Rattle.kp_wire.proofs.StringLemmas.{string_exact, nullable_string_exact}
 use Rattle.kp_wire.proofs.FieldLemmas.{int16_exact, int32_exact, int64_exact, boolean_exact, records_exact, array_of_exact, nullable_array_of_exact}
 use Rattle.kp_wire.proofs.FieldFaultLemmas.{HasFieldFaults, made_faults, pair_faults, int16_faults, int32_faults, int64_faults, string_faults, nullable_string_faults, boolean_faults, records_faults, array_faults, nullable_array_faults}
+use Rattle.kp_frames.specs.declared.api.Api.{Api}
 use Rattle.kp_frames.specs.Produce.{partition_data, topic_data, produce_request, partition_response, topic_response, produce_response}
 use Rattle.kp_frames.specs.Metadata.{metadata_request, broker, partition_metadata, topic_metadata, metadata_response}
 use Rattle.kp_frames.specs.ProducerId.{init_producer_id_request, init_producer_id_response}
+
+-- ---- the body of an api
+
+-- a body that is read by its api, where each api's is exact
+pub of_api_exact : {B : Type 0} (api_of : B → Api) (fits : B → Type 0) (spell : B → List ℕ) (read : Api → List ℕ → Read B)
+    → ((a : Api) (bytes : List ℕ) (x : B × List ℕ) → IsBytes bytes → read a bytes ≡ Ok x → Takes bytes (spell x.0) x.1 × ((api_of x.0 ≡ a) × fits x.0))
+    → ((b : B) (rest : List ℕ) → fits b → read (api_of b) (spell b ++ rest) ≡ Ok (b, rest))
+    → (a : Api) → IsExact 0 (record { Fits = λ b. (api_of b ≡ a) × fits b; spell = spell; read = read a })
+of_api_exact api_of fits spell read takes again a = record {
+  takes = takes a;
+  again = λ b rest fit behind.
+      let R : Api → Type 0 = λ k. read k (spell b ++ rest) ≡ Ok (b, rest) in
+      subst R fit.0 (again b rest fit.1);
+}
 
 -- ---- Produce
 

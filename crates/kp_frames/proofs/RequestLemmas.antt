@@ -1,13 +1,14 @@
 -- Requests are read as they are written.
-use Rattle.std.proofs.Common.{◌≡◌, ℕ, Bool, true, false, cond, not, List, [], ◌++◌, ℤ, pos, Ok, Err, refl, sym, ap, subst, ◌∙◌, append_assoc, arith}
+use Rattle.std.proofs.Common.{◌≡◌, ℕ, true, not, List, [], ◌++◌, ℤ, pos, Ok, Err, refl, sym, ap, subst, ◌∙◌, append_assoc, ◌⊎◌, inl, inr, arith}
 use Rattle.std.specs.Prelude.{FitsSigned}
 use Rattle.std.specs.Int.{w16}
 use Rattle.std.specs.Ordering.{int_eq}
+use Rattle.std.proofs.lemmas.Bool.{cases_Bool, not-false}
 use Rattle.std.proofs.lemmas.Bool.Decides.{Decides-int_eq}
 use Rattle.std.proofs.lemmas.List.{append-nil}
 use Rattle.kp_wire.specs.Fields.{int16}
-use Rattle.kp_wire.proofs.ReadLemmas.{IsBytes, Takes, Takes-then}
-use Rattle.kp_wire.proofs.CodecLemmas.{IsExact, pair_exact, made_exact, one_spelling}
+use Rattle.kp_wire.proofs.ReadLemmas.{IsBytes, Takes, Takes-then, bind_ok, ok_is, no_fault, is_error, refuse_ok, or_else_ok}
+use Rattle.kp_wire.proofs.CodecLemmas.{IsExact, pair_exact, made_exact, made_takes, one_spelling}
 use Rattle.kp_wire.proofs.StringLemmas.{nullable_string_exact}
 use Rattle.kp_wire.proofs.FieldLemmas.{int16_exact, int32_exact}
 use Rattle.kp_frames.specs.declared.api.Api.{Api}
@@ -22,22 +23,22 @@ use Rattle.kp_frames.specs.Produce.{produce_request}
 use Rattle.kp_frames.specs.Metadata.{metadata_request}
 use Rattle.kp_frames.specs.ProducerId.{init_producer_id_request}
 use Rattle.kp_frames.specs.Request.{api_of, FitsBody, spell_body, read_body, body, known, FitsRequest, spelling, Spells, announced, request_at}
-use Rattle.kp_frames.proofs.MessageLemmas.{produce_request_exact, metadata_request_exact, init_producer_id_request_exact}
-use Rattle.kp_frames.specs.Fault.{IsContentFault, IsRequestFault}
-use Rattle.kp_wire.proofs.FieldFaultLemmas.{wrong, HasFieldFaults, made_faults, pair_faults, int16_faults, int32_faults, nullable_string_faults}
+use Rattle.kp_frames.proofs.MessageLemmas.{of_api_exact, produce_request_exact, metadata_request_exact, init_producer_id_request_exact}
+use Rattle.kp_frames.specs.Fault.{of_wire, IsContentFault, IsRequestFault}
+use Rattle.kp_wire.proofs.FieldFaultLemmas.{HasFieldFaults, made_faults, pair_faults, int16_faults, int32_faults, nullable_string_faults}
 use Rattle.kp_frames.proofs.MessageLemmas.{produce_request_faults, metadata_request_faults, init_producer_id_request_faults}
-use Rattle.kp_frames.proofs.FaultLemmas.{no_fault, is_error, step_err, in_message_err, refuse_err, whole_err, given, given_is, in_message_ok, refuse_ok, whole_ok, variant_takes}
-use Rattle.kp_wire.proofs.ReadLemmas.{bind_ok}
+use Rattle.kp_frames.proofs.FaultLemmas.{step_err, in_message_err, refuse_err, whole_err, whole_ok}
 
 -- ---- the body
 
-body_takes : (a : Api) (bytes : List ℕ) (x : RequestBody × List ℕ) → IsBytes bytes → read_body a bytes ≡ Ok x → Takes bytes (spell_body x.0) x.1 × ((api_of x.0 ≡ a) × FitsBody x.0)
-body_takes api.Produce bytes x fits e =
-    variant_takes produce_request Produce (λ b rest. Takes bytes (spell_body b) rest × ((api_of b ≡ api.Produce) × FitsBody b)) bytes x produce_request_exact fits (λ r rest t f. (t, (refl, f))) e
-body_takes api.Metadata bytes x fits e =
-    variant_takes metadata_request Metadata (λ b rest. Takes bytes (spell_body b) rest × ((api_of b ≡ api.Metadata) × FitsBody b)) bytes x metadata_request_exact fits (λ r rest t f. (t, (refl, f))) e
-body_takes api.InitProducerId bytes x fits e =
-    variant_takes init_producer_id_request InitProducerId (λ b rest. Takes bytes (spell_body b) rest × ((api_of b ≡ api.InitProducerId) × FitsBody b)) bytes x init_producer_id_request_exact fits (λ r rest t f. (t, (refl, f))) e
+-- b was read off the bytes, as the body of this api
+abbrev WasRead : Api → List ℕ → RequestBody → List ℕ → Type 0
+WasRead a bytes b rest = Takes bytes (spell_body b) rest × ((api_of b ≡ a) × FitsBody b)
+
+body_takes : (a : Api) (bytes : List ℕ) (x : RequestBody × List ℕ) → IsBytes bytes → read_body a bytes ≡ Ok x → WasRead a bytes x.0 x.1
+body_takes api.Produce bytes x fits e = made_takes 0 produce_request Produce (WasRead api.Produce bytes) bytes x produce_request_exact fits (λ r rest t f. (t, (refl, f))) e
+body_takes api.Metadata bytes x fits e = made_takes 0 metadata_request Metadata (WasRead api.Metadata bytes) bytes x metadata_request_exact fits (λ r rest t f. (t, (refl, f))) e
+body_takes api.InitProducerId bytes x fits e = made_takes 0 init_producer_id_request InitProducerId (WasRead api.InitProducerId bytes) bytes x init_producer_id_request_exact fits (λ r rest t f. (t, (refl, f))) e
 
 body_again : (b : RequestBody) (rest : List ℕ) → FitsBody b → read_body (api_of b) (spell_body b ++ rest) ≡ Ok (b, rest)
 body_again (Produce r) rest fits = rw (produce_request_exact.again r rest fits (omega arith)) refl
@@ -46,12 +47,7 @@ body_again (InitProducerId r) rest fits = rw (init_producer_id_request_exact.aga
 
 body_exact : (a : Api) → IsExact 0 (body a)
 unfolding body
-body_exact a = record {
-  takes = body_takes a;
-  again = λ b rest fits behind.
-      let R : Api → Type 0 = λ k. read_body k (spell_body b ++ rest) ≡ Ok (b, rest) in
-      subst R fits.0 (body_again b rest fits.1);
-}
+body_exact a = of_api_exact api_of FitsBody spell_body read_body body_takes body_again a
 
 known_exact : (a : Api) → IsExact 0 (known a)
 unfolding known
@@ -64,24 +60,27 @@ is_of a r fits = fits.1.1.0
 
 -- ---- the api and its version
 
-equal : (m n : ℤ) → int_eq m n ≡ true → m ≡ n
-equal m n e = (Decides-int_eq m n).0 e
+-- a key is that of an api, or of none
+known_key : (key : ℤ) → ((a : Api) × (key ≡ key_of a) × (api_with key ≡ Ok a)) ⊎ (api_with key ≡ Err UnknownApi)
+unfolding api_with
+known_key key =
+    elim (cases_Bool (int_eq key (pos 0))) [
+      | inl is ↦ inl (api.Produce, (Decides-int_eq _ _).0 is, rw is refl)
+      | inr other ↦ elim (cases_Bool (int_eq key (pos 3))) [
+        | inl is ↦ inl (api.Metadata, (Decides-int_eq _ _).0 is, rw (other, is) refl)
+        | inr another ↦ elim (cases_Bool (int_eq key (pos 22))) [
+          | inl is ↦ inl (api.InitProducerId, (Decides-int_eq _ _).0 is, rw (other, another, is) refl)
+          | inr none ↦ inr (rw (other, another, none) refl)
+        ]
+      ]
+    ]
 
 api_is : (key : ℤ) (a : Api) → api_with key ≡ Ok a → key ≡ key_of a
-unfolding api_with
-api_is key a e = by_produce (int_eq key (pos 0)) refl e
-  where
-    by_init : (b : Bool) → int_eq key (pos 22) ≡ b → cond b (Ok api.InitProducerId) (Err UnknownApi) ≡ given a → key ≡ key_of a
-    by_init true is e = equal key (pos 22) is ∙ ap key_of (given_is api.InitProducerId a e)
-    by_init false is e = absurd cc
-
-    by_metadata : (b : Bool) → int_eq key (pos 3) ≡ b → cond b (Ok api.Metadata) (cond (int_eq key (pos 22)) (Ok api.InitProducerId) (Err UnknownApi)) ≡ given a → key ≡ key_of a
-    by_metadata true is e = equal key (pos 3) is ∙ ap key_of (given_is api.Metadata a e)
-    by_metadata false is e = by_init (int_eq key (pos 22)) refl e
-
-    by_produce : (b : Bool) → int_eq key (pos 0) ≡ b → cond b (Ok api.Produce) (cond (int_eq key (pos 3)) (Ok api.Metadata) (cond (int_eq key (pos 22)) (Ok api.InitProducerId) (Err UnknownApi))) ≡ given a → key ≡ key_of a
-    by_produce true is e = equal key (pos 0) is ∙ ap key_of (given_is api.Produce a e)
-    by_produce false is e = by_metadata (int_eq key (pos 3)) refl e
+api_is key a e =
+    elim (known_key key) [
+      | inl found ↦ found.1 ∙ ap key_of (ok_is found.0 a (sym found.2 ∙ e))
+      | inr none ↦ absurd (no_fault UnknownApi a (sym none ∙ e))
+    ]
 
 api_again : (a : Api) → api_with (key_of a) ≡ Ok a
 unfolding api_with
@@ -102,24 +101,20 @@ version_fits api.InitProducerId = omega arith
 abbrev announcement : Api → List ℕ
 announcement a = int16.spell (key_of a) ++ int16.spell (version_of a)
 
-is_true : (b : Bool) → not b ≡ false → b ≡ true
-is_true true e = refl
-is_true false e = absurd cc
-
 announced_takes : (bytes : List ℕ) (x : Api × List ℕ) → IsBytes bytes → announced bytes ≡ Ok x → Takes bytes (announcement x.0) x.1
 unfolding announced
 announced_takes bytes x fits e =
-    let key = in_message_ok (int16.read bytes) _ x e in
+    let key = or_else_ok of_wire (int16.read bytes) _ x e in
     let a = bind_ok (api_with key.0.0) _ x key.2 in
-    let version = in_message_ok (int16.read key.0.1) _ x a.2 in
+    let version = or_else_ok of_wire (int16.read key.0.1) _ x a.2 in
     let known = refuse_ok (not (int_eq version.0.0 (version_of a.0))) UnknownVersion _ x version.2 in
     let t = (int16_exact.takes bytes key.0 fits key.1).0 in
     let u = (int16_exact.takes key.0.1 version.0 t.rest_fits version.1).0 in
-    let same : version.0.0 ≡ version_of a.0 = equal _ _ (is_true _ known.0) in
+    let same : version.0.0 ≡ version_of a.0 = (Decides-int_eq _ _).0 (not-false _ known.0) in
     let T : ℤ → ℤ → Type 0 = λ k v. Takes bytes (int16.spell k ++ int16.spell v) version.0.1 in
     let R : Api × List ℕ → Type 0 = λ y. Takes bytes (announcement y.0) y.1 in
     let both = subst (λ (v : ℤ). T (key_of a.0) v) same (subst (λ (k : ℤ). T k version.0.0) (api_is key.0.0 a.0 a.1) (Takes-then bytes (int16.spell key.0.0) key.0.1 (int16.spell version.0.0) version.0.1 t u)) in
-    subst R (given_is (a.0, version.0.1) x known.1) both
+    subst R (ok_is (a.0, version.0.1) x known.1) both
 
 announced_again : (a : Api) (rest : List ℕ) → announced (int16.spell (key_of a) ++ (int16.spell (version_of a) ++ rest)) ≡ Ok (a, rest)
 unfolding announced
@@ -133,7 +128,7 @@ pub request_found : (bytes : List ℕ) (r : Request) → IsBytes bytes → reque
 unfolding request_at FitsRequest spelling
 request_found bytes r fits e =
     let a = bind_ok (announced bytes) _ r e in
-    let m = in_message_ok ((known a.0.0).read a.0.1) _ r a.2 in
+    let m = or_else_ok of_wire ((known a.0.0).read a.0.1) _ r a.2 in
     let w = whole_ok m.0.0 m.0.1 r m.2 in
     let t = announced_takes bytes a.0 fits a.1 in
     let u = (known_exact a.0.0).takes a.0.1 m.0 t.rest_fits m.1 in
@@ -166,7 +161,7 @@ request_one_spelling a b x y rest p q e =
     let k = api_of b.body in
     let front : y ≡ int16.spell (key_of j) ++ (int16.spell (version_of j) ++ ((known j).spell a ++ rest)) = e ∙ ap (λ (s : List ℕ). s ++ rest) p.is_spelling ∙ spelled_behind a rest in
     let back : y ≡ int16.spell (key_of k) ++ (int16.spell (version_of k) ++ ((known k).spell b ++ [])) = q.is_spelling ∙ sym (append-nil (spelling b)) ∙ spelled_behind b [] in
-    let both = given_is (j, (known j).spell a ++ rest) (k, (known k).spell b ++ []) (sym (announced_again j ((known j).spell a ++ rest)) ∙ ap announced (sym front ∙ back) ∙ announced_again k ((known k).spell b ++ [])) in
+    let both = ok_is (j, (known j).spell a ++ rest) (k, (known k).spell b ++ []) (sym (announced_again j ((known j).spell a ++ rest)) ∙ ap announced (sym front ∙ back) ∙ announced_again k ((known k).spell b ++ [])) in
     let same : j ≡ k = ap (λ (z : Api × List ℕ). z.0) both in
     let P : Api → Type 0 = λ i. (known i).Fits b × ((known j).spell a ++ rest ≡ (known i).spell b ++ []) in
     let there : P j = subst P (sym same) (q.fits, ap (λ (z : Api × List ℕ). z.1) both) in
@@ -194,20 +189,11 @@ of_content OutOfMemory h = h
 of_content Mismatch h = h
 
 api_fault : (key : ℤ) (f : FrameFault) → api_with key ≡ Err f → IsRequestFault f
-unfolding api_with
-api_fault key f e = by_produce (int_eq key (pos 0)) e
-  where
-    by_init : (b : Bool) → cond b (given api.InitProducerId) (Err UnknownApi) ≡ wrong f → IsRequestFault f
-    by_init true e = absurd (no_fault f api.InitProducerId (sym e))
-    by_init false e = is_error {A = Api} IsRequestFault UnknownApi f tt e
-
-    by_metadata : (b : Bool) → cond b (given api.Metadata) (cond (int_eq key (pos 22)) (Ok api.InitProducerId) (Err UnknownApi)) ≡ wrong f → IsRequestFault f
-    by_metadata true e = absurd (no_fault f api.Metadata (sym e))
-    by_metadata false e = by_init (int_eq key (pos 22)) e
-
-    by_produce : (b : Bool) → cond b (given api.Produce) (cond (int_eq key (pos 3)) (Ok api.Metadata) (cond (int_eq key (pos 22)) (Ok api.InitProducerId) (Err UnknownApi))) ≡ wrong f → IsRequestFault f
-    by_produce true e = absurd (no_fault f api.Produce (sym e))
-    by_produce false e = by_metadata (int_eq key (pos 3)) e
+api_fault key f e =
+    elim (known_key key) [
+      | inl found ↦ absurd (no_fault f found.0 (sym e ∙ found.2))
+      | inr none ↦ is_error {A = Api} IsRequestFault UnknownApi f tt (sym none ∙ e)
+    ]
 
 announced_fault : (bytes : List ℕ) (f : FrameFault) → announced bytes ≡ Err f → IsRequestFault f
 unfolding announced

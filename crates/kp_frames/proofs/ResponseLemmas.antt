@@ -1,8 +1,8 @@
 -- Responses are read as they are written.
 use Rattle.std.proofs.Common.{◌≡◌, ℕ, List, [], ◌++◌, Ok, Err, refl, sym, ap, subst, ◌∙◌, arith}
 use Rattle.std.proofs.lemmas.List.{append-nil}
-use Rattle.kp_wire.proofs.ReadLemmas.{IsBytes, Takes}
-use Rattle.kp_wire.proofs.CodecLemmas.{IsExact, pair_exact, made_exact, one_spelling}
+use Rattle.kp_wire.proofs.ReadLemmas.{IsBytes, Takes, or_else_ok}
+use Rattle.kp_wire.proofs.CodecLemmas.{IsExact, pair_exact, made_exact, made_takes, one_spelling}
 use Rattle.kp_wire.proofs.FieldLemmas.{int32_exact}
 use Rattle.kp_frames.specs.declared.api.Api.{Api}
 use Rattle.kp_frames.specs.declared.api.Api.TheVariants as api
@@ -13,22 +13,23 @@ use Rattle.kp_frames.specs.Produce.{produce_response}
 use Rattle.kp_frames.specs.Metadata.{metadata_response}
 use Rattle.kp_frames.specs.ProducerId.{init_producer_id_response}
 use Rattle.kp_frames.specs.Response.{api_of, FitsBody, spell_body, read_body, body, answer, FitsResponse, spelling, Spells, response_at}
-use Rattle.kp_frames.proofs.MessageLemmas.{produce_response_exact, metadata_response_exact, init_producer_id_response_exact}
+use Rattle.kp_frames.proofs.MessageLemmas.{of_api_exact, produce_response_exact, metadata_response_exact, init_producer_id_response_exact}
 use Rattle.kp_frames.specs.declared.fault.FrameFault.{FrameFault}
-use Rattle.kp_frames.specs.Fault.{IsContentFault}
+use Rattle.kp_frames.specs.Fault.{of_wire, IsContentFault}
 use Rattle.kp_wire.proofs.FieldFaultLemmas.{HasFieldFaults, made_faults, pair_faults, int32_faults}
 use Rattle.kp_frames.proofs.MessageLemmas.{produce_response_faults, metadata_response_faults, init_producer_id_response_faults}
-use Rattle.kp_frames.proofs.FaultLemmas.{in_message_err, whole_err, in_message_ok, whole_ok, variant_takes}
+use Rattle.kp_frames.proofs.FaultLemmas.{in_message_err, whole_err, whole_ok}
 
 -- ---- the body
 
-body_takes : (a : Api) (bytes : List ℕ) (x : ResponseBody × List ℕ) → IsBytes bytes → read_body a bytes ≡ Ok x → Takes bytes (spell_body x.0) x.1 × ((api_of x.0 ≡ a) × FitsBody x.0)
-body_takes api.Produce bytes x fits e =
-    variant_takes produce_response Produce (λ b rest. Takes bytes (spell_body b) rest × ((api_of b ≡ api.Produce) × FitsBody b)) bytes x produce_response_exact fits (λ r rest t f. (t, (refl, f))) e
-body_takes api.Metadata bytes x fits e =
-    variant_takes metadata_response Metadata (λ b rest. Takes bytes (spell_body b) rest × ((api_of b ≡ api.Metadata) × FitsBody b)) bytes x metadata_response_exact fits (λ r rest t f. (t, (refl, f))) e
-body_takes api.InitProducerId bytes x fits e =
-    variant_takes init_producer_id_response InitProducerId (λ b rest. Takes bytes (spell_body b) rest × ((api_of b ≡ api.InitProducerId) × FitsBody b)) bytes x init_producer_id_response_exact fits (λ r rest t f. (t, (refl, f))) e
+-- b was read off the bytes, as the body of this api
+abbrev WasRead : Api → List ℕ → ResponseBody → List ℕ → Type 0
+WasRead a bytes b rest = Takes bytes (spell_body b) rest × ((api_of b ≡ a) × FitsBody b)
+
+body_takes : (a : Api) (bytes : List ℕ) (x : ResponseBody × List ℕ) → IsBytes bytes → read_body a bytes ≡ Ok x → WasRead a bytes x.0 x.1
+body_takes api.Produce bytes x fits e = made_takes 0 produce_response Produce (WasRead api.Produce bytes) bytes x produce_response_exact fits (λ r rest t f. (t, (refl, f))) e
+body_takes api.Metadata bytes x fits e = made_takes 0 metadata_response Metadata (WasRead api.Metadata bytes) bytes x metadata_response_exact fits (λ r rest t f. (t, (refl, f))) e
+body_takes api.InitProducerId bytes x fits e = made_takes 0 init_producer_id_response InitProducerId (WasRead api.InitProducerId bytes) bytes x init_producer_id_response_exact fits (λ r rest t f. (t, (refl, f))) e
 
 body_again : (b : ResponseBody) (rest : List ℕ) → FitsBody b → read_body (api_of b) (spell_body b ++ rest) ≡ Ok (b, rest)
 body_again (Produce r) rest fits = rw (produce_response_exact.again r rest fits (omega arith)) refl
@@ -37,12 +38,7 @@ body_again (InitProducerId r) rest fits = rw (init_producer_id_response_exact.ag
 
 body_exact : (a : Api) → IsExact 0 (body a)
 unfolding body
-body_exact a = record {
-  takes = body_takes a;
-  again = λ b rest fits behind.
-      let R : Api → Type 0 = λ k. read_body k (spell_body b ++ rest) ≡ Ok (b, rest) in
-      subst R fits.0 (body_again b rest fits.1);
-}
+body_exact a = of_api_exact api_of FitsBody spell_body read_body body_takes body_again a
 
 answer_exact : (a : Api) → IsExact 0 (answer a)
 unfolding answer
@@ -65,7 +61,7 @@ of_api a bytes r p =
 pub response_found : (a : Api) (bytes : List ℕ) (r : Response) → IsBytes bytes → response_at a bytes ≡ Ok r → Spells a bytes r
 unfolding response_at FitsResponse spelling
 response_found a bytes r fits e =
-    let m = in_message_ok ((answer a).read bytes) _ r e in
+    let m = or_else_ok of_wire ((answer a).read bytes) _ r e in
     let w = whole_ok m.0.0 m.0.1 r m.2 in
     let t = (answer_exact a).takes bytes m.0 fits m.1 in
     let same : api_of m.0.0.body ≡ a = is_of a m.0.0 t.1 in

@@ -2,14 +2,14 @@
 use Rattle.std.proofs.Common.{◌≡◌, ℕ, zero, suc, ◌+◌, ◌-◌, ◌≤◌, List, [], ◌∷◌, ◌++◌, length, drop, Ok, Err, refl, sym, ap, subst, ◌∙◌, append_assoc, arith}
 use Rattle.std.specs.Prelude.{IsErr}
 use Rattle.std.specs.List.{flat_map, AllByRecursion}
-use Rattle.std.proofs.lemmas.List.{length-append, append-nil, drop_at}
-use Rattle.kp_wire.proofs.ReadLemmas.{IsBytes}
+use Rattle.std.proofs.lemmas.List.{length-append, append-nil}
+use Rattle.kp_wire.proofs.ReadLemmas.{IsBytes, IsBytes-left, IsBytes-right, end_is, failed}
 use Rattle.kp_frames.specs.declared.fault.FrameFault.{FrameFault}
 use Rattle.kp_frames.specs.declared.fault.FrameFault.TheVariants.{Short}
 use Rattle.kp_frames.specs.declared.frame.TheConstants.{CONTENT_LIMIT}
 use Rattle.kp_frames.specs.Life.{behind}
 use Rattle.kp_frames.specs.Stream.{frame, first, Split, at_most, stream, is_faulty_rest, is_faulty, Splits}
-use Rattle.kp_frames.proofs.FirstLemmas.{IsBytes-left, IsBytes-right, First, fails, first_short, IsFront, front_len, front_first, Fronted, fronted, frame_front, front_spelled}
+use Rattle.kp_frames.proofs.FirstLemmas.{First, first_short, IsFront, front_len, front_first, Fronted, fronted, frame_front, front_spelled}
 
 pub stops_at : (n : ℕ) (bytes : List ℕ) (f : FrameFault) → first bytes ≡ Err f → at_most n bytes ≡ record { frames = []; rest = bytes }
 unfolding at_most
@@ -125,7 +125,7 @@ pub faulty_so : (a b : List ℕ) → (stream a).rest ≡ (stream b).rest → is_
 unfolding is_faulty
 faulty_so a b e = ap (λ (rest : List ℕ). is_faulty_rest (first rest)) e
 
-pub faulty_none : (bytes : List ℕ) (f : FrameFault) → first bytes ≡ Err f → is_faulty bytes ≡ is_faulty_rest (fails f)
+pub faulty_none : (bytes : List ℕ) (f : FrameFault) → first bytes ≡ Err f → is_faulty bytes ≡ is_faulty_rest (failed f)
 unfolding is_faulty
 faulty_none bytes f e = ap (λ (s : Split). is_faulty_rest (first s.rest)) (first_none bytes f e) ∙ ap is_faulty_rest e
 
@@ -135,12 +135,7 @@ stream_more bytes more =
     ap stream (ap (λ (t : List ℕ). t ++ more) p.parts ∙ append_assoc p.front (stream bytes).rest more) ∙ p.passes.over ((stream bytes).rest ++ more)
 
 pub at_rest : (bytes : List ℕ) → drop (length bytes - length (stream bytes).rest) bytes ≡ (stream bytes).rest
-at_rest bytes =
-    let p = parts_of bytes in
-    let rest = (stream bytes).rest in
-    let whole : length bytes ≡ length p.front + length rest = ap length p.parts ∙ length-append p.front rest in
-    let n : length p.front ≡ length bytes - length rest = omega arith in
-    ap (drop (length bytes - length rest)) p.parts ∙ drop_at p.front rest (length bytes - length rest) n
+at_rest bytes = let p = parts_of bytes in sym (end_is bytes p.front (stream bytes).rest p.parts).1
 
 -- ---- the only splitting
 

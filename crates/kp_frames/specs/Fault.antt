@@ -1,9 +1,10 @@
 -- The faults of a message, from those of its fields.
-use Rattle.std.specs.Prelude.{◌≡◌, ℕ, List, [], ◌∷◌, Result, Ok, Err, Bool, if◌then◌else◌}
+use Rattle.std.specs.Prelude.{◌≡◌, ℕ, List, [], ◌∷◌, Result, Ok, Err}
 use Rattle.kp_wire.specs.declared.fault.WireFault.{WireFault}
 use Rattle.kp_wire.specs.declared.fault.WireFault.TheVariants as field
 use Rattle.kp_wire.specs.declared.fault.ReadError.{ReadError}
 use Rattle.kp_wire.specs.declared.fault.ReadError.TheVariants as read
+use Rattle.kp_wire.specs.Reading.{or_else}
 use Rattle.kp_frames.specs.declared.fault.FrameFault.{FrameFault}
 use Rattle.kp_frames.specs.declared.fault.FrameFault.TheVariants.{Short, Trailing, UnknownApi, UnknownVersion, Wire, TooLarge, OutOfMemory, Mismatch}
 
@@ -22,12 +23,7 @@ of_read (read.Fault fault) = of_wire fault
 
 -- what reading fields gives, with the message's fault
 abbrev pub in_message : {A : Type 0} → Result A WireFault → Result A FrameFault
-in_message (Ok x) = Ok x
-in_message (Err fault) = Err (of_wire fault)
-
--- Where the test holds, it is this fault, and nothing behind it is looked at.
-abbrev pub refuse : Bool → FrameFault → Result (Unit {0}) FrameFault
-refuse applies fault = if applies then Err fault else Ok tt
+in_message read = or_else of_wire read
 
 -- The message, where nothing stands behind it.
 abbrev pub whole : {A : Type 0} → A → List ℕ → Result A FrameFault

@@ -2,7 +2,7 @@
 -- guide, "Request Header v1").
 use Rattle.std.specs.Prelude.{◌≡◌, ℕ, List, ◌++◌, Result, Ok, not}
 use Rattle.std.specs.Ordering.{int_eq}
-use Rattle.kp_wire.specs.Reading.{Read, ◌>>=◌}
+use Rattle.kp_wire.specs.Reading.{Read, ◌>>=◌, refuse}
 use Rattle.kp_wire.specs.Codec.{Codec, pair, made}
 use Rattle.kp_wire.specs.Fields.{int16, int32}
 use Rattle.kp_wire.specs.Strings.{nullable_string}
@@ -13,7 +13,7 @@ use Rattle.kp_frames.specs.declared.request.RequestBody.{RequestBody}
 use Rattle.kp_frames.specs.declared.request.RequestBody.TheVariants.{Produce, Metadata, InitProducerId}
 use Rattle.kp_frames.specs.declared.fault.FrameFault.{FrameFault}
 use Rattle.kp_frames.specs.declared.fault.FrameFault.TheVariants.{UnknownVersion}
-use Rattle.kp_frames.specs.Fault.{in_message, refuse, whole}
+use Rattle.kp_frames.specs.Fault.{in_message, whole}
 use Rattle.kp_frames.specs.Api.{key_of, version_of, api_with}
 use Rattle.kp_frames.specs.Produce.{produce_request}
 use Rattle.kp_frames.specs.Metadata.{metadata_request}

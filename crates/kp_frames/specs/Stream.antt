@@ -2,12 +2,12 @@
 use Rattle.std.specs.Prelude.{◌≡◌, ℕ, zero, suc, ◌+◌, ◌-◌, ◌≤◌, List, [], ◌∷◌, ◌++◌, length, take, ℤ, pos, Result, Ok, Err, Bool, true, false, ◌||◌, int_lt, nat_abs, if◌then◌else◌, IsErr}
 use Rattle.std.specs.List.{flat_map, AllByRecursion}
 use Rattle.std.specs.Int.{w32}
-use Rattle.kp_wire.specs.Reading.{◌>>=◌}
+use Rattle.kp_wire.specs.Reading.{◌>>=◌, refuse}
 use Rattle.kp_wire.specs.Codec.{Codec, int, sized, plain, read_bytes}
 use Rattle.kp_frames.specs.declared.fault.FrameFault.{FrameFault}
 use Rattle.kp_frames.specs.declared.fault.FrameFault.TheVariants.{TooLarge}
 use Rattle.kp_frames.specs.declared.frame.TheConstants.{CONTENT_LIMIT}
-use Rattle.kp_frames.specs.Fault.{in_message, refuse}
+use Rattle.kp_frames.specs.Fault.{in_message}
 
 -- ---- one frame
 

@@ -1,7 +1,7 @@
 -- The definitions at work: what the loopback broker answers to batches of one, two and three records.
-use Rattle.std.proofs.Common.{◌≡◌, ℕ, ◌≤◌, false, List, [], ◌∷◌, ◌++◌, length, ℤ, pos, negsuc, Some, None, refl, sym, ap, ◌∙◌, ⊎_elim, arith}
+use Rattle.std.proofs.Common.{◌≡◌, ℕ, ◌≤◌, false, List, [], ◌∷◌, ◌++◌, length, ℤ, pos, negsuc, Some, None, refl, ap, ⊎_elim, arith}
 use Rattle.std.specs.Prelude.{◌==◌}
-use Rattle.std.proofs.lemmas.Bool.{true≢false, eq-eqb}
+use Rattle.std.proofs.lemmas.Bool.{eqb-false}
 use Rattle.kp_batch.specs.declared.record.Record.{Record}
 use Rattle.kp_log.specs.History.{Sent, History, empty_history, with_batch, with_others, of_id, own, own_offsets}
 use Rattle.kp_log.specs.KeptBatches.{kept_in}
@@ -100,7 +100,7 @@ four_behind_are_too_few : IsOld six.batches (batch 2 (c ∷ [])) → ⊥
 four_behind_are_too_few old = too_few old.earlier old.later old.split old.more
   where
     other : (m n : ℕ) (xs ys : List Record) → batch m xs ≡ batch n ys → (m == n) ≡ false → ⊥
-    other m n xs ys e apart = let same : m ≡ n = ap (λ (z : Sent). z.sequence) e in true≢false (sym (eq-eqb m n same) ∙ apart)
+    other m n xs ys e apart = let same : m ≡ n = ap (λ (z : Sent). z.sequence) e in eqb-false m n apart same
 
     too_few : (earlier later : List Sent) → six.batches ≡ earlier ++ batch 2 (c ∷ []) ∷ later → 5 ≤ length (of_id 1000 later) → ⊥
     too_few [] later e more = other 0 2 (a ∷ b ∷ []) (c ∷ []) (cc) refl

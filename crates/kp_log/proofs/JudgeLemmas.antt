@@ -1,5 +1,5 @@
 -- What the tests of a judge, which look at what is kept, say of the log.
-use Rattle.std.proofs.Common.{◌≡◌, Bool, true, false, List, ℤ, pos, int_lt, int_cmp, int_eq, Option, unwrap_or, SFits, to_z, of_z, w16, w64, refl, sym, ap, ◌∙◌}
+use Rattle.std.proofs.Common.{◌≡◌, Bool, true, false, List, ℤ, pos, int_lt, int_cmp, int_eq, Option, unwrap_or, SFits, to_z, of_z, w16, w64, sym, ap, ◌∙◌}
 use Rattle.std.specs.BTreeMap.{is_at}
 use Rattle.std.specs.Map.{lookup}
 use Rattle.std.proofs.lemmas.Int.{to_z-of_z}
@@ -8,6 +8,7 @@ use Rattle.kp_batch.specs.declared.batch.Batch.{Batch}
 use Rattle.kp_log.specs.declared.kept.Span.{Span}
 use Rattle.kp_log.specs.declared.kept.Kept.{Kept}
 use Rattle.kp_log.specs.Log.{Log, nothing_kept}
+use Rattle.kp_log.proofs.LogLemmas.{int_apart}
 use Rattle.kp_log.proofs.RuleLemmas.{IsAddressed, spans_of}
 
 -- ---- the head, as the machine compares it
@@ -19,12 +20,8 @@ sign_of id t fits h = ap (λ z. int_lt z (pos 0)) (sym (to_z-of_z w64 id fits)) 
 zero_epoch : (e : ℤ) → SFits w16 e → of_z w16 e ≡ 0 → int_eq e (pos 0) ≡ true
 zero_epoch e fits h = let zero : e ≡ pos 0 = sym (to_z-of_z w16 e fits) ∙ ap (to_z w16) h in (Decides-int_eq e (pos 0)).1 zero
 
-other_at : (e : ℤ) (t : Bool) → int_eq e (pos 0) ≡ t → (of_z w16 e ≡ 0 → ⊥) → int_eq e (pos 0) ≡ false
-other_at e true is other = absurd (other (ap (of_z w16) ((Decides-int_eq e (pos 0)).0 is)))
-other_at e false is other = is
-
 pub other_epoch : (e : ℤ) → (of_z w16 e ≡ 0 → ⊥) → int_eq e (pos 0) ≡ false
-other_epoch e other = other_at e (int_eq e (pos 0)) refl other
+other_epoch e other = int_apart e (pos 0) (λ same. other (ap (of_z w16) same))
 
 pub is_addressed : (b : Batch) → SFits w64 b.head.producer_id → SFits w16 b.head.epoch
     → int_lt (to_z w64 (of_z w64 b.head.producer_id)) (pos 0) ≡ false → of_z w16 b.head.epoch ≡ 0 → IsAddressed b

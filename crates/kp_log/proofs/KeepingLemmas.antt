@@ -1,21 +1,19 @@
 -- A history that came by what was handed over stays one.
-use Rattle.std.proofs.Common.{◌≡◌, ◌⊎◌, ℕ, ◌+◌, Bool, true, false, cond, List, [], ◌∷◌, ◌++◌, length, replicate, pos, negsuc, refl, sym, ap, ◌∙◌, subst, ⊎_elim, arith, append_assoc, Contains}
+use Rattle.std.proofs.Common.{◌≡◌, ◌⊎◌, ℕ, ◌+◌, Bool, true, false, List, [], ◌∷◌, ◌++◌, length, replicate, pos, negsuc, refl, sym, ap, ◌∙◌, subst, ⊎_elim, arith, append_assoc, Contains}
 use Rattle.std.specs.Prelude.{◌==◌}
-use Rattle.std.specs.Ordering.{int_eq}
 use Rattle.std.proofs.lemmas.Bool.{eqb-true}
-use Rattle.std.proofs.lemmas.Bool.Decides.{Decides-int_eq}
 use Rattle.std.proofs.lemmas.List.{append-nil}
 use Rattle.std.proofs.lemmas.List.Concat.{flat_map-append}
 use Rattle.std.proofs.lemmas.List.Elements.{All-nil, All-weaker, All-push, filter-append}
 use Rattle.kp_batch.specs.declared.record.Record.{Record}
 use Rattle.kp_log.specs.Log.{count_of, stored_as}
-use Rattle.kp_log.specs.History.{Sent, History, stored_of, records_of, of_id, empty_history, with_batch, with_others, NO_ID}
+use Rattle.kp_log.specs.History.{Sent, batch_of, History, stored_of, records_of, of_id, empty_history, with_batch, with_others, NO_ID}
 use Rattle.kp_log.specs.KeptBatches.{kept_in}
 use Rattle.kp_log.specs.BrokerStep.{Offered, offered_to}
 use Rattle.kp_log.specs.HandedOver.{Follows, AreInSequence, IsStored, CameBy}
-use Rattle.kp_log.proofs.LogLemmas.{count_of-append, count_of_others}
+use Rattle.kp_log.proofs.LogLemmas.{int_apart, count_of-append, count_of_others}
 use Rattle.kp_log.proofs.PlaceLemmas.{In, In-append_cases, In-nil, cut_cases}
-use Rattle.kp_log.proofs.SequenceLemmas.{CountFrom, size_of, count_of-records_of, count_front, count_rest, below, first_batch, counts}
+use Rattle.kp_log.proofs.SequenceLemmas.{CountFrom, size_of, count_of-records_of, count_front, count_rest, below, first_batch, counts, of_id-own, of_id-other}
 use Rattle.kp_log.proofs.OffsetLemmas.{stored_still, stands_last}
 use Rattle.kp_log.proofs.RulingLemmas.{Ruling, Repeats, GoesOn, IsOlder, LeavesGap, ruling}
 use Rattle.kp_log.proofs.LoopbackLemmas.{offered_of, offered_as, handed_in, some_of, count_at}
@@ -64,12 +62,8 @@ came_of_more handed b h came = record {
   counted = came.counted;
 }
 
-no_id_at : (id : ℕ) (t : Bool) → int_eq NO_ID (pos id) ≡ t → int_eq NO_ID (pos id) ≡ false
-no_id_at id true is = absurd (let same : negsuc 0 ≡ pos id = (Decides-int_eq NO_ID (pos id)).0 is in cc)
-no_id_at id false is = is
-
 pub others_count : (id n : ℕ) (body : Record) → count_of (pos id) (stored_as NO_ID (replicate n body)) ≡ 0
-others_count id n body = count_of_others (pos id) NO_ID (replicate n body) (no_id_at id (int_eq NO_ID (pos id)) refl)
+others_count id n body = count_of_others (pos id) NO_ID (replicate n body) (int_apart NO_ID (pos id) (λ same. absurd (let apart : negsuc 0 ≡ pos id = same in cc)))
 
 pub came_others : (handed : List Sent) (h : History) (n : ℕ) (body : Record) → CameBy handed h → CameBy handed (with_others n body h)
 came_others handed h n body came = record {
@@ -119,21 +113,18 @@ came_appended handed h b s came at is = record {
     own_at : (later : List Sent) × (of_id b.id handed ≡ (appended ++ b ∷ []) ++ later)
     own_at = (next.0, (came.first b.id).1 ∙ ap (λ z. appended ++ z) next.1 ∙ sym (append_assoc appended (b ∷ []) next.0))
 
-    pushed : (id : ℕ) → of_id id (h.batches ++ b ∷ []) ≡ of_id id h.batches ++ cond (b.id == id) (b ∷ []) []
-    pushed id = filter-append (λ (c : Sent). c.id == id) h.batches (b ∷ [])
-
     at_id : (id : ℕ) (t : Bool) → (b.id == id) ≡ t → (later : List Sent) × (of_id id handed ≡ of_id id (h.batches ++ b ∷ []) ++ later)
     at_id id true same =
         let here : b.id ≡ id = eqb-true b.id id same in
-        let end : of_id id h.batches ++ b ∷ [] ≡ of_id id (h.batches ++ b ∷ []) = sym (pushed id ∙ ap (λ t. of_id id h.batches ++ cond t (b ∷ []) []) same) in
+        let end : of_id id h.batches ++ b ∷ [] ≡ of_id id (h.batches ++ b ∷ []) = sym (of_id-own id h.batches b same) in
         let moved : (later : List Sent) × (of_id id handed ≡ (of_id id h.batches ++ b ∷ []) ++ later) = subst (λ i. (later : List Sent) × (of_id i handed ≡ (of_id i h.batches ++ b ∷ []) ++ later)) here own_at in
         (moved.0, moved.1 ∙ ap (λ z. z ++ moved.0) end)
     at_id id false other =
-        let end : of_id id h.batches ≡ of_id id (h.batches ++ b ∷ []) = sym (pushed id ∙ ap (λ t. of_id id h.batches ++ cond t (b ∷ []) []) other ∙ append-nil (of_id id h.batches)) in
+        let end : of_id id h.batches ≡ of_id id (h.batches ++ b ∷ []) = sym (of_id-other id h.batches b other) in
         ((came.first id).0, (came.first id).1 ∙ ap (λ z. z ++ (came.first id).0) end)
 
 came_by : (handed : List Sent) (h : History) (b : Sent) → AreInSequence handed → CameBy handed h → Contains handed b
-    → (r : Ruling h.records (kept_in b.id h).spans b) → CameBy handed (offered_of h b r).history
+    → (r : Ruling h.records (kept_in b.id h).spans (batch_of b)) → CameBy handed (offered_of h b r).history
 came_by handed h b s came at (Repeats span is) = came
 came_by handed h b s came at (GoesOn fresh is) = came_appended handed h b s came at (count_at h b is)
 came_by handed h b s came at (IsOlder fresh is old) = came
@@ -142,5 +133,5 @@ came_by handed h b s came at (LeavesGap fresh is old) = came
 pub came_offered : (handed : List Sent) (h : History) (b : Sent) → AreInSequence handed → CameBy handed h → Contains handed b
     → CameBy handed (offered_to h b).history
 came_offered handed h b s came at =
-    let r : Ruling h.records (kept_in b.id h).spans b = ruling h.records (kept_in b.id h).spans b in
+    let r : Ruling h.records (kept_in b.id h).spans (batch_of b) = ruling h.records (kept_in b.id h).spans (batch_of b) in
     subst (λ (o : Offered). CameBy handed o.history) (sym (offered_as h b (some_of handed b s at) r)) (came_by handed h b s came at r)

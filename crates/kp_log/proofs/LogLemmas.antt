@@ -1,11 +1,12 @@
 -- The kept counts stay those of the records, and what was inserted is found.
-use Rattle.std.proofs.Common.{◌≡◌, ℕ, suc, ◌+◌, ◌≤◌, Bool, true, false, cond, leb, List, [], ◌∷◌, ◌++◌, length, ℤ, pos, ◌+ℤ◌, int_le, Option, Some, unwrap_or, Ordering, Less, Equal, Greater, int_cmp, int_eq, is_eq, refl, sym, ap, subst, ◌∙◌, arith}
+use Rattle.std.proofs.Common.{◌≡◌, ℕ, suc, ◌+◌, ◌≤◌, Bool, true, false, cond, List, [], ◌∷◌, ◌++◌, length, ℤ, pos, ◌+ℤ◌, int_le, Option, Some, unwrap_or, Ordering, Less, Equal, Greater, int_cmp, int_eq, is_eq, refl, sym, ap, subst, ◌∙◌, arith}
 use Rattle.std.specs.Ordering.{match_ordering}
 use Rattle.std.specs.BTreeMap.{insert_entry, is_at}
 use Rattle.std.specs.Map.{lookup}
-use Rattle.std.proofs.lemmas.Bool.{and_parts}
-use Rattle.std.proofs.lemmas.Bool.Decides.{Decides-int_eq, nat_tests}
-use Rattle.std.proofs.lemmas.List.{length-append}
+use Rattle.std.proofs.lemmas.Bool.{and_parts, leb-true, false_from_ne_true}
+use Rattle.std.proofs.lemmas.Bool.Decides.{Decides-int_eq, not_from_Decides}
+use Rattle.std.proofs.lemmas.List.{length-append, length-map}
+use Rattle.kp_wire.proofs.ChoiceLemmas.{cond_under}
 use Rattle.kp_batch.specs.declared.batch.Batch.{Batch}
 use Rattle.kp_batch.specs.declared.record.Record.{Record}
 use Rattle.kp_log.specs.declared.stored.Stored.{Stored}
@@ -54,6 +55,9 @@ lookup-insert_entry (e ∷ es) k v q = lookup_at k v q e es (int_cmp k e.0) refl
 pub int_eq_same : (k : ℤ) → int_eq k k ≡ true
 int_eq_same k = (Decides-int_eq k k).1 refl
 
+pub int_apart : (x y : ℤ) → (x ≡ y → ⊥) → int_eq x y ≡ false
+int_apart x y apart = false_from_ne_true (int_eq x y) (λ e. apart ((Decides-int_eq x y).0 e))
+
 -- ---- counts
 
 count_after : (b : Bool) (m n : ℕ) → cond b (suc (m + n)) (m + n) ≡ cond b (suc m) m + n
@@ -75,8 +79,7 @@ count_of_others id owner [] other = refl
 count_of_others id owner (r ∷ rs) other = rw other (count_of_others id owner rs other)
 
 pub length-stored_as : (id : ℤ) (rs : List Record) → length (stored_as id rs) ≡ length rs
-length-stored_as id [] = refl
-length-stored_as id (r ∷ rs) = ap suc (length-stored_as id rs)
+length-stored_as id rs = length-map rs _
 
 -- ---- the next batch
 
@@ -84,9 +87,6 @@ pub record IsNext (records : List Stored) (b : Batch) : Type 0 where
   pub follows : b.head.base_sequence ≡ pos (count_of b.head.producer_id records)
   pub in_sequence : count_of b.head.producer_id records + length b.records ≤ SEQUENCE_LIMIT
   pub in_length : length records + length b.records ≤ LENGTH_LIMIT
-
-at_most : (m n : ℕ) → leb m n ≡ true → m ≤ n
-at_most m n h = grind (arith, nat_tests)
 
 pub next_is : (records : List Stored) (b : Batch) → is_next records b ≡ true → IsNext records b
 next_is records b h =
@@ -96,30 +96,21 @@ next_is records b h =
     let ends : int_le (pos (count_of b.head.producer_id records) +ℤ pos (length b.records)) (pos SEQUENCE_LIMIT) ≡ true = rw follows at first.1 in
     record {
       follows = follows;
-      in_sequence = at_most _ _ ends;
-      in_length = at_most _ _ parts.1;
+      in_sequence = leb-true _ _ ends;
+      in_length = leb-true _ _ parts.1;
     }
 
 -- ---- a log stays sound
-
-kept_at : (t : Bool) (k : Kept) (o : Option Kept)
-    → unwrap_or (cond t (Some k) o) nothing_kept ≡ cond t k (unwrap_or o nothing_kept)
-kept_at true k o = refl
-kept_at false k o = refl
 
 pub kept_of-appended : (id : ℤ) (log : Log) (b : Batch)
     → kept_of id (appended log b) ≡ cond (int_eq id b.head.producer_id) (kept_after (kept_of b.head.producer_id log) (span_of log b)) (kept_of id log)
 kept_of-appended id log b =
     let k : Kept = kept_after (kept_of b.head.producer_id log) (span_of log b) in
     ap (λ o. unwrap_or o nothing_kept) (lookup-insert_entry log.kept b.head.producer_id k id)
-    ∙ kept_at (int_eq id b.head.producer_id) k (lookup (is_at (int_cmp id)) log.kept)
-
-apart_at : (x y : ℤ) (t : Bool) → int_eq y x ≡ t → int_eq x y ≡ false → int_eq y x ≡ false
-apart_at x y true e h = absurd (let same : x ≡ y = sym ((Decides-int_eq y x).0 e) in let yes : int_eq x y ≡ true = (Decides-int_eq x y).1 same in cc)
-apart_at x y false e h = e
+    ∙ cond_under (λ (o : Option Kept). unwrap_or o nothing_kept) (int_eq id b.head.producer_id) (Some k) (lookup (is_at (int_cmp id)) log.kept)
 
 apart_swapped : (x y : ℤ) → int_eq x y ≡ false → int_eq y x ≡ false
-apart_swapped x y h = apart_at x y (int_eq y x) refl h
+apart_swapped x y h = int_apart y x (λ e. not_from_Decides (int_eq x y) (Decides-int_eq x y) h (sym e))
 
 record IsCounted (log : Log) (b : Batch) (id : ℤ) : Type 0 where
   counted : (kept_of id (appended log b)).count ≡ count_of id (appended log b).records

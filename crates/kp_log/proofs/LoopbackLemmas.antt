@@ -2,7 +2,7 @@
 use Rattle.std.proofs.Common.{◌≡◌, ◌≢◌, ◌⊎◌, ℕ, ◌+◌, ◌-◌, ◌<◌, ◌≤◌, Bool, true, false, cond, List, [], ◌∷◌, ◌++◌, length, map, take, drop, find, ℤ, pos, negsuc, Some, None, unwrap_or, refl, sym, ap, ◌∙◌, subst, inl, inr, arith, length-append, append_assoc, Contains}
 use Rattle.std.specs.Prelude.{◌==◌, nat_lt, int_le}
 use Rattle.std.specs.Ordering.{int_eq}
-use Rattle.std.proofs.lemmas.Bool.{true≢false, and_parts, eq-eqb, lt-ltb, le-ltb, leb-true}
+use Rattle.std.proofs.lemmas.Bool.{eqb-false, and_parts, eq-eqb, lt-ltb, le-ltb, leb-true}
 use Rattle.std.proofs.lemmas.Bool.Decides.{Decides-int_eq}
 use Rattle.std.proofs.lemmas.List.{length-take, length-drop, length-map, take-append-drop, drop-map}
 use Rattle.std.proofs.lemmas.List.Elements.{All-contains}
@@ -16,7 +16,8 @@ use Rattle.kp_log.specs.KeptBatches.{span_in, offset_in, kept_in, log_for}
 use Rattle.kp_log.specs.BrokerStep.{Stands, IsOld, MayAppend, BrokerStep, NO_ERROR, DUPLICATE_SEQUENCE_NUMBER, Offered, answered, history_after, offered_to, offered_late}
 use Rattle.kp_log.specs.HandedOver.{AreInSequence, IsStored, CameBy}
 use Rattle.kp_log.proofs.LogLemmas.{IsNext, next_is, int_eq_same, length-stored_as}
-use Rattle.kp_log.proofs.RulingLemmas.{Ruling, Repeats, GoesOn, IsOlder, LeavesGap, ruling, step_of, judged_as}
+use Rattle.kp_log.proofs.RulingLemmas.{Ruling, Repeats, GoesOn, IsOlder, LeavesGap, ruling, step_of}
+use Rattle.kp_log.proofs.RuleLemmas.{judged_as}
 use Rattle.kp_log.proofs.PlaceLemmas.{In, In-from_contains, contains_from_In, In-append_left, In-append_right, In-filter, In-head, Before, before_filter}
 use Rattle.kp_log.proofs.SequenceLemmas.{CountFrom, counts, one_batch, in_front}
 use Rattle.kp_log.proofs.OffsetLemmas.{stands_at, stands_last}
@@ -54,7 +55,7 @@ abbrev pub with_history : ℤ → ℤ → History → Offered
 with_history code base h = record { answer = record { code = code; base = base }; history = h }
 
 -- its answer and its history, by what the rule finds
-abbrev pub offered_of : {records : List Stored} {spans : List Span} (h : History) (b : Sent) → Ruling records spans b → Offered
+abbrev pub offered_of : {records : List Stored} {spans : List Span} (h : History) (b : Sent) → Ruling records spans (batch_of b) → Offered
 offered_of h b (Repeats s is) = with_history (pos 0) s.base_offset h
 offered_of h b (GoesOn fresh is) = with_history (pos 0) (pos (length h.records)) (with_batch b h)
 offered_of h b (IsOlder fresh is old) = with_history (pos 46) (negsuc 0) h
@@ -73,19 +74,19 @@ grows h b log is some =
     let less : length h.records < length log.records = omega (arith, longer, some) in
     ap (λ t. cond t (with_batch b h) h) (lt-ltb (length h.records) (length log.records) less)
 
-offered_by_rule : (h : History) (b : Sent) → 0 < length b.bodies → (r : Ruling h.records (kept_in b.id h).spans b) → offered_by h b (step_of (log_for b.id h) (batch_of b) r) ≡ offered_of h b r
+offered_by_rule : (h : History) (b : Sent) → 0 < length b.bodies → (r : Ruling h.records (kept_in b.id h).spans (batch_of b)) → offered_by h b (step_of (log_for b.id h) (batch_of b) r) ≡ offered_of h b r
 offered_by_rule h b some (Repeats s is) = ap (with_history (pos 0) s.base_offset) (stays h b)
 offered_by_rule h b some (GoesOn fresh is) = ap (with_history (pos 0) (pos (length h.records))) (grows h b (appended (log_for b.id h) (batch_of b)) refl some)
 offered_by_rule h b some (IsOlder fresh is old) = ap (with_history (pos 46) (negsuc 0)) (stays h b)
 offered_by_rule h b some (LeavesGap fresh is old) = ap (with_history (pos 45) (negsuc 0)) (stays h b)
 
-offered_is : (h : History) (b : Sent) (r : Ruling h.records (kept_in b.id h).spans b) → offered_to h b ≡ offered_by h b (step_of (log_for b.id h) (batch_of b) r)
+offered_is : (h : History) (b : Sent) (r : Ruling h.records (kept_in b.id h).spans (batch_of b)) → offered_to h b ≡ offered_by h b (step_of (log_for b.id h) (batch_of b) r)
 unfolding offered_to
 offered_is h b r =
     let kept : (kept_of (pos b.id) (log_for b.id h)).spans ≡ (kept_in b.id h).spans = ap (λ (k : Kept). k.spans) (kept_of_log_for b.id h) in
     ap (offered_by h b) (judged_as (log_for b.id h) (pos 0) (negsuc 0) b h.records (kept_in b.id h).spans r refl kept)
 
-pub offered_as : (h : History) (b : Sent) → 0 < length b.bodies → (r : Ruling h.records (kept_in b.id h).spans b) → offered_to h b ≡ offered_of h b r
+pub offered_as : (h : History) (b : Sent) → 0 < length b.bodies → (r : Ruling h.records (kept_in b.id h).spans (batch_of b)) → offered_to h b ≡ offered_of h b r
 offered_as h b some r = offered_is h b r ∙ offered_by_rule h b some r
 
 -- ---- what becomes of the history
@@ -104,7 +105,7 @@ either : (h : History) (b : Sent) (t : Bool) → MayAppend h b → Changes h b (
 either h b true may = inr (may, refl)
 either h b false may = inl refl
 
-changes_by : (h : History) (b : Sent) (r : Ruling h.records (kept_in b.id h).spans b) → Changes h b (offered_by h b (step_of (log_for b.id h) (batch_of b) r)).history
+changes_by : (h : History) (b : Sent) (r : Ruling h.records (kept_in b.id h).spans (batch_of b)) → Changes h b (offered_by h b (step_of (log_for b.id h) (batch_of b) r)).history
 changes_by h b (Repeats s is) = inl (stays h b)
 changes_by h b (GoesOn fresh is) = either h b (nat_lt (length h.records) (length (appended (log_for b.id h) (batch_of b)).records)) (inl (count_at h b is))
 changes_by h b (IsOlder fresh is old) = inl (stays h b)
@@ -112,7 +113,7 @@ changes_by h b (LeavesGap fresh is old) = inl (stays h b)
 
 changes : (h : History) (b : Sent) → Changes h b (offered_to h b).history
 changes h b =
-    let r : Ruling h.records (kept_in b.id h).spans b = ruling h.records (kept_in b.id h).spans b in
+    let r : Ruling h.records (kept_in b.id h).spans (batch_of b) = ruling h.records (kept_in b.id h).spans (batch_of b) in
     subst (λ (o : Offered). Changes h b o.history) (sym (offered_is h b r)) (changes_by h b r)
 
 -- told to answer late, with a code that says nothing of the batch
@@ -209,10 +210,10 @@ older_is_old handed h b in_sequence came at is =
 -- ---- the law
 
 apart : (m n : ℕ) → (m == n) ≡ false → pos m ≡ pos n → ⊥
-apart m n differ e = let same : m ≡ n = cc in true≢false (sym (eq-eqb m n same) ∙ differ)
+apart m n differ e = let same : m ≡ n = cc in eqb-false m n differ same
 
 step_by : (handed : List Sent) (h : History) (b : Sent) → AreInSequence handed → CameBy handed h → Contains handed b
-    → (r : Ruling h.records (kept_in b.id h).spans b) → BrokerStep h b (offered_of h b r).answer (offered_of h b r).history
+    → (r : Ruling h.records (kept_in b.id h).spans (batch_of b)) → BrokerStep h b (offered_of h b r).answer (offered_of h b r).history
 step_by handed h b in_sequence came at (Repeats s is) = record {
   change = inl refl;
   stands = λ _. repeat_stands handed h b s in_sequence came at is;
@@ -239,5 +240,5 @@ step_by handed h b in_sequence came at (LeavesGap fresh is old) = record {
 pub loopback_step : (handed : List Sent) (h : History) (b : Sent) → AreInSequence handed → CameBy handed h → Contains handed b
     → BrokerStep h b (offered_to h b).answer (offered_to h b).history
 loopback_step handed h b in_sequence came at =
-    let r : Ruling h.records (kept_in b.id h).spans b = ruling h.records (kept_in b.id h).spans b in
+    let r : Ruling h.records (kept_in b.id h).spans (batch_of b) = ruling h.records (kept_in b.id h).spans (batch_of b) in
     subst (λ (o : Offered). BrokerStep h b o.answer o.history) (sym (offered_as h b (some_of handed b in_sequence at) r)) (step_by handed h b in_sequence came at r)

@@ -1,8 +1,10 @@
 -- Where a batch stands in a log, and that it stays there.
-use Rattle.std.proofs.Common.{◌≡◌, ℕ, suc, ◌+◌, ◌<◌, Bool, true, false, cond, ◌||◌, List, [], ◌∷◌, ◌++◌, length, map, get_or, ℤ, pos, refl, sym, ap, ◌∙◌, arith, append_assoc}
+use Rattle.std.proofs.Common.{◌≡◌, ℕ, suc, ◌+◌, ◌<◌, false, cond, ◌||◌, List, [], ◌∷◌, ◌++◌, length, map, get_or, ℤ, pos, refl, sym, ap, ◌∙◌, arith, append_assoc}
 use Rattle.std.specs.List.{filter, enumerate_from}
 use Rattle.std.specs.Ordering.{int_eq}
+use Rattle.std.proofs.Math.Bool.{or-false}
 use Rattle.std.proofs.lemmas.List.{append-nil, get_or_at}
+use Rattle.kp_wire.proofs.ChoiceLemmas.{cond_under}
 use Rattle.kp_batch.specs.declared.record.Record.{Record}
 use Rattle.kp_log.specs.declared.stored.Stored.{Stored}
 use Rattle.kp_log.specs.declared.kept.Span.{Span}
@@ -23,20 +25,14 @@ from_zero : (id : ℤ) (records : List Stored) → own_offsets (id ∷ []) recor
 unfolding own_offsets
 from_zero id records = refl
 
-in_front_at : (n : ℕ) (s : Stored) (t : Bool) (rest : List (ℕ × Stored))
-    → map (λ (at : ℕ × Stored). at.0) (cond (t || false) ((n, s) ∷ rest) rest) ≡ cond t (n ∷ map (λ (at : ℕ × Stored). at.0) rest) (map (λ (at : ℕ × Stored). at.0) rest)
-in_front_at n s true rest = refl
-in_front_at n s false rest = refl
-
 offsets_cons : (n : ℕ) (id : ℤ) (s : Stored) (records : List Stored)
     → offsets_from n id (s ∷ records) ≡ cond (int_eq s.producer_id id) (n ∷ offsets_from (n + 1) id records) (offsets_from (n + 1) id records)
-offsets_cons n id s records = in_front_at n s (int_eq s.producer_id id) (filter (λ (at : ℕ × Stored). is_under (id ∷ []) at.1) (enumerate_from (n + 1) records))
+offsets_cons n id s records =
+    let rest = filter (λ (at : ℕ × Stored). is_under (id ∷ []) at.1) (enumerate_from (n + 1) records) in
+    cond_under (map (λ (at : ℕ × Stored). at.0)) (int_eq s.producer_id id || false) ((n, s) ∷ rest) rest
+    ∙ ap (λ t. cond t (n ∷ offsets_from (n + 1) id records) (offsets_from (n + 1) id records)) (or-false (int_eq s.producer_id id))
 
 -- as many as there are records under it
-append_at : (t : Bool) (n : ℕ) (xs ys : List ℕ) → cond t (n ∷ (xs ++ ys)) (xs ++ ys) ≡ cond t (n ∷ xs) xs ++ ys
-append_at true n xs ys = refl
-append_at false n xs ys = refl
-
 offsets-append : (n : ℕ) (id : ℤ) (xs ys : List Stored)
     → offsets_from n id (xs ++ ys) ≡ offsets_from n id xs ++ offsets_from (n + length xs) id ys
 offsets-append n id [] ys = let same : n ≡ n + 0 = omega arith in ap (λ k. offsets_from k id ys) same
@@ -45,17 +41,13 @@ offsets-append n id (x ∷ xs) ys =
     let deeper : offsets_from (n + 1) id (xs ++ ys) ≡ offsets_from (n + 1) id xs ++ offsets_from (n + suc (length xs)) id ys = offsets-append (n + 1) id xs ys ∙ ap (λ k. offsets_from (n + 1) id xs ++ offsets_from k id ys) same in
     offsets_cons n id x (xs ++ ys)
     ∙ ap (λ z. cond (int_eq x.producer_id id) (n ∷ z) z) deeper
-    ∙ append_at (int_eq x.producer_id id) n (offsets_from (n + 1) id xs) (offsets_from (n + suc (length xs)) id ys)
+    ∙ sym (cond_under (λ (z : List ℕ). z ++ offsets_from (n + suc (length xs)) id ys) (int_eq x.producer_id id) (n ∷ offsets_from (n + 1) id xs) (offsets_from (n + 1) id xs))
     ∙ ap (λ z. z ++ offsets_from (n + suc (length xs)) id ys) (sym (offsets_cons n id x xs))
-
-length_at : (t : Bool) (n : ℕ) (xs : List ℕ) → length (cond t (n ∷ xs) xs) ≡ cond t (suc (length xs)) (length xs)
-length_at true n xs = refl
-length_at false n xs = refl
 
 length-offsets : (n : ℕ) (id : ℤ) (xs : List Stored) → length (offsets_from n id xs) ≡ count_of id xs
 length-offsets n id [] = refl
 length-offsets n id (x ∷ xs) =
-    ap length (offsets_cons n id x xs) ∙ length_at (int_eq x.producer_id id) n (offsets_from (n + 1) id xs)
+    ap length (offsets_cons n id x xs) ∙ cond_under length (int_eq x.producer_id id) (n ∷ offsets_from (n + 1) id xs) (offsets_from (n + 1) id xs)
     ∙ ap (λ k. cond (int_eq x.producer_id id) (suc k) k) (length-offsets (n + 1) id xs)
 
 -- the first of an id's records stands where so many of them stand before it

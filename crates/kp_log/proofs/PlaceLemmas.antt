@@ -40,14 +40,14 @@ In-cons {A = A} x y ys h = at_front h.earlier h.split
 pub In-head : {A : Type 0} (x : A) (xs : List A) → In x (x ∷ xs)
 In-head x xs = record { earlier = []; later = xs; split = refl }
 
-pub In-tail : {A : Type 0} (x y : A) (ys : List A) → In x ys → In x (y ∷ ys)
-In-tail x y ys h = record { earlier = y ∷ h.earlier; later = h.later; split = ap (λ z. y ∷ z) h.split }
-
 pub In-append_left : {A : Type 0} (x : A) (xs ys : List A) → In x xs → In x (xs ++ ys)
 In-append_left x xs ys h = record { earlier = h.earlier; later = h.later ++ ys; split = ap (λ z. z ++ ys) h.split ∙ append_assoc h.earlier (x ∷ h.later) ys }
 
 pub In-append_right : {A : Type 0} (x : A) (xs ys : List A) → In x ys → In x (xs ++ ys)
 In-append_right x xs ys h = record { earlier = xs ++ h.earlier; later = h.later; split = ap (λ z. xs ++ z) h.split ∙ sym (append_assoc xs h.earlier (x ∷ h.later)) }
+
+pub In-tail : {A : Type 0} (x y : A) (ys : List A) → In x ys → In x (y ∷ ys)
+In-tail x y ys h = In-append_right x (y ∷ []) ys h
 
 pub In-append_cases : {A : Type 0} (x : A) (xs ys : List A) → In x (xs ++ ys) → In x xs ⊎ In x ys
 In-append_cases x [] ys h = inr h

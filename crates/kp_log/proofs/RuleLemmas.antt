@@ -12,6 +12,9 @@ use Rattle.kp_log.specs.declared.answer.Refusal.TheVariants.{InvalidRequest, Inv
 use Rattle.kp_log.specs.declared.kept.Span.{Span}
 use Rattle.kp_log.specs.declared.kept.Kept.{Kept}
 use Rattle.kp_log.specs.Log.{Log, kept_of, kept_after, last_kept, span_of, appended, empty}
+use Rattle.kp_log.specs.declared.stored.Stored.{Stored}
+use Rattle.kp_log.specs.History.{Sent, batch_of, arrived}
+use Rattle.kp_log.proofs.RulingLemmas.{Ruling, Repeats, GoesOn, IsOlder, LeavesGap, ruling, step_of}
 use Rattle.kp_log.proofs.LogLemmas.{int_eq_same, kept_of-appended}
 use Rattle.kp_log.specs.SequenceRule.{IsFirst, Step, is_repeat, repeated, is_next, is_older, judged, unchanged, stored}
 
@@ -59,6 +62,27 @@ pub judged_gap : (log : Log) (b : Batch) → IsAddressed b → repeated b (spans
 unfolding judged
 judged_gap log b to fresh gap newer = rw (to.known, to.first_epoch, fresh, gap, newer)
 
+-- ---- a batch of a history, as it arrives
+
+not_negative : (n : ℤ) → pos 0 ≤ℤ n → int_lt n (pos 0) ≡ false
+not_negative n h = grind (arith, ints)
+
+addressed : (offset leader_epoch : ℤ) (b : Sent) → IsAddressed (arrived offset leader_epoch b)
+addressed offset leader_epoch b = record { known = not_negative (pos b.id) (omega (arith, ints)); first_epoch = refl }
+
+-- a log with these records that keeps these batches makes the step of their ruling
+pub judged_as : (log : Log) (offset leader_epoch : ℤ) (b : Sent) (records : List Stored) (spans : List Span) (r : Ruling records spans (batch_of b))
+    → log.records ≡ records → spans_of log (arrived offset leader_epoch b) ≡ spans
+    → judged log (arrived offset leader_epoch b) ≡ step_of log (arrived offset leader_epoch b) r
+judged_as log offset leader_epoch b records spans (Repeats s is) same kept =
+    judged_repeat log (arrived offset leader_epoch b) s (addressed offset leader_epoch b) (ap (repeated (batch_of b)) kept ∙ is)
+judged_as log offset leader_epoch b records spans (GoesOn fresh is) same kept =
+    judged_next log (arrived offset leader_epoch b) (addressed offset leader_epoch b) (ap (repeated (batch_of b)) kept ∙ fresh) (ap (λ rs. is_next rs (batch_of b)) same ∙ is)
+judged_as log offset leader_epoch b records spans (IsOlder fresh is old) same kept =
+    judged_older log (arrived offset leader_epoch b) (addressed offset leader_epoch b) (ap (repeated (batch_of b)) kept ∙ fresh) (ap (λ rs. is_next rs (batch_of b)) same ∙ is) (ap (is_older (batch_of b)) kept ∙ old)
+judged_as log offset leader_epoch b records spans (LeavesGap fresh is old) same kept =
+    judged_gap log (arrived offset leader_epoch b) (addressed offset leader_epoch b) (ap (repeated (batch_of b)) kept ∙ fresh) (ap (λ rs. is_next rs (batch_of b)) same ∙ is) (ap (is_older (batch_of b)) kept ∙ old)
+
 -- ---- what can come of a batch
 
 pub record IsTaken (log : Log) (b : Batch) : Type 0 where
@@ -71,24 +95,18 @@ pub data Outcome (log : Log) (b : Batch) : Type 0 where
   Stays : (a : Answer) → judged log b ≡ unchanged log a → Outcome log b
   Grows : IsTaken log b → Outcome log b
 
-outcome_new : (log : Log) (b : Batch) (next older : Bool) → IsAddressed b
-    → repeated b (spans_of log b) ≡ None → is_next log.records b ≡ next
-    → is_older b (spans_of log b) ≡ older → Outcome log b
-outcome_new log b true older to fresh next is_old = Grows (record { addressed = to; fresh = fresh; taken = judged_next log b to fresh next })
-outcome_new log b false true to fresh gap old = Stays _ (judged_older log b to fresh gap old)
-outcome_new log b false false to fresh gap newer = Stays _ (judged_gap log b to fresh gap newer)
-
-outcome_against : (log : Log) (b : Batch) (found : Option Span) → IsAddressed b
-    → repeated b (spans_of log b) ≡ found → Outcome log b
-outcome_against log b (Some s) to found = Stays _ (judged_repeat log b s to found)
-outcome_against log b None to fresh = outcome_new log b (is_next log.records b) (is_older b (spans_of log b)) to fresh refl refl
+outcome_by : (log : Log) (b : Batch) → IsAddressed b → Ruling log.records (spans_of log b) b → Outcome log b
+outcome_by log b to (Repeats s is) = Stays _ (judged_repeat log b s to is)
+outcome_by log b to (GoesOn fresh is) = Grows (record { addressed = to; fresh = fresh; taken = judged_next log b to fresh is })
+outcome_by log b to (IsOlder fresh is old) = Stays _ (judged_older log b to fresh is old)
+outcome_by log b to (LeavesGap fresh is old) = Stays _ (judged_gap log b to fresh is old)
 
 outcome_at : (log : Log) (b : Batch) (negative first : Bool)
     → int_lt b.head.producer_id (pos 0) ≡ negative → int_eq b.head.epoch (pos 0) ≡ first
     → Outcome log b
 outcome_at log b true first negative epoch = Stays _ (judged_negative log b negative)
 outcome_at log b false false known later = Stays _ (judged_epoch log b known later)
-outcome_at log b false true known first = outcome_against log b (repeated b (spans_of log b)) (record { known = known; first_epoch = first }) refl
+outcome_at log b false true known first = outcome_by log b (record { known = known; first_epoch = first }) (ruling log.records (spans_of log b) b)
 
 pub outcome : (log : Log) (b : Batch) → Outcome log b
 outcome log b = outcome_at log b _ _ refl refl
@@ -168,9 +186,6 @@ pub refusal_keeps : (log : Log) (b : Batch) (refusal : Refusal)
 refusal_keeps log b refusal refused = refusal_at log b refusal (outcome log b) refused
 
 -- ---- a first batch
-
-not_negative : (n : ℤ) → pos 0 ≤ℤ n → int_lt n (pos 0) ≡ false
-not_negative n h = grind (arith, ints)
 
 first_is_addressed : (b : Batch) → IsFirst b → IsAddressed b
 first_is_addressed b first = record { known = not_negative _ first.known; first_epoch = rw first.first_epoch refl }

@@ -2,13 +2,13 @@
 use Rattle.std.proofs.Common.{◌≡◌, ◌⊎◌, ℕ, ◌+◌, ◌<◌, ◌≤◌, Bool, true, false, cond, List, [], ◌∷◌, ◌++◌, length, pos, refl, sym, ap, ◌∙◌, subst, inl, inr, ⊎_elim, arith, append_assoc}
 use Rattle.std.specs.Prelude.{◌==◌}
 use Rattle.std.specs.Ordering.{int_eq}
-use Rattle.std.proofs.lemmas.Bool.{eqb-true, eq-eqb}
-use Rattle.std.proofs.lemmas.Bool.Decides.{Decides-int_eq}
+use Rattle.std.proofs.lemmas.Bool.{eqb-true, eqb-false}
+use Rattle.std.proofs.lemmas.List.{append-nil}
 use Rattle.std.proofs.lemmas.List.Elements.{filter-append}
 use Rattle.kp_log.specs.Log.{count_of}
 use Rattle.kp_log.specs.History.{Sent, of_id, records_of, stored_of}
 use Rattle.kp_log.specs.HandedOver.{Follows, AreInSequence}
-use Rattle.kp_log.proofs.LogLemmas.{count_of-append, count_of_own, count_of_others}
+use Rattle.kp_log.proofs.LogLemmas.{int_apart, count_of-append, count_of_own, count_of_others}
 use Rattle.kp_log.proofs.PlaceLemmas.{In, In-nil, In-cons, In-head, In-tail}
 
 -- ---- how many records
@@ -22,12 +22,15 @@ pub size_of-append : (xs ys : List Sent) → size_of (xs ++ ys) ≡ size_of xs +
 size_of-append [] ys = omega arith
 size_of-append (x ∷ xs) ys = omega (arith, size_of-append xs ys)
 
-apart_at : (m n : ℕ) (t : Bool) → int_eq (pos m) (pos n) ≡ t → (m == n) ≡ false → int_eq (pos m) (pos n) ≡ false
-apart_at m n true is other = let same : pos m ≡ pos n = (Decides-int_eq (pos m) (pos n)).0 is in let one : m ≡ n = cc in let yes : (m == n) ≡ true = eq-eqb m n one in absurd cc
-apart_at m n false is other = is
-
 pub ids_apart : (m n : ℕ) → (m == n) ≡ false → int_eq (pos m) (pos n) ≡ false
-ids_apart m n other = apart_at m n (int_eq (pos m) (pos n)) refl other
+ids_apart m n other = int_apart (pos m) (pos n) (λ e. let same : m ≡ n = cc in eqb-false m n other same)
+
+-- with one batch more, an id has one batch more or the same
+pub of_id-own : (id : ℕ) (bs : List Sent) (b : Sent) → (b.id == id) ≡ true → of_id id (bs ++ b ∷ []) ≡ of_id id bs ++ b ∷ []
+of_id-own id bs b own = filter-append (λ (c : Sent). c.id == id) bs (b ∷ []) ∙ ap (λ t. of_id id bs ++ cond t (b ∷ []) []) own
+
+pub of_id-other : (id : ℕ) (bs : List Sent) (b : Sent) → (b.id == id) ≡ false → of_id id (bs ++ b ∷ []) ≡ of_id id bs
+of_id-other id bs b other = filter-append (λ (c : Sent). c.id == id) bs (b ∷ []) ∙ ap (λ t. of_id id bs ++ cond t (b ∷ []) []) other ∙ append-nil (of_id id bs)
 
 -- an id's records in the batches are those of its batches
 pub count_of-records_of : (id : ℕ) (bs : List Sent) → count_of (pos id) (records_of bs) ≡ size_of (of_id id bs)

@@ -2,24 +2,25 @@
 use Rattle.std.proofs.Common.{◌≡◌, ℕ, ◌+◌, ◌-◌, ◌<◌, Bool, true, false, cond, List, [], ◌∷◌, ◌++◌, length, map, drop, replicate, ℤ, pos, refl, sym, ap, ◌∙◌, subst, arith, All}
 use Rattle.std.specs.Prelude.{◌==◌}
 use Rattle.std.specs.Ordering.{int_eq}
-use Rattle.std.proofs.lemmas.Bool.{true≢false, eqb-true, eq-eqb, ne_eqb}
-use Rattle.std.proofs.lemmas.List.{append-nil, drop-drop, length-drop, map_push}
-use Rattle.std.proofs.lemmas.List.Elements.{All-head, All-tail, All-filter, filter-append}
+use Rattle.std.proofs.lemmas.Bool.{eqb-false, eqb-true, eq-eqb, ne_eqb}
+use Rattle.std.proofs.lemmas.List.{drop-drop, length-drop, map_push}
+use Rattle.std.proofs.lemmas.List.Elements.{All-head, All-tail, All-filter}
 use Rattle.kp_batch.specs.declared.record.Record.{Record}
 use Rattle.kp_log.specs.declared.kept.Kept.{Kept}
 use Rattle.kp_log.specs.declared.kept.Span.{Span}
 use Rattle.kp_log.specs.declared.stored.Stored.{Stored}
 use Rattle.kp_log.specs.Log.{Log, log_of, empty, count_of, kept_of, kept_after, last_kept, span_of, stored_as, appended}
 use Rattle.kp_log.specs.SequenceRule.{Step, judged}
-use Rattle.kp_log.specs.History.{Sent, History, arrived, stored_of, of_id, empty_history, with_batch, with_others, NO_ID}
+use Rattle.kp_log.specs.History.{Sent, batch_of, History, arrived, stored_of, of_id, empty_history, with_batch, with_others, NO_ID}
 use Rattle.kp_log.specs.KeptBatches.{span_in, kept_in, IsHistoryOf}
 use Rattle.kp_log.specs.BrokerStep.{Answered, Offered, answered, offered_to}
 use Rattle.kp_log.specs.HandedOver.{IsStored}
 use Rattle.kp_log.proofs.LogLemmas.{int_eq_same, kept_of-appended, count_of-append, count_of_own, count_of_others}
 use Rattle.kp_log.proofs.RuleLemmas.{last_kept_push}
-use Rattle.kp_log.proofs.SequenceLemmas.{ids_apart}
+use Rattle.kp_log.proofs.SequenceLemmas.{ids_apart, of_id-own, of_id-other}
 use Rattle.kp_log.proofs.OffsetLemmas.{span_still, span_last}
-use Rattle.kp_log.proofs.RulingLemmas.{Ruling, Repeats, GoesOn, IsOlder, LeavesGap, ruling, step_of, judged_as}
+use Rattle.kp_log.proofs.RulingLemmas.{Ruling, Repeats, GoesOn, IsOlder, LeavesGap, ruling, step_of}
+use Rattle.kp_log.proofs.RuleLemmas.{judged_as}
 use Rattle.kp_log.proofs.LoopbackLemmas.{offered_of, offered_as, count_at}
 use Rattle.kp_log.proofs.KeepingLemmas.{others_count}
 
@@ -75,7 +76,7 @@ kept_more h b whole some is =
     let old : List Span = map (span_in h.records) (of_id b.id h.batches) in
     let new : List Stored = h.records ++ stored_of b in
     let span : Span = span_at b (length h.records) in
-    let pushed : of_id b.id (h.batches ++ b ∷ []) ≡ of_id b.id h.batches ++ b ∷ [] = filter-append (λ (c : Sent). c.id == b.id) h.batches (b ∷ []) ∙ ap (λ t. of_id b.id h.batches ++ cond t (b ∷ []) []) (eq-eqb b.id b.id refl) in
+    let pushed : of_id b.id (h.batches ++ b ∷ []) ≡ of_id b.id h.batches ++ b ∷ [] = of_id-own b.id h.batches b (eq-eqb b.id b.id refl) in
     let still : map (span_in new) (of_id b.id h.batches) ≡ old = spans_agree h.records (stored_of b) (of_id b.id h.batches) (All-filter (λ (c : Sent). c.id == b.id) (IsStored h.records) h.batches whole) in
     let spans : map (span_in new) (of_id b.id (h.batches ++ b ∷ [])) ≡ old ++ span ∷ [] = ap (map (span_in new)) pushed ∙ map_push (span_in new) (of_id b.id h.batches) b ∙ ap (λ z. z ++ span_in new b ∷ []) still ∙ ap (λ s. old ++ s ∷ []) (span_last h.records b some is) in
     let count : count_of (pos b.id) new ≡ count_of (pos b.id) h.records + length b.bodies = count_of-append (pos b.id) h.records (stored_of b) ∙ ap (λ n. count_of (pos b.id) h.records + n) (count_of_own (pos b.id) b.bodies) in
@@ -99,8 +100,8 @@ appended_is_of_appended h log offset leader_epoch b of whole some is = record {
         subst (λ i. cond (int_eq (pos i) (pos b.id)) (kept_after (kept_of (pos b.id) log) (span_of log (arrived offset leader_epoch b))) (kept_of (pos i) log) ≡ kept_in i (with_batch b h)) here
         (ap (λ t. cond t (kept_after (kept_of (pos b.id) log) (span_of log (arrived offset leader_epoch b))) (kept_of (pos b.id) log)) (int_eq_same (pos b.id)) ∙ own)
     at_id id false other =
-        let swapped : (id == b.id) ≡ false = ne_eqb id b.id (λ e. true≢false (sym (eq-eqb b.id id (sym e)) ∙ other)) in
-        let behind : of_id id (h.batches ++ b ∷ []) ≡ of_id id h.batches = filter-append (λ (c : Sent). c.id == id) h.batches (b ∷ []) ∙ ap (λ t. of_id id h.batches ++ cond t (b ∷ []) []) other ∙ append-nil (of_id id h.batches) in
+        let swapped : (id == b.id) ≡ false = ne_eqb id b.id (λ e. eqb-false b.id id other (sym e)) in
+        let behind : of_id id (h.batches ++ b ∷ []) ≡ of_id id h.batches = of_id-other id h.batches b other in
         ap (λ t. cond t (kept_after (kept_of (pos b.id) log) (span_of log (arrived offset leader_epoch b))) (kept_of (pos id) log)) (ids_apart id b.id swapped)
         ∙ of.kept id
         ∙ sym (kept_still id h (stored_of b) (h.batches ++ b ∷ []) whole (count_of_others (pos id) (pos b.id) b.bodies (ids_apart b.id id other)) behind)
@@ -122,7 +123,7 @@ pub record AnswersAlike (o : Offered) (step : Step) : Type 0 where
   pub history : IsHistoryOf o.history step.log
 
 alike_by : (h : History) (log : Log) (offset leader_epoch : ℤ) (b : Sent) → IsHistoryOf h log → All (IsStored h.records) h.batches → 0 < length b.bodies
-    → (r : Ruling h.records (kept_in b.id h).spans b) → AnswersAlike (offered_of h b r) (step_of log (arrived offset leader_epoch b) r)
+    → (r : Ruling h.records (kept_in b.id h).spans (batch_of b)) → AnswersAlike (offered_of h b r) (step_of log (arrived offset leader_epoch b) r)
 alike_by h log offset leader_epoch b of whole some (Repeats s is) = record { answer = refl; history = of }
 alike_by h log offset leader_epoch b of whole some (GoesOn fresh is) = record {
   answer = ap (λ (rs : List Stored). let a : Answered = record { code = pos 0; base = pos (length rs) } in a) of.records;
@@ -134,7 +135,7 @@ alike_by h log offset leader_epoch b of whole some (LeavesGap fresh is old) = re
 pub alike : (h : History) (log : Log) (offset leader_epoch : ℤ) (b : Sent) → IsHistoryOf h log → All (IsStored h.records) h.batches → 0 < length b.bodies
     → AnswersAlike (offered_to h b) (judged log (arrived offset leader_epoch b))
 alike h log offset leader_epoch b of whole some =
-    let r : Ruling h.records (kept_in b.id h).spans b = ruling h.records (kept_in b.id h).spans b in
+    let r : Ruling h.records (kept_in b.id h).spans (batch_of b) = ruling h.records (kept_in b.id h).spans (batch_of b) in
     let judged_so : judged log (arrived offset leader_epoch b) ≡ step_of log (arrived offset leader_epoch b) r = judged_as log offset leader_epoch b h.records (kept_in b.id h).spans r of.records (ap (λ (k : Kept). k.spans) (of.kept b.id)) in
     subst (λ o. AnswersAlike o (judged log (arrived offset leader_epoch b))) (sym (offered_as h b some r))
     (subst (λ s. AnswersAlike (offered_of h b r) s) (sym judged_so) (alike_by h log offset leader_epoch b of whole some r))

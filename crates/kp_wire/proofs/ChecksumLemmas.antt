@@ -1,16 +1,17 @@
 -- The register's steps are places of the division.
-use Rattle.std.proofs.Common.{◌≡◌, ℕ, zero, suc, ◌+◌, ◌-◌, ◌*◌, ◌/◌, ◌%◌, ◌^◌, ◌<◌, ◌≤◌, Bool, true, false, cond, eqb, List, [], ◌∷◌, ◌++◌, length, take, drop, get_or, refl, sym, ap, ◌∙◌, append_assoc, arith}
+use Rattle.std.proofs.Common.{◌≡◌, ℕ, zero, suc, ◌+◌, ◌-◌, ◌*◌, ◌/◌, ◌%◌, ◌^◌, ◌<◌, ◌≤◌, Bool, true, false, cond, eqb, List, [], ◌∷◌, ◌++◌, length, take, drop, get_or, refl, sym, ap, ◌∙◌, subst, append_assoc, arith}
 use Rattle.std.specs.Prelude.{bit_xor, replicate}
 use Rattle.std.specs.List.{flat_map, fold, AllByRecursion}
 use Rattle.std.specs.Int.{bit_at, w32, bit_not}
 use Rattle.std.specs.Int.Bits.{xor_zero_r}
 use Rattle.std.proofs.lemmas.Bool.{eqb-true, eqb-false}
-use Rattle.std.proofs.lemmas.Nat.{xor_lt, xor_comm}
+use Rattle.std.proofs.lemmas.Nat.{xor_lt, xor_comm, pow_pos}
 use Rattle.std.proofs.lemmas.Nat.Bits.{bit_at_lowest, bit_at-suc, bit_at_xor, same_from_bits}
 use Rattle.std.proofs.lemmas.List.{length-append, length-replicate}
 use Rattle.std.proofs.lemmas.List.Concat.{flat_map-cons}
 use Rattle.kp_wire.specs.Checksum.{bits, number, inverted, plus, low_divisor, quotient, remainder, message, dividend, crc, times_divisor, Divides}
 use Rattle.kp_wire.specs.Register.{step, step_times, byte_step}
+use Rattle.kp_wire.proofs.ListLemmas.{all_append, all_replicate}
 
 -- ---- one bit of a sum
 
@@ -55,12 +56,19 @@ bits-xor zero a b = refl
 bits-xor (suc k) a b = rw (xor_low a b, xor_high a b, bits-xor k (a / 2) (b / 2)) refl
 
 -- a bit more changes nothing where it is 0
-plus_wider : (k t : ℕ) (bs : List ℕ) → t < 2 ^ k → AllByRecursion (λ b. b < 2) bs → plus (bits k t) bs ≡ plus (bits (suc k) t) bs
+plus_wider : (k t : ℕ) (bs : List ℕ) → t < 2 ^ k → AreBits bs → plus (bits k t) bs ≡ plus (bits (suc k) t) bs
 unfolding bits plus
 plus_wider zero t [] h fits = refl
 plus_wider zero t (b ∷ bs) h fits = let e : (t % 2 + b) % 2 ≡ b = omega (arith, fits.0) in rw e refl
 plus_wider (suc k) t [] h fits = refl
 plus_wider (suc k) t (b ∷ bs) h fits = ap (λ (x : List ℕ). (t % 2 + b) % 2 ∷ x) (plus_wider k (t / 2) bs (grind arith) fits.1)
+
+plus_nothing : (k : ℕ) (bs : List ℕ) → AreBits bs → length bs ≡ k → plus bs (replicate k 0) ≡ bs
+unfolding plus
+plus_nothing zero [] fits len = refl
+plus_nothing zero (b ∷ bs) fits len = absurd (omega arith)
+plus_nothing (suc k) [] fits len = absurd (omega arith)
+plus_nothing (suc k) (b ∷ bs) fits len = let e : (b + 0) % 2 ≡ b = omega (arith, fits.0) in rw (e, plus_nothing k bs fits.1 (omega arith)) refl
 
 -- ---- places of the division
 
@@ -91,26 +99,28 @@ one_place : (n s : ℕ) (bs : List ℕ) → IsWord s → AreBits bs → remainde
 unfolding remainder
 one_place n s bs word fits = rw (first_place s bs) (ap (remainder n) (subtracted (eqb (s % 2) 1) (s / 2) bs (omega arith) fits))
 
-zeros_are_bits : (n : ℕ) (bs : List ℕ) → AreBits bs → AreBits (replicate n 0 ++ bs)
-zeros_are_bits zero bs fits = fits
-zeros_are_bits (suc n) bs fits = (omega arith, zeros_are_bits n bs fits)
-
-bits_are_bits : (k n : ℕ) (bs : List ℕ) → AreBits bs → AreBits (bits k n ++ bs)
+bits_are_bits : (k n : ℕ) → AreBits (bits k n)
 unfolding bits
-bits_are_bits zero n bs fits = fits
-bits_are_bits (suc k) n bs fits = (omega arith, bits_are_bits k (n / 2) bs fits)
+bits_are_bits zero n = tt
+bits_are_bits (suc k) n = (omega arith, bits_are_bits k (n / 2))
+
+zeros_are_bits : (n : ℕ) → AreBits (replicate n 0)
+zeros_are_bits n = all_replicate (λ b. b < 2) n 0 (omega arith)
 
 places : (k n s : ℕ) (bs : List ℕ) → IsWord s → AreBits bs → remainder (k + n) (plus (bits 32 s) (replicate k 0 ++ bs)) ≡ remainder n (plus (bits 32 (step_times k s)) bs)
 unfolding step_times
 places zero n s bs word fits = let e : 0 + n ≡ n = omega arith in rw e refl
 places (suc k) n s bs word fits =
     let e : suc k + n ≡ suc (k + n) = omega arith in
-    rw e (one_place (k + n) s (replicate k 0 ++ bs) word (zeros_are_bits k bs fits) ∙ places k n (step s) bs (step_fits s word) fits)
+    rw e (one_place (k + n) s (replicate k 0 ++ bs) word (all_append (λ b. b < 2) (replicate k 0) bs (zeros_are_bits k) fits) ∙ places k n (step s) bs (step_fits s word) fits)
 
 steps_fit : (k s : ℕ) → IsWord s → IsWord (step_times k s)
 unfolding step_times
 steps_fit zero s h = h
 steps_fit (suc k) s h = steps_fit k (step s) (step_fits s h)
+
+byte_step_fits : (s b : ℕ) → IsWord s → b < 256 → IsWord (byte_step s b)
+byte_step_fits s b word byte = steps_fit 8 (bit_xor s b) (xor_lt 32 s b word (omega arith))
 
 -- a byte's bits go into the state
 absorbed : (j k s b : ℕ) (bs : List ℕ) → b < 2 ^ k → plus (bits (k + j) s) (bits k b ++ bs) ≡ plus (bits (k + j) (bit_xor s b)) (replicate k 0 ++ bs)
@@ -135,34 +145,25 @@ pub are_bytes : (bs : List ℕ) → ((i : ℕ) → get_or bs i 0 < 256) → AreB
 are_bytes [] h = tt
 are_bytes (b ∷ bs) h = (h 0, are_bytes bs (λ i. h (suc i)))
 
-message_is_bits : (bytes : List ℕ) → AreBits (message bytes)
-unfolding message
-message_is_bits [] = zeros_are_bits 32 [] tt
-message_is_bits (b ∷ bytes) = rw (flat_map-cons (bits 8) b bytes, append_assoc (bits 8 b) (flat_map (bits 8) bytes) (replicate 32 0)) (bits_are_bits 8 b (message bytes) (message_is_bits bytes))
-
 message-cons : (b : ℕ) (bytes : List ℕ) → message (b ∷ bytes) ≡ bits 8 b ++ message bytes
 unfolding message
 message-cons b bytes = rw (flat_map-cons (bits 8) b bytes) (append_assoc (bits 8 b) (flat_map (bits 8) bytes) (replicate 32 0))
 
--- no bits to come
-alone : (k s : ℕ) → plus (bits k s) (replicate k 0) ≡ bits k s
-unfolding plus bits
-alone zero s = refl
-alone (suc k) s = let e : (s % 2 + 0) % 2 ≡ s % 2 = omega arith in rw (e, alone k (s / 2)) refl
+message_is_bits : (bytes : List ℕ) → AreBits (message bytes)
+unfolding message
+message_is_bits [] = zeros_are_bits 32
+message_is_bits (b ∷ bytes) = subst AreBits (sym (message-cons b bytes)) (all_append (λ x. x < 2) (bits 8 b) (message bytes) (bits_are_bits 8 b) (message_is_bits bytes))
 
 all_places : (s : ℕ) (bytes : List ℕ) → IsWord s → AreBytes bytes → remainder (8 * length bytes) (plus (bits 32 s) (message bytes)) ≡ bits 32 (fold byte_step s bytes)
 unfolding message remainder
-all_places s [] word fits = alone 32 s
+-- no bits to come
+all_places s [] word fits = plus_nothing 32 (bits 32 s) (bits_are_bits 32 s) (length-bits 32 s)
 all_places s (b ∷ bytes) word fits =
     let e : 8 * length (b ∷ bytes) ≡ 8 + 8 * length bytes = omega arith in
     let here = byte_places (8 * length bytes) s b (message bytes) word fits.0 (message_is_bits bytes) in
-    rw (e, message-cons b bytes) (here ∙ all_places (byte_step s b) bytes (steps_fit 8 (bit_xor s b) (xor_lt 32 s b word (omega (arith, fits.0)))) fits.1)
+    rw (e, message-cons b bytes) (here ∙ all_places (byte_step s b) bytes (byte_step_fits s b word fits.0) fits.1)
 
 -- ---- the first bits inverted, and the last
-
-two_some : (k : ℕ) → 0 < 2 ^ k
-two_some zero = omega arith
-two_some (suc k) = let p : 2 ^ suc k ≡ 2 * 2 ^ k = grind arith in omega (arith, two_some k)
 
 first_inverted : (k : ℕ) (bs : List ℕ) → AreBits bs → k ≤ length bs → inverted (take k bs) ++ drop k bs ≡ plus (bits k (2 ^ k - 1)) bs
 unfolding plus bits
@@ -170,7 +171,7 @@ first_inverted zero bs fits le = refl
 first_inverted (suc k) [] fits le = absurd (omega arith)
 first_inverted (suc k) (b ∷ bs) fits le =
     let p : 2 ^ suc k ≡ 2 * 2 ^ k = grind arith in
-    let some : 0 < 2 ^ k = two_some k in
+    let some : 0 < 2 ^ k = pow_pos k in
     let low : (2 ^ suc k - 1) % 2 ≡ 1 = omega arith in
     let high : (2 ^ suc k - 1) / 2 ≡ 2 ^ k - 1 = omega arith in
     let head : (1 + b) % 2 ≡ 1 - b = omega (arith, fits.0) in
@@ -187,7 +188,7 @@ last_inverted (suc k) s h =
 
 folded_fits : (s : ℕ) (bytes : List ℕ) → IsWord s → AreBytes bytes → IsWord (fold byte_step s bytes)
 folded_fits s [] word fits = word
-folded_fits s (b ∷ bytes) word fits = folded_fits (byte_step s b) bytes (steps_fit 8 (bit_xor s b) (xor_lt 32 s b word (omega (arith, fits.0)))) fits.1
+folded_fits s (b ∷ bytes) word fits = folded_fits (byte_step s b) bytes (byte_step_fits s b word fits.0) fits.1
 
 pub crc_is : (bytes : List ℕ) → AreBytes bytes → bit_not w32 (fold byte_step 4294967295 bytes) ≡ crc bytes
 unfolding crc dividend message
@@ -214,13 +215,6 @@ unfolding plus
 plus_twice [] bs fits = refl
 plus_twice (x ∷ a) [] fits = refl
 plus_twice (x ∷ a) (b ∷ bs) fits = let e : (x + (x + b) % 2) % 2 ≡ b = omega (arith, fits.0) in rw (e, plus_twice a bs fits.1) refl
-
-plus_nothing : (k : ℕ) (bs : List ℕ) → AreBits bs → length bs ≡ k → plus bs (replicate k 0) ≡ bs
-unfolding plus
-plus_nothing zero [] fits len = refl
-plus_nothing zero (b ∷ bs) fits len = absurd (omega arith)
-plus_nothing (suc k) [] fits len = absurd (omega arith)
-plus_nothing (suc k) (b ∷ bs) fits len = let e : (b + 0) % 2 ≡ b = omega (arith, fits.0) in rw (e, plus_nothing k bs fits.1 (omega arith)) refl
 
 plus_are_bits : (a bs : List ℕ) → AreBits bs → AreBits (plus a bs)
 unfolding plus

@@ -1,22 +1,21 @@
 -- A format that is put together from exact ones is exact.
-use Rattle.std.proofs.Common.{◌≡◌, ℕ, zero, suc, ◌+◌, ◌%◌, ◌^◌, ◌<◌, ◌≤◌, Bool, true, false, cond, ltb, List, [], ◌∷◌, ◌++◌, length, take, drop, ℤ, pos, negsuc, Option, Some, None, Ok, Err, refl, sym, ap, subst, ◌∙◌, append_assoc, arith, inl, inr}
+use Rattle.std.proofs.Common.{◌≡◌, ℕ, zero, suc, ◌%◌, ◌^◌, ◌<◌, ◌≤◌, false, cond, ltb, List, [], ◌∷◌, ◌++◌, length, take, drop, ℤ, pos, negsuc, Option, Some, None, Ok, Err, refl, sym, ap, subst, ◌∙◌, append_assoc, arith, inl, inr}
 use Rattle.std.specs.Prelude.{FitsSigned}
 use mir.Val.{bits}
 use Rattle.std.specs.Int.{Width, w8, w16, w32, w64, byte_len, from_be_bytes, to_be_bytes, cast_signed, cast_unsigned}
 use Rattle.std.specs.List.{flat_map, AllByRecursion}
-use Rattle.std.proofs.Math.Facts.{sfits_to_z}
-use Rattle.std.proofs.lemmas.Bool.{cases_lt, ltb-false, le-ltb}
+use Rattle.std.proofs.Math.Facts.{sfits_to_z, Fits-of_z}
+use Rattle.std.proofs.lemmas.Bool.{ltb-false, le-ltb}
 use Rattle.std.proofs.lemmas.Int.{to_z-of_z, of_z-to_z}
-use Rattle.std.proofs.lemmas.List.{take_at, drop_at, take-append-drop, length-append, length-take, get_or-drop, get_or-take, get_or_past}
+use Rattle.std.proofs.lemmas.List.{take_at, drop_at, take-append-drop, length-append, length-take-le}
 use Rattle.std.proofs.lemmas.List.Concat.{flat_map-cons}
 use Rattle.std.proofs.lemmas.Nat.{be_bytes_2, be_bytes_4, be_bytes_8, from_be_bytes-to_be_bytes_2, from_be_bytes-to_be_bytes_4, from_be_bytes-to_be_bytes_8}
-use Rattle.kp_wire.specs.declared.fault.WireFault.{WireFault}
 use Rattle.kp_wire.specs.declared.fault.WireFault.TheVariants.{Short, NotUtf8}
 use Rattle.kp_wire.specs.Reading.{Read, ◌>>=◌}
 use Rattle.std.specs.Str.{IsUtf8, is_utf8}
 use Rattle.std.proofs.lemmas.Str.{IsUtf8-from_is_utf8, is_utf8-from_IsUtf8}
 use Rattle.kp_wire.specs.Codec.{Codec, read_bytes, int, number, pair, made, within, ends_before, read_many, many, plain, utf8, by_length, by_nullable_length, sized, nullable_sized, spell_nullable, FitsIfSome, array}
-use Rattle.kp_wire.proofs.ReadLemmas.{IsBytes, Takes, Takes-then, bind_ok, chosen, done, ok_is, failed}
+use Rattle.kp_wire.proofs.ReadLemmas.{IsBytes, IsBytes-left, IsBytes-right, Takes, Takes-then, bind_ok, chosen, let_through, no_fault, ok_is}
 
 -- What is read is spelled so, and what is spelled so is read, whatever follows of `after` bytes or more.
 pub record IsExact {A : Type 0} (after : ℕ) (c : Codec A) : Type 0 where
@@ -46,14 +45,21 @@ pair_exact {A = A} {B = B} after c d p q = record {
       ap (pair c d).read (append_assoc (c.spell x.0) (d.spell x.1) rest) ∙ rw (p.again x.0 (d.spell x.1 ++ rest) fits.0 longer, q.again x.1 rest fits.1 behind) refl;
 }
 
+-- what holds of all that c reads holds of what is made of it
+pub made_takes : {A B : Type 0} (after : ℕ) (c : Codec A) (make : A → B) (P : B → List ℕ → Type 0) (bytes : List ℕ) (x : B × List ℕ) → IsExact after c → IsBytes bytes
+    → ((a : A) (rest : List ℕ) → Takes bytes (c.spell a) rest → c.Fits a → P (make a) rest) → (c.read bytes >>= λ y. Ok (make y.0, y.1)) ≡ Ok x → P x.0 x.1
+made_takes {B = B} after c make P bytes x p fits holds e =
+    let a = bind_ok (c.read bytes) (λ y. Ok (make y.0, y.1)) x e in
+    let t = p.takes bytes a.0 fits a.1 in
+    let got : B × List ℕ = (make a.0.0, a.0.1) in
+    let R : B × List ℕ → Type 0 = λ y. P y.0 y.1 in
+    subst R (ok_is got x a.2) (holds a.0.0 a.0.1 t.0 t.1)
+
 pub made_exact : {A B : Type 0} (after : ℕ) (make : A → B) (parts : B → A) (c : Codec A) → ((a : A) → parts (make a) ≡ a) → ((b : B) → make (parts b) ≡ b) → IsExact after c → IsExact after (made make parts c)
 made_exact {A = A} {B = B} after make parts c there back p = record {
   takes = λ bytes z fits e.
-      let a = bind_ok (c.read bytes) (λ x. Ok (make x.0, x.1)) z e in
-      let t = p.takes bytes a.0 fits a.1 in
-      let got : B × List ℕ = (make a.0.0, a.0.1) in
-      subst (λ (y : B × List ℕ). Takes bytes (c.spell (parts y.0)) y.1 × c.Fits (parts y.0)) (ok_is got z a.2)
-      (subst (λ (v : A). Takes bytes (c.spell v) a.0.1 × c.Fits v) (sym (there a.0.0)) t);
+      made_takes after c make (λ b rest. Takes bytes (c.spell (parts b)) rest × c.Fits (parts b)) bytes z p fits
+      (λ a rest t f. subst (λ (v : A). Takes bytes (c.spell v) rest × c.Fits v) (sym (there a)) (t, f)) e;
   again = λ b rest fits behind. rw (p.again (parts b) rest fits behind) (ap (λ (x : B). Ok (x, rest)) (back b));
 }
 
@@ -97,33 +103,30 @@ many_again after c (x ∷ xs) rest p fits behind =
 
 -- ---- fields of a fixed number of bytes
 
-pub IsBytes-drop : (n : ℕ) (bytes : List ℕ) → IsBytes bytes → IsBytes (drop n bytes)
-IsBytes-drop n bytes h i = rw get_or-drop (h (n + i))
-
-pub IsBytes-take : (n : ℕ) (bytes : List ℕ) → IsBytes bytes → IsBytes (take n bytes)
-IsBytes-take n bytes h i =
-    elim (cases_lt i n) [
-      | inl lt ↦ rw (get_or-take n bytes i 0 lt) (h i)
-      | inr le ↦ rw (get_or_past (take n bytes) i 0 (omega (arith, length-take n bytes))) (omega arith)
-    ]
-
-pub bytes_takes : (n : ℕ) (bytes : List ℕ) (x : List ℕ × List ℕ) → IsBytes bytes → read_bytes n bytes ≡ Ok x → (length x.0 ≡ n) × IsBytes x.0 × Takes bytes x.0 x.1
-bytes_takes n bytes x fits e =
+pub bytes_read : (n : ℕ) (bytes : List ℕ) (x : List ℕ × List ℕ) → read_bytes n bytes ≡ Ok x → (length x.0 ≡ n) × (bytes ≡ x.0 ++ x.1)
+bytes_read n bytes x e =
     elim (chosen (ltb (length bytes) n) _ _ _ e) [
-      | inl short ↦ absurd (no_bytes Short x short.1)
+      | inl short ↦ absurd (no_fault Short x short.1)
       | inr ok ↦
-          let long : n ≤ length bytes = ltb-false _ _ ok.0 in
-          subst (λ (p : List ℕ × List ℕ). (length p.0 ≡ n) × IsBytes p.0 × Takes bytes p.0 p.1) (ok_is (take n bytes, drop n bytes) x ok.1)
-          (omega (arith, length-take n bytes), IsBytes-take n bytes fits, record { parts = sym (take-append-drop n bytes); rest_fits = IsBytes-drop n bytes fits })
+          subst (λ (p : List ℕ × List ℕ). (length p.0 ≡ n) × (bytes ≡ p.0 ++ p.1)) (ok_is (take n bytes, drop n bytes) x ok.1)
+          (length-take-le n bytes (ltb-false _ _ ok.0), sym (take-append-drop n bytes))
     ]
-  where
-    no_bytes : (f : WireFault) (x : List ℕ × List ℕ) → failed f ≡ done x → ⊥
-    no_bytes f x e = cc
+
+pub bytes_takes : (n : ℕ) (bytes : List ℕ) (x : List ℕ × List ℕ) → IsBytes bytes → read_bytes n bytes ≡ Ok x → (length x.0 ≡ n) × Takes bytes x.0 x.1
+bytes_takes n bytes x fits e =
+    let r = bytes_read n bytes x e in
+    (r.0, record { parts = r.1; rest_fits = IsBytes-right x.0 x.1 (subst IsBytes r.1 fits) })
 
 pub bytes_again : (n : ℕ) (text rest : List ℕ) → length text ≡ n → read_bytes n (text ++ rest) ≡ Ok (text, rest)
 bytes_again n text rest len =
     let long : ltb (length (text ++ rest)) n ≡ false = le-ltb _ _ (omega (arith, length-append text rest)) in
     rw (long, take_at text rest n len, drop_at text rest n len) refl
+
+pub plain_exact : (n : ℕ) → IsExact 0 (plain n)
+plain_exact n = record {
+  takes = λ bytes x fits e. let t = bytes_takes n bytes x fits e in (t.1, t.0);
+  again = λ s rest len behind. bytes_again n s rest len;
+}
 
 -- the bytes of a number of this width are that number
 pub record IsWide (w : Width) : Type 0 where
@@ -131,16 +134,14 @@ pub record IsWide (w : Width) : Type 0 where
   pub back : (bytes : List ℕ) → length bytes ≡ byte_len w → IsBytes bytes → to_be_bytes w (from_be_bytes w bytes) ≡ bytes
   pub again : (n : ℕ) → n < 2 ^ bits w → from_be_bytes w (to_be_bytes w n) ≡ n
   pub below : (bytes : List ℕ) → IsBytes bytes → from_be_bytes w bytes < 2 ^ bits w
-  pub unsigned : (z : ℤ) → FitsSigned w z → cast_unsigned w z < 2 ^ bits w
 
 pub number_exact : (w : Width) → IsWide w → IsExact 0 (number w)
 number_exact w wide = record {
   takes = λ bytes x fits e.
-      let a = bind_ok (read_bytes (byte_len w) bytes) (λ y. Ok (from_be_bytes w y.0, y.1)) x e in
-      let t = bytes_takes (byte_len w) bytes a.0 fits a.1 in
-      let got : ℕ × List ℕ = (from_be_bytes w a.0.0, a.0.1) in
-      subst (λ (p : ℕ × List ℕ). Takes bytes (to_be_bytes w p.0) p.1 × (p.0 < 2 ^ bits w)) (ok_is got x a.2)
-      (subst (λ (s : List ℕ). Takes bytes s a.0.1) (sym (wide.back a.0.0 t.0 t.1)) t.2, wide.below a.0.0 t.1);
+      made_takes 0 (plain (byte_len w)) (from_be_bytes w) (λ n rest. Takes bytes (to_be_bytes w n) rest × (n < 2 ^ bits w)) bytes x (plain_exact (byte_len w)) fits
+      (λ s rest t len.
+      let small = IsBytes-left s rest (subst IsBytes t.parts fits) in
+      (subst (λ (y : List ℕ). Takes bytes y rest) (sym (wide.back s len small)) t, wide.below s small)) e;
   again = λ n rest lt behind.
       rw (bytes_again (byte_len w) (to_be_bytes w n) rest (wide.len n), wide.again n lt) refl;
 }
@@ -148,13 +149,10 @@ number_exact w wide = record {
 pub int_exact : (w : Width) → IsWide w → IsExact 0 (int w)
 int_exact w wide = record {
   takes = λ bytes x fits e.
-      let a = bind_ok ((number w).read bytes) (λ n. Ok (cast_signed w n.0, n.1)) x e in
-      let t = (number_exact w wide).takes bytes a.0 fits a.1 in
-      let got : ℤ × List ℕ = (cast_signed w a.0.0, a.0.1) in
-      subst (λ (p : ℤ × List ℕ). Takes bytes (to_be_bytes w (cast_unsigned w p.0)) p.1 × FitsSigned w p.0) (ok_is got x a.2)
-      (subst (λ (n : ℕ). Takes bytes (to_be_bytes w n) a.0.1) (sym (of_z-to_z w a.0.0 t.1)) t.0, sfits_to_z (record { fits = t.1 }));
+      made_takes 0 (number w) (cast_signed w) (λ z rest. Takes bytes (to_be_bytes w (cast_unsigned w z)) rest × FitsSigned w z) bytes x (number_exact w wide) fits
+      (λ n rest t lt. (subst (λ (m : ℕ). Takes bytes (to_be_bytes w m) rest) (sym (of_z-to_z w n lt)) t, sfits_to_z (record { fits = lt }))) e;
   again = λ z rest fits behind.
-      rw ((number_exact w wide).again (cast_unsigned w z) rest (wide.unsigned z fits) behind) (ap (λ (y : ℤ). Ok (y, rest)) (to_z-of_z w z fits));
+      rw ((number_exact w wide).again (cast_unsigned w z) rest (Fits-of_z fits).fits behind) (ap (λ (y : ℤ). Ok (y, rest)) (to_z-of_z w z fits));
 }
 
 -- the widths
@@ -170,7 +168,6 @@ wide8 = record {
   back = one_byte;
   again = λ n lt. let e : n % 256 ≡ n = omega arith in e;
   below = λ bytes fits. omega (arith, fits 0);
-  unsigned = elim [ pos n ↦ λ h. omega arith | negsuc n ↦ λ h. omega arith ];
 }
 
 pub wide16 : IsWide w16
@@ -179,7 +176,6 @@ wide16 = record {
   back = λ bytes len fits. be_bytes_2 bytes _ len fits refl;
   again = λ n lt. from_be_bytes-to_be_bytes_2 n lt;
   below = λ bytes fits. omega (arith, fits 0, fits 1);
-  unsigned = elim [ pos n ↦ λ h. omega arith | negsuc n ↦ λ h. omega arith ];
 }
 
 pub wide32 : IsWide w32
@@ -188,7 +184,6 @@ wide32 = record {
   back = λ bytes len fits. be_bytes_4 bytes _ len fits refl;
   again = λ n lt. from_be_bytes-to_be_bytes_4 n lt;
   below = λ bytes fits. omega (arith, fits 0, fits 1, fits 2, fits 3);
-  unsigned = elim [ pos n ↦ λ h. omega arith | negsuc n ↦ λ h. omega arith ];
 }
 
 pub wide64 : IsWide w64
@@ -197,28 +192,17 @@ wide64 = record {
   back = λ bytes len fits. be_bytes_8 bytes _ len fits refl;
   again = λ n lt. from_be_bytes-to_be_bytes_8 n lt;
   below = λ bytes fits. omega (arith, fits 0, fits 1, fits 2, fits 3, fits 4, fits 5, fits 6, fits 7);
-  unsigned = elim [ pos n ↦ λ h. omega arith | negsuc n ↦ λ h. omega arith ];
 }
 
 -- ---- lengths and counts
-
-pub plain_exact : (n : ℕ) → IsExact 0 (plain n)
-plain_exact n = record {
-  takes = λ bytes x fits e. let t = bytes_takes n bytes x fits e in (t.2, t.0);
-  again = λ s rest len behind. bytes_again n s rest len;
-}
-
-is_text : (b : Bool) (x y : List ℕ × List ℕ) → cond b (Ok x) (Err NotUtf8) ≡ Ok y → (b ≡ true) × (x ≡ y)
-is_text true x y e = (refl, ok_is x y e)
-is_text false x y e = absurd cc
 
 pub utf8_exact : (n : ℕ) → IsExact 0 (utf8 n)
 utf8_exact n = record {
   takes = λ bytes x fits e.
       let a = bind_ok (read_bytes n bytes) (λ y. cond (is_utf8 y.0) (Ok y) (Err NotUtf8)) x e in
       let t = bytes_takes n bytes a.0 fits a.1 in
-      let u = is_text (is_utf8 a.0.0) a.0 x a.2 in
-      subst (λ (y : List ℕ × List ℕ). Takes bytes y.0 y.1 × ((length y.0 ≡ n) × IsUtf8 y.0)) u.1 (t.2, (t.0, IsUtf8-from_is_utf8 a.0.0 u.0));
+      let u = let_through (is_utf8 a.0.0) NotUtf8 a.0 x a.2 in
+      subst (λ (y : List ℕ × List ℕ). Takes bytes y.0 y.1 × ((length y.0 ≡ n) × IsUtf8 y.0)) u.1 (t.1, (t.0, IsUtf8-from_is_utf8 a.0.0 u.0));
   again = λ s rest fits behind.
       rw (bytes_again n s rest fits.0, is_utf8-from_IsUtf8 s fits.1) refl;
 }

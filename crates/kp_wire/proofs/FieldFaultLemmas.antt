@@ -1,5 +1,5 @@
 -- Which faults the fields of Kafka's messages have.
-use Rattle.std.proofs.Common.{◌≡◌, ℕ, zero, suc, Bool, true, false, cond, ltb, List, [], ◌∷◌, ◌⊎◌, inl, inr, length, take, drop, ℤ, pos, negsuc, Some, None, Result, Ok, Err, refl, sym, ap, subst}
+use Rattle.std.proofs.Common.{◌≡◌, ℕ, zero, suc, true, false, cond, ltb, List, [], ◌∷◌, inl, inr, length, take, drop, ℤ, pos, negsuc, Some, None, Ok, Err, sym}
 use Rattle.std.specs.Int.{Width, w16, w32, w64, byte_len, from_be_bytes, cast_signed}
 use Rattle.std.specs.Str.{is_utf8}
 use Rattle.kp_wire.specs.declared.fault.WireFault.{WireFault}
@@ -8,42 +8,25 @@ use Rattle.kp_wire.specs.Reading.{Read, ◌>>=◌}
 use Rattle.kp_wire.specs.Codec.{read_bytes, int, number, plain, utf8, read_many, by_length, by_nullable_length}
 use Rattle.kp_wire.specs.Fields.{IsFieldFault, int16, int32, int64, boolean, read_boolean, records, read_array, read_nullable_array}
 use Rattle.kp_wire.specs.Strings.{string, nullable_string}
-use Rattle.kp_wire.proofs.ReadLemmas.{done, failed, no_fault}
-
-abbrev pub wrong : {A E : Type 0} → E → Result A E
-wrong e = Err e
+use Rattle.kp_wire.proofs.ReadLemmas.{no_fault, is_error, bind_err, chosen}
 
 -- every fault of this reading is one of a field
 abbrev pub HasFieldFaults : {A : Type 0} → (List ℕ → Read A) → Type 0
 HasFieldFaults read = (bytes : List ℕ) (fault : WireFault) → read bytes ≡ Err fault → IsFieldFault fault
 
-pub error_is : {A E : Type 0} (d e : E) → wrong {A = A} d ≡ wrong e → d ≡ e
-error_is d e h = cc
-
--- where a step fails
-pub bind_err : {A B E : Type 0} (r : Result A E) (f : A → Result B E) (e : E) → (r >>= f) ≡ Err e → (r ≡ Err e) ⊎ ((x : A) × (r ≡ Ok x) × (f x ≡ Err e))
-bind_err (Ok x) f e h = inr (x, refl, h)
-bind_err {B = B} {E = E} (Err d) f e h = inl (ap (λ (x : E). Err x) (error_is {A = B} d e h))
-
-not_failed : {A : Type 0} (x : A × List ℕ) (fault : WireFault) → done x ≡ failed fault → ⊥
-not_failed x fault e = no_fault fault x (sym e)
-
-is_fault : {A : Type 0} (f g : WireFault) → IsFieldFault f → failed {A = A} f ≡ failed g → IsFieldFault g
-is_fault f g h e = subst IsFieldFault (error_is f g e) h
-
 bytes_faults : (n : ℕ) → HasFieldFaults (read_bytes n)
-bytes_faults n bytes fault e = by_test (ltb (length bytes) n) e
-  where
-    by_test : (b : Bool) → cond b (failed {A = List ℕ × List ℕ} Short) (Ok (take n bytes, drop n bytes)) ≡ failed fault → IsFieldFault fault
-    by_test true e = is_fault Short fault tt e
-    by_test false e = absurd (not_failed (take n bytes, drop n bytes) fault e)
+bytes_faults n bytes fault e =
+    elim (chosen (ltb (length bytes) n) _ _ _ e) [
+      | inl short ↦ is_error IsFieldFault Short fault tt short.1
+      | inr ok ↦ absurd (no_fault fault (take n bytes, drop n bytes) (sym ok.1))
+    ]
 
 -- a value that is made of what was read
 pub made_faults : {A B : Type 0} (read : List ℕ → Read A) (make : A → B) → HasFieldFaults read → HasFieldFaults (λ bytes. read bytes >>= λ x. Ok (make x.0, x.1))
 made_faults read make p bytes fault e =
     elim (bind_err (read bytes) (λ x. Ok (make x.0, x.1)) fault e) [
       | inl first ↦ p bytes fault first
-      | inr second ↦ absurd (not_failed (make second.0.0, second.0.1) fault second.2)
+      | inr second ↦ absurd (no_fault fault (make second.0.0, second.0.1) (sym second.2))
     ]
 
 number_faults : (w : Width) → HasFieldFaults (number w).read
@@ -65,16 +48,15 @@ utf8_faults : (n : ℕ) → HasFieldFaults (utf8 n).read
 utf8_faults n bytes fault e =
     elim (bind_err (read_bytes n bytes) (λ x. cond (is_utf8 x.0) (Ok x) (Err NotUtf8)) fault e) [
       | inl first ↦ bytes_faults n bytes fault first
-      | inr second ↦ by_test second.0 (is_utf8 second.0.0) second.2
+      | inr second ↦ elim (chosen (is_utf8 second.0.0) _ _ _ second.2) [
+        | inl ok ↦ absurd (no_fault fault second.0 (sym ok.1))
+        | inr none ↦ is_error IsFieldFault NotUtf8 fault tt none.1
+      ]
     ]
-  where
-    by_test : (x : List ℕ × List ℕ) (b : Bool) → cond b (done x) (failed NotUtf8) ≡ failed fault → IsFieldFault fault
-    by_test x true e = absurd (not_failed x fault e)
-    by_test x false e = is_fault NotUtf8 fault tt e
 
 many_faults : {A : Type 0} (read : List ℕ → Read A) → HasFieldFaults read → (n : ℕ) → HasFieldFaults (read_many read n)
 unfolding read_many
-many_faults read p zero bytes fault e = absurd (not_failed ([], bytes) fault e)
+many_faults read p zero bytes fault e = absurd (no_fault fault ([], bytes) (sym e))
 many_faults read p (suc n) bytes fault e =
     elim (bind_err (read bytes) (λ x. read_many read n x.1 >>= λ xs. Ok (x.0 ∷ xs.0, xs.1)) fault e) [
       | inl first ↦ p bytes fault first
@@ -84,13 +66,13 @@ many_faults read p (suc n) bytes fault e =
 by_length_faults : {A : Type 0} (read : ℕ → List ℕ → Read A) → ((n : ℕ) → HasFieldFaults (read n)) → (z : ℤ) → HasFieldFaults (by_length read z)
 unfolding by_length
 by_length_faults read p (pos n) bytes fault e = p n bytes fault e
-by_length_faults read p (negsuc n) bytes fault e = is_fault BadLength fault tt e
+by_length_faults read p (negsuc n) bytes fault e = is_error IsFieldFault BadLength fault tt e
 
 by_nullable_length_faults : {A : Type 0} (read : ℕ → List ℕ → Read A) → ((n : ℕ) → HasFieldFaults (read n)) → (z : ℤ) → HasFieldFaults (by_nullable_length read z)
 unfolding by_nullable_length
 by_nullable_length_faults read p (pos n) bytes fault e = made_faults (read n) (λ x. Some x) (p n) bytes fault e
-by_nullable_length_faults read p (negsuc zero) bytes fault e = absurd (not_failed (None, bytes) fault e)
-by_nullable_length_faults read p (negsuc (suc n)) bytes fault e = is_fault BadLength fault tt e
+by_nullable_length_faults read p (negsuc zero) bytes fault e = absurd (no_fault fault (None, bytes) (sym e))
+by_nullable_length_faults read p (negsuc (suc n)) bytes fault e = is_error IsFieldFault BadLength fault tt e
 
 -- what stands behind a number
 behind_faults : {A : Type 0} (w : Width) (read : ℤ → List ℕ → Read A) → ((z : ℤ) → HasFieldFaults (read z)) → HasFieldFaults (λ bytes. (int w).read bytes >>= λ n. read n.0 n.1)
@@ -119,10 +101,10 @@ nullable_string_faults = behind_faults w16 (by_nullable_length (λ n. (utf8 n).r
 
 pub boolean_faults : HasFieldFaults boolean.read
 unfolding read_boolean
-boolean_faults [] fault e = is_fault Short fault tt e
-boolean_faults (zero ∷ bytes) fault e = absurd (not_failed (false, bytes) fault e)
-boolean_faults (suc zero ∷ bytes) fault e = absurd (not_failed (true, bytes) fault e)
-boolean_faults (suc (suc n) ∷ bytes) fault e = is_fault BadByte fault tt e
+boolean_faults [] fault e = is_error IsFieldFault Short fault tt e
+boolean_faults (zero ∷ bytes) fault e = absurd (no_fault fault (false, bytes) (sym e))
+boolean_faults (suc zero ∷ bytes) fault e = absurd (no_fault fault (true, bytes) (sym e))
+boolean_faults (suc (suc n) ∷ bytes) fault e = is_error IsFieldFault BadByte fault tt e
 
 pub records_faults : HasFieldFaults records.read
 unfolding records

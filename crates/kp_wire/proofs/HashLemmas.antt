@@ -1,7 +1,7 @@
 -- A word of the hash is a group of four bytes at the front.
 use Rattle.std.proofs.Common.{◌≡◌, ℕ, ◌+◌, ◌-◌, ◌*◌, ◌^◌, ◌<◌, ◌≤◌, List, [], ◌∷◌, length, take, drop, get_or, refl, ap, arith}
 use Rattle.std.specs.List.{fold}
-use Rattle.std.proofs.lemmas.List.{take_all}
+use Rattle.std.proofs.lemmas.List.{take_rest}
 use Rattle.kp_wire.specs.Hash.{words, left, with_word}
 
 -- the number of the four bytes at the front, as `from_le_bytes` has it
@@ -16,7 +16,7 @@ words_front (a ∷ b ∷ []) h = absurd (omega arith)
 words_front (a ∷ b ∷ c ∷ []) h = absurd (omega arith)
 words_front (a ∷ b ∷ c ∷ d ∷ rest) h =
     let e : a + 2 ^ 8 * b + 2 ^ 16 * c + 2 ^ 24 * d ≡ a + b * 256 + c * 65536 + d * 16777216 = omega arith in
-    let all = take_all (length (a ∷ b ∷ c ∷ d ∷ rest) - 4) rest (omega arith) in
+    let all = take_rest (a ∷ b ∷ c ∷ d ∷ rest) 4 in
     rw (e, all) refl
 
 pub left_behind : (s : List ℕ) → 4 ≤ length s → left (take (length s - 4) (drop 4 s)) ≡ left s
@@ -25,7 +25,7 @@ left_behind [] h = absurd (omega arith)
 left_behind (a ∷ []) h = absurd (omega arith)
 left_behind (a ∷ b ∷ []) h = absurd (omega arith)
 left_behind (a ∷ b ∷ c ∷ []) h = absurd (omega arith)
-left_behind (a ∷ b ∷ c ∷ d ∷ rest) h = ap left (take_all (length (a ∷ b ∷ c ∷ d ∷ rest) - 4) rest (omega arith))
+left_behind (a ∷ b ∷ c ∷ d ∷ rest) h = ap left (take_rest (a ∷ b ∷ c ∷ d ∷ rest) 4)
 
 pub words_none : (s : List ℕ) → length s < 4 → words s ≡ []
 unfolding words

@@ -1,3 +1,5 @@
+pub mod ListLemmas
+pub mod ChoiceLemmas
 pub mod ReadLemmas
 pub mod VarintLemmas
 pub mod ChecksumLemmas

@@ -2,11 +2,11 @@
 use Rattle.std.proofs.Common.{◌≡◌, ℕ, zero, suc, ◌+◌, ◌*◌, ◌/◌, ◌%◌, ◌^◌, ◌<◌, ◌≤◌, List, [], ◌∷◌, length, get_or, refl, sym, ap, ◌∙◌, arith}
 use Rattle.std.specs.Prelude.{bit_xor, drop}
 use Rattle.std.specs.List.{fold}
-use Rattle.std.specs.Int.Bits.{xor_zero_r, xor_assoc, xor_disjoint, and_shifted}
+use Rattle.std.specs.Int.Bits.{xor_zero_r, xor_assoc}
 use Rattle.std.proofs.lemmas.Nat.{xor_comm}
 use Rattle.kp_wire.specs.Register.{step, step_times, byte_step}
 use Rattle.kp_wire.proofs.ChecksumLemmas.{AreBytes}
-use Rattle.kp_wire.proofs.StepLemmas.{steps-xor, high_part, swap_last}
+use Rattle.kp_wire.proofs.StepLemmas.{steps-xor, high_part, swap_last, apart}
 
 pub steps-sum : (j k s : ℕ) → step_times (j + k) s ≡ step_times k (step_times j s)
 unfolding step_times
@@ -22,9 +22,6 @@ steps-zero (suc k) = steps-zero k
 unfoldable pub low_first : List ℕ → ℕ
 low_first [] = 0
 low_first (b ∷ bs) = b + 256 * low_first bs
-
-apart : (b m : ℕ) → b < 256 → b + 256 * m ≡ bit_xor (m * 256) b
-apart b m h = let e : b + 256 * m ≡ m * 256 + b = omega arith in e ∙ sym (xor_disjoint (m * 256) b (and_shifted m 8 b (omega arith)))
 
 -- eight places take the lowest byte in
 one_byte : (s b m : ℕ) → b < 256 → step_times 8 (bit_xor s (b + 256 * m)) ≡ bit_xor (byte_step s b) m
@@ -125,11 +122,6 @@ eight_places m h =
     sym (sliced_is (digits 8 m) (digits_fit 8 m)) ∙ ap (λ (n : ℕ). step_times n (low_first (digits 8 m))) e ∙ ap (step_times 64) (sym (digits_are 8 m h)) in
     to_the_right (step_times 64 (m % 256)) (step_times 56 (m / 256 % 256)) (step_times 48 (m / 65536 % 256)) (step_times 40 (m / 16777216 % 256)) (step_times 32 (m / 4294967296 % 256)) (step_times 24 (m / 1099511627776 % 256)) (step_times 16 (m / 281474976710656 % 256)) (step_times 8 (m / 72057594037927936 % 256))
     ∙ ap sliced (sym (digits-eight m)) ∙ whole
-
-pub rest_are_bytes : (k : ℕ) (bs : List ℕ) → AreBytes bs → AreBytes (drop k bs)
-rest_are_bytes zero bs fits = fits
-rest_are_bytes (suc k) [] fits = tt
-rest_are_bytes (suc k) (b ∷ bs) fits = rest_are_bytes k bs fits.1
 
 -- the register after eight bytes is that after all their places
 pub eight_bytes : (s : ℕ) (xs : List ℕ) → 8 ≤ length xs → AreBytes xs

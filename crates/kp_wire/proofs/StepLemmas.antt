@@ -47,8 +47,12 @@ high_part q =
     let e : q * 256 ≡ 2 * (2 * (2 * (2 * (2 * (2 * (2 * (2 * q))))))) = omega arith in
     ap (step_times 8) e ∙ rw (step_even (2 * (2 * (2 * (2 * (2 * (2 * (2 * q))))))), step_even (2 * (2 * (2 * (2 * (2 * (2 * q)))))), step_even (2 * (2 * (2 * (2 * (2 * q))))), step_even (2 * (2 * (2 * (2 * q)))), step_even (2 * (2 * (2 * q))), step_even (2 * (2 * q)), step_even (2 * q), step_even q) refl
 
+-- the low byte and the rest share no bit
+pub apart : (b m : ℕ) → b < 256 → b + 256 * m ≡ bit_xor (m * 256) b
+apart b m h = let e : b + 256 * m ≡ m * 256 + b = omega arith in e ∙ sym (xor_disjoint (m * 256) b (and_shifted m 8 b (omega arith)))
+
 parts : (x : ℕ) → x ≡ bit_xor (x / 256 * 256) (x % 256)
-parts x = sym (xor_disjoint (x / 256 * 256) (x % 256) (and_shifted (x / 256) 8 (x % 256) (omega arith)) ∙ omega arith)
+parts x = let e : x ≡ x % 256 + 256 * (x / 256) = omega arith in e ∙ apart (x % 256) (x / 256) (omega arith)
 
 pub by_low_byte : (x : ℕ) → step_times 8 x ≡ bit_xor (x / 256) (step_times 8 (x % 256))
 by_low_byte x = ap (step_times 8) (parts x) ∙ steps-xor 8 (x / 256 * 256) (x % 256) ∙ ap (λ (y : ℕ). bit_xor y (step_times 8 (x % 256))) (high_part (x / 256))

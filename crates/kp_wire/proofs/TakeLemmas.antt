@@ -6,13 +6,13 @@ use Rattle.kp_wire.specs.declared.fault.WireFault.{WireFault}
 use Rattle.kp_wire.specs.Reading.{Took}
 use Rattle.kp_wire.specs.Codec.{Codec}
 use Rattle.kp_wire.proofs.CodecLemmas.{IsExact}
-use Rattle.kp_wire.proofs.ReadLemmas.{IsBytes, done, no_fault, ok_is, rest_is, took_text}
+use Rattle.kp_wire.proofs.ReadLemmas.{IsBytes, done, no_fault, ok_is, end_is, took_text}
 
 -- the bytes behind what was read, by how many there are
 pub counted : {X A : Type 0} (view : X → A) (c : Codec A) → IsExact 0 c → (bytes : List ℕ) (x : X) (rest : List ℕ) → IsBytes bytes → c.read bytes ≡ Ok (view x, rest)
     → (length rest ≤ length bytes) × (length bytes - length rest ≤ length bytes) × (c.read bytes ≡ Ok (view x, drop (length bytes - length rest) bytes))
 counted {A = A} view c p bytes x rest fits e =
-    let r = rest_is bytes (c.spell (view x)) rest (p.takes bytes (view x, rest) fits e).0 in
+    let r = end_is bytes (c.spell (view x)) rest (p.takes bytes (view x, rest) fits e).0.parts in
     (r.0, omega arith, e ∙ ap (λ (t : List ℕ). done (view x, t)) r.1)
 
 pub took_found : {X A : Type 0} (view : X → A) (c : Codec A) → IsExact 0 c → (bytes : List ℕ) (r : Result (X × ℕ) WireFault) → IsBytes bytes → Took view bytes r (c.read bytes)

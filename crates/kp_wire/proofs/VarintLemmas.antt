@@ -1,17 +1,18 @@
 -- Numbers in groups of seven bits are read as they are written.
 use Rattle.std.proofs.Common.{◌≡◌, ℕ, zero, suc, ◌+◌, ◌-◌, ◌*◌, ◌/◌, ◌%◌, ◌^◌, ◌<◌, ◌≤◌, Bool, true, false, cond, ltb, eqb, List, [], ◌∷◌, ◌++◌, length, get_or, drop, take, ℤ, pos, negsuc, Result, Ok, refl, sym, ap, subst, ◌∙◌, ◌≢◌, append_assoc, arith, inl, inr}
 use Rattle.std.specs.Prelude.{FitsSigned}
+use mir.Val.{hbits}
 use Rattle.std.specs.Int.{Width, w32, w64}
 use Rattle.std.proofs.lemmas.Bool.{ltb-false, ltb-true, lt-ltb, le-ltb, eqb-true, eqb-false}
 use Rattle.std.proofs.Math.Dec.{eqb-suc-zero}
 use Rattle.std.proofs.lemmas.Bool.Decides.{nat_tests}
 use Rattle.std.proofs.Math.ListN.{set}
-use Rattle.std.proofs.lemmas.List.{length-drop, take_all, take_more_set}
+use Rattle.std.proofs.lemmas.List.{take_rest, take_more_set}
 use Rattle.kp_wire.specs.declared.fault.WireFault.{WireFault}
 use Rattle.kp_wire.specs.declared.fault.WireFault.TheVariants.{TooLarge, NotShortest}
 use Rattle.kp_wire.specs.Varint.{room, groups, read_groups, zigzag, unzigzag, variable, varint, varlong}
 use Rattle.kp_wire.proofs.CodecLemmas.{IsExact}
-use Rattle.kp_wire.proofs.ReadLemmas.{IsBytes, IsBytes-rest, Takes, bind_ok, failed, ok_is, chosen}
+use Rattle.kp_wire.proofs.ReadLemmas.{IsBytes, IsBytes-rest, Takes, bind_ok, no_fault, ok_is, chosen}
 
 pub room_more : (more top : ℕ) → 0 < more → room more top ≡ 128 * room (more - 1) top
 unfolding room
@@ -97,16 +98,13 @@ last_takes more b n bytes rest lt e fits =
     subst (λ (x : ℕ × List ℕ). (x.0 < 128) × Takes (b ∷ bytes) (groups more x.0) x.1) (ok_is (b, bytes) (n, rest) e)
     (lt, record { parts = rw (groups_last more b lt) refl; rest_fits = fits })
 
-no_read : (f : WireFault) (n : ℕ) (rest : List ℕ) → failed f ≡ read_as n rest → ⊥
-no_read f n rest e = cc
-
 -- what is read is spelled so
 pub groups_takes : (more top : ℕ) (bytes : List ℕ) (n : ℕ) (rest : List ℕ) → top < 128 → IsBytes bytes → read_groups more top bytes ≡ Ok (n, rest) → (n < room more top) × Takes bytes (groups more n) rest
 unfolding read_groups
 groups_takes more top [] n rest small fits e = absurd cc
 groups_takes zero top (b ∷ bytes) n rest small fits e =
     elim (chosen (ltb top b) _ _ _ e) [
-      | inl too ↦ absurd (no_read TooLarge n rest too.1)
+      | inl too ↦ absurd (no_fault TooLarge (n, rest) too.1)
       | inr ok ↦ let le : b ≤ top = ltb-false _ _ ok.0 in
           let t = last_takes zero b n bytes rest (omega arith) ok.1 (IsBytes-rest b bytes fits) in
           (let here : b ≡ n = ap (λ (x : ℕ × List ℕ). x.0) (ok_is (b, bytes) (n, rest) ok.1) in omega (arith, room_none zero top refl), t.1)
@@ -117,7 +115,7 @@ groups_takes (suc more) top (b ∷ bytes) n rest small fits e =
           (omega (arith, t.0, room_least (suc more) top (omega arith)), t.1)
       | inr further ↦ let a = bind_ok (read_groups more top bytes) _ (n, rest) further.1 in
           elim (chosen (eqb a.0.0 0) _ _ _ a.2) [
-            | inl none ↦ absurd (no_read NotShortest n rest none.1)
+            | inl none ↦ absurd (no_fault NotShortest (n, rest) none.1)
             | inr ok ↦
                 let h = groups_takes more top bytes a.0.0 a.0.1 small (IsBytes-rest b bytes fits) a.1 in
                 let ge : 128 ≤ b = ltb-false _ _ further.0 in
@@ -160,37 +158,30 @@ pub record Holds (w : Width) (more top : ℕ) : Type 0 where
   pub signed : (n : ℕ) → n < room more top → FitsSigned w (unzigzag n)
   pub unsigned : (z : ℤ) → FitsSigned w z → zigzag z < room more top
 
+-- a half that fits, below zero or not
+half_fits : (w : Width) (b : Bool) (k : ℕ) → k < 2 ^ hbits w → FitsSigned w (cond b (pos k) (negsuc k))
+half_fits w true k h = record { sfits = h }
+half_fits w false k h = record { sfits = h }
+
+zigzag_fits : (w : Width) (z : ℤ) → FitsSigned w z → zigzag z < 2 * 2 ^ hbits w
+zigzag_fits w (pos n) h = omega (arith, h.sfits)
+zigzag_fits w (negsuc n) h = omega (arith, h.sfits)
+
 pub holds32 : Holds w32 4 0x0f
 unfolding room
 holds32 = record {
   small = omega arith;
-  signed = λ n h. half (eqb (n % 2) 0) (n / 2) (omega arith);
-  unsigned = below;
+  signed = λ n h. half_fits w32 (eqb (n % 2) 0) (n / 2) (omega arith);
+  unsigned = zigzag_fits w32;
 }
-  where
-    half : (b : Bool) (k : ℕ) → k < 2 ^ 31 → FitsSigned w32 (cond b (pos k) (negsuc k))
-    half true k h = record { sfits = h }
-    half false k h = record { sfits = h }
-
-    below : (z : ℤ) → FitsSigned w32 z → zigzag z < 34359738368 / 8
-    below (pos n) h = omega arith
-    below (negsuc n) h = omega arith
 
 pub holds64 : Holds w64 9 0x01
 unfolding room
 holds64 = record {
   small = omega arith;
-  signed = λ n h. half (eqb (n % 2) 0) (n / 2) (omega arith);
-  unsigned = below;
+  signed = λ n h. half_fits w64 (eqb (n % 2) 0) (n / 2) (omega arith);
+  unsigned = zigzag_fits w64;
 }
-  where
-    half : (b : Bool) (k : ℕ) → k < 2 ^ 63 → FitsSigned w64 (cond b (pos k) (negsuc k))
-    half true k h = record { sfits = h }
-    half false k h = record { sfits = h }
-
-    below : (z : ℤ) → FitsSigned w64 z → zigzag z < 2 ^ 64
-    below (pos n) h = omega arith
-    below (negsuc n) h = omega arith
 
 pub variable_exact : (w : Width) (more top : ℕ) → Holds w more top → IsExact 0 (variable w more top)
 variable_exact w more top holds = record {
@@ -209,25 +200,17 @@ varint_exact = variable_exact w32 4 0x0f holds32
 pub varlong_exact : IsExact 0 varlong
 varlong_exact = variable_exact w64 9 0x01 holds64
 
--- ---- a value and the number of its bytes
-
 -- ---- one or two groups
-
-pub one_group : (more n : ℕ) → n < 128 → groups more n ≡ n ∷ []
-one_group more n h = groups_last more n h
 
 pub two_groups : (more n : ℕ) → 2 ≤ more → 128 ≤ n → n < 16384 → groups more n ≡ (n % 128 + 128) ∷ (n / 128) ∷ []
 unfolding groups
 two_groups zero n some long h = absurd (omega arith)
 two_groups (suc more) n some long h = rw (le-ltb n 128 long) (ap (λ (x : List ℕ). (n % 128 + 128) ∷ x) (groups_last more (n / 128) (omega arith)))
 
-whole_rest : (k : ℕ) (bytes : List ℕ) → take (length bytes - k) (drop k bytes) ≡ drop k bytes
-whole_rest k bytes = take_all (length bytes - k) (drop k bytes) (omega (arith, length-drop k bytes))
-
 pub read_one : (more top b : ℕ) (bytes : List ℕ) → 2 ≤ more → 1 ≤ length bytes → b ≡ get_or bytes 0 0 → b < 128
     → read_groups more top bytes ≡ Ok (b, take (length bytes - 1) (drop 1 bytes))
 unfolding read_groups
-read_one more top b bytes some long is h = rw (whole_rest 1 bytes, is) (one more bytes some long (omega (arith, is)))
+read_one more top b bytes some long is h = rw (take_rest bytes 1, is) (one more bytes some long (omega (arith, is)))
   where
     one : (more : ℕ) (bytes : List ℕ) → 2 ≤ more → 1 ≤ length bytes → get_or bytes 0 0 < 128 → read_groups more top bytes ≡ Ok (get_or bytes 0 0, drop 1 bytes)
     one zero bytes some long h = absurd (omega arith)
@@ -237,7 +220,7 @@ read_one more top b bytes some long is h = rw (whole_rest 1 bytes, is) (one more
 pub read_two : (more top n : ℕ) (bytes : List ℕ) → 2 ≤ more → 2 ≤ length bytes → n ≡ get_or bytes 0 0 - 128 + 128 * get_or bytes 1 0 → 128 ≤ get_or bytes 0 0 → 0 < get_or bytes 1 0 → get_or bytes 1 0 < 128
     → read_groups more top bytes ≡ Ok (n, take (length bytes - 2) (drop 2 bytes))
 unfolding read_groups
-read_two more top n bytes some long is wide not_zero low = rw (whole_rest 2 bytes, is) (two more bytes some long wide not_zero low)
+read_two more top n bytes some long is wide not_zero low = rw (take_rest bytes 2, is) (two more bytes some long wide not_zero low)
   where
     two : (more : ℕ) (bytes : List ℕ) → 2 ≤ more → 2 ≤ length bytes → 128 ≤ get_or bytes 0 0 → 0 < get_or bytes 1 0 → get_or bytes 1 0 < 128
         → read_groups more top bytes ≡ Ok (get_or bytes 0 0 - 128 + 128 * get_or bytes 1 0, drop 2 bytes)
@@ -251,4 +234,4 @@ read_two more top n bytes some long is wide not_zero low = rw (whole_rest 2 byte
 pub room_of_two : (more top : ℕ) → 2 ≤ more → 16384 ≤ room more top
 room_of_two more top h = omega (arith, room_more more top (omega arith), room_least (more - 1) top (omega arith))
 
-pub ruleset few_groups = (one_group, two_groups)
+pub ruleset few_groups = (groups_last, two_groups)

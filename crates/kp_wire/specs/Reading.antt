@@ -1,5 +1,5 @@
 -- Reading from left to right, with the first fault that is met.
-use Rattle.std.specs.Prelude.{◌≡◌, ℕ, ◌≤◌, List, length, drop, Result, Ok, Err}
+use Rattle.std.specs.Prelude.{◌≡◌, ℕ, ◌≤◌, List, length, drop, Result, Ok, Err, Bool, if◌then◌else◌}
 use Rattle.kp_wire.specs.declared.fault.WireFault.{WireFault}
 use Rattle.kp_wire.specs.declared.fault.ReadError.{ReadError}
 use Rattle.kp_wire.specs.declared.fault.ReadError.TheVariants.{Memory, Fault}
@@ -13,6 +13,15 @@ infixl 10 ◌>>=◌
 abbrev pub ◌>>=◌ : {A B E : Type 0} → Result A E → (A → Result B E) → Result B E
 (Ok x) >>= f = f x
 (Err e) >>= f = Err e
+
+-- Where the test holds, it is this fault, and nothing behind it is looked at.
+abbrev pub refuse : {E : Type 0} → Bool → E → Result (Unit {0}) E
+refuse applies fault = if applies then Err fault else Ok tt
+
+-- what reading gives, its fault as another
+abbrev pub or_else : {A E F : Type 0} → (E → F) → Result A E → Result A F
+or_else fault (Ok x) = Ok x
+or_else fault (Err f) = Err (fault f)
 
 -- What a function gave, seen by view, is what reading gives.
 abbrev pub IsRead : {X Y E : Type 0} → (X → Y) → Result X E → Result Y E → Type 0

@@ -1,8 +1,8 @@
-use Rattle.std.proofs.Common.{◌≡◌, length, arith}
-use Rattle.kp_batch.proofs.SizeLemmas.{length-no_headers}
+use Rattle.std.proofs.Common.{◌≡◌, ap, length, arith}
+use Rattle.kp_batch.proofs.SizeLemmas.{no_headers}
 use Rattle.kp_batch.proofs.size.headers_size.Goals as goal
 
 pub returns-then-is_empty-clause-told : goal.returns-then-is_empty-clause-told
 returns-then-is_empty-clause-told c =
     let none : length c.args.hs.now ≡ 0 = grind (arith) in
-    omega (arith, c.varint_len.ensures.value, length-no_headers c.args.hs.now none)
+    omega (arith, c.varint_len.ensures.value, ap length (no_headers c.args.hs.now none))

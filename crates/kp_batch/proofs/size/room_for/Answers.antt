@@ -1,8 +1,9 @@
 use Rattle.std.proofs.Common.{map, pos, arith}
 use Rattle.std.specs.Prelude.{◌-ℤ◌}
+use Rattle.std.proofs.lemmas.List.{length-map}
 use Rattle.kp_batch.specs.Spelling.{base_timestamp}
 use Rattle.kp_batch.proofs.SizeLemmas.{size_of_batch-is, bytes_from-here, bytes_from-none}
-use Rattle.kp_batch.proofs.ListedLemmas.{as_many, record_here}
+use Rattle.kp_batch.proofs.ListedLemmas.{record_here}
 use Rattle.kp_batch.proofs.size.room_for.Goals as goal
 
 pub loop-item-init : goal.loop-item-init
@@ -16,8 +17,8 @@ loop-item-preserved g c =
     let base = base_timestamp records in
     let k = c.loop-item.item-index in
     let body = c.as_record.result.now in
-    let is = record_here record_in items k c.item-item.result body c.loop-item-test.true c.item-item.is c.as_record.ensures in
-    let step = bytes_from-here base k records body (omega (arith, as_many record_in items)) is in
+    let here = record_here record_in items k c.item-item.result body c.loop-item-test.true c.item-item.is c.as_record.ensures in
+    let step = bytes_from-here base k records body here.0 here.1 in
     let one = c.record_room.ensures (pos body.timestamp -ℤ pos base) (pos k) in
     record {
       left = omega (arith, step, c.loop-item.invariant.left);
@@ -27,5 +28,5 @@ loop-item-preserved g c =
 pub returns : goal.returns
 returns g c =
     let records = map g.T.AsRecord.body c.args.records.now in
-    let none = bytes_from-none (base_timestamp records) c.loop-item.item-index records (omega (arith, as_many g.T.AsRecord.body c.args.records.now)) in
+    let none = bytes_from-none (base_timestamp records) c.loop-item.item-index records (omega (arith, length-map c.args.records.now g.T.AsRecord.body)) in
     omega (arith, c.loop-item.invariant.so_far, none, size_of_batch-is records)

@@ -4,9 +4,10 @@ use Rattle.std.specs.Int.{w16, w32, w64}
 use mir.Val.{to_z, of_z}
 use Rattle.std.proofs.lemmas.Int.{ints}
 use Rattle.std.proofs.lemmas.Result.{err_from_is_err_and}
+use Rattle.std.proofs.lemmas.List.{length-map}
 use Rattle.kp_batch.specs.Spelling.{summary, summary_of, base_timestamp, max_timestamp}
 use Rattle.kp_batch.proofs.SizeLemmas.{size_of_batch-is}
-use Rattle.kp_batch.proofs.ListedLemmas.{as_many, first_timestamp, latest_timestamp}
+use Rattle.kp_batch.proofs.ListedLemmas.{first_timestamp, latest_timestamp}
 use Rattle.kp_batch.proofs.WritingLemmas.{summary_fits, covered_spelled}
 use Rattle.kp_batch.proofs.writing.put_covered.Goals as goal
 
@@ -17,11 +18,11 @@ returns-in_err-put_records-clause-long_only g c = λ e.
     let long = rw first at (c.in_err-put_records.ensures.long_only (rw (p.1, p.2) at e)) in
     omega (arith, long, size_of_batch-is (map g.T.AsRecord.body c.args.records.now))
 
-pub returns-clause-spelled : goal.returns-clause-spelled
-returns-clause-spelled g c =
+pub returns : goal.returns
+returns g c =
     let items = c.args.records.now in
     let rs = map g.T.AsRecord.body items in
-    let many = as_many g.T.AsRecord.body items in
+    let many = length-map items g.T.AsRecord.body in
     let some : 0 < length rs = omega (arith, many, c.requires.some) in
     let few : length rs ≤ 2147483647 = omega (arith, many, c.requires.few) in
     let first = first_timestamp g.T.AsRecord.body items _ _ c.requires.some c.index-records-0.is c.as_record.ensures in
@@ -31,25 +32,18 @@ returns-clause-spelled g c =
     let max-is : to_z w64 (of_z w64 c.millis-2.result) ≡ pos (max_timestamp rs) = omega (arith, ints, c.millis-2.ensures.value, c.millis-2.ensures.fits, c.latest_of.ensures, first, latest) in
     let count-is : to_z w32 (length items) ≡ pos (length rs) = omega (arith, ints, many, few) in
     let summarized : c.put_summary.new.out.items ≡ c.args.out.now.items ++ summary.spell (summary_of c.args.h rs) = rw (last-is, base-is, max-is, count-is) at c.in_ok-put_summary.ensures in
-    covered_spelled c.args.h rs c.args.out.now.items _ _ summarized (rw first at c.in_ok-put_records.ensures.spelled)
-
-pub returns-clause-fits : goal.returns-clause-fits
-returns-clause-fits g c =
-    let items = c.args.records.now in
-    let rs = map g.T.AsRecord.body items in
-    let many = as_many g.T.AsRecord.body items in
-    let some : 0 < length rs = omega (arith, many, c.requires.some) in
-    let few : length rs ≤ 2147483647 = omega (arith, many, c.requires.few) in
-    let first = first_timestamp g.T.AsRecord.body items _ _ c.requires.some c.index-records-0.is c.as_record.ensures in
-    let latest = latest_timestamp rs in
     let id : FitsSigned w64 c.args.h.producer_id = search rules in
     let epoch : FitsSigned w16 c.args.h.epoch = search rules in
     let sequence : FitsSigned w32 c.args.h.base_sequence = search rules in
     let early : base_timestamp rs < 2 ^ 63 = omega (arith, c.millis.ensures.fits, first) in
     let late : max_timestamp rs < 2 ^ 63 = omega (arith, c.millis-2.ensures.fits, c.latest_of.ensures, first, latest) in
     record {
-      some = some;
-      moments = c.in_ok-put_records.ensures.moments;
-      summary = summary_fits c.args.h rs id epoch sequence some few early late;
-      records = rw first at c.in_ok-put_records.ensures.fits;
+      spelled = covered_spelled c.args.h rs c.args.out.now.items _ _ summarized (rw first at c.in_ok-put_records.ensures.spelled);
+      fits = record {
+        some = some;
+        moments = c.in_ok-put_records.ensures.moments;
+        summary = summary_fits c.args.h rs id epoch sequence some few early late;
+        records = rw first at c.in_ok-put_records.ensures.fits;
+      };
+      long_only = search rules;
     }

@@ -1,4 +1,4 @@
-use Rattle.std.proofs.Common.{◌≡◌, ◌∙◌, ◌++◌, ap, pos, ℤ, arith}
+use Rattle.std.proofs.Common.{◌≡◌, ◌∙◌, ◌++◌, ap, pos, ℤ, arith, rules}
 use Rattle.std.specs.Prelude.{FitsSigned}
 use Rattle.std.specs.Int.{w32, w64}
 use mir.Val.{to_z}
@@ -19,8 +19,8 @@ returns-then-size-gt-SIZE_LIMIT-clause-long_only c = λ e.
     let large = told_large _ (fields_size r) size c.if-size-gt-SIZE_LIMIT.true in
     omega (arith, large, length-relative_record r)
 
-pub returns-clause-spelled : goal.returns-clause-spelled
-returns-clause-spelled c =
+pub returns : goal.returns
+returns c =
     let delta : FitsSigned w64 c.args.timestamp_delta = c.ranges.timestamp_delta in
     let offset : FitsSigned w32 c.args.offset_delta = c.ranges.offset_delta in
     let r = relative_by c.args.timestamp_delta c.args.offset_delta c.args.body.now in
@@ -28,15 +28,8 @@ returns-clause-spelled c =
     let small : c.record_fields_size-size.result ≡ fields_size r = told_small _ (fields_size r) size c.if-size-gt-SIZE_LIMIT.false in
     let widened : to_z w32 c.record_fields_size-size.result ≡ pos (fields_size r) = omega (arith, ints, small) in
     let first : c.put_varint.new.out.items ≡ c.args.out.now.items ++ varint.spell (pos (fields_size r)) = c.in_ok-put_varint.ensures.ok ∙ ap (λ (z : ℤ). c.args.out.now.items ++ varint.spell z) widened in
-    let second = rw (to_z-of_z, to_z-of_z) at c.in_ok-put_fields.ensures.spelled in
-    record_spelled r c.args.out.now.items _ _ first second
-
-pub returns-clause-fits : goal.returns-clause-fits
-returns-clause-fits c =
-    let delta : FitsSigned w64 c.args.timestamp_delta = c.ranges.timestamp_delta in
-    let offset : FitsSigned w32 c.args.offset_delta = c.ranges.offset_delta in
-    let r = relative_by c.args.timestamp_delta c.args.offset_delta c.args.body.now in
-    let size : up_to_limit c.record_fields_size-size.result ≡ up_to_limit (fields_size r) = rw (to_z-of_z, to_z-of_z) at c.record_fields_size-size.ensures in
-    let small : c.record_fields_size-size.result ≡ fields_size r = told_small _ (fields_size r) size c.if-size-gt-SIZE_LIMIT.false in
-    let fits = rw (to_z-of_z, to_z-of_z) at c.in_ok-put_fields.ensures.fits in
-    record_fits r (omega arith) fits
+    record {
+      spelled = record_spelled r c.args.out.now.items _ _ first (rw (to_z-of_z, to_z-of_z) at c.in_ok-put_fields.ensures.spelled);
+      fits = record_fits r (omega arith) (rw (to_z-of_z, to_z-of_z) at c.in_ok-put_fields.ensures.fits);
+      long_only = search rules;
+    }

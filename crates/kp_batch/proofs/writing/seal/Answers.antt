@@ -4,7 +4,8 @@ use Rattle.kp_wire.specs.Codec.{int}
 use Rattle.kp_wire.specs.Checksum.{crc}
 use Rattle.kp_batch.specs.declared.summary.Front.{Front}
 use Rattle.kp_batch.specs.Spelling.{front}
-use Rattle.kp_batch.proofs.WritingLemmas.{length_put, checksum_put, behind_front, length-before}
+use Rattle.kp_batch.proofs.WritingLemmas.{length_put, checksum_put, behind_front}
+use Rattle.kp_batch.proofs.BatchLemmas.{length-before}
 use Rattle.kp_batch.proofs.writing.seal.Goals as goal
 
 -- the bytes once the length stands in them

@@ -1,13 +1,13 @@
 use Rattle.std.proofs.Common.{map, ◌≡◌, ◌∙◌, ◌+◌, ◌++◌, length, take, drop, [], ap, sym, subst, refl, List, ℕ, arith}
 use Rattle.kp_batch.specs.Spelling.{front, Spells, written, covered, base_timestamp}
 use Rattle.kp_batch.proofs.SizeLemmas.{size_of_batch-is, many_records}
-use Rattle.kp_batch.proofs.ListedLemmas.{as_many}
-use Rattle.kp_batch.proofs.BatchLemmas.{length-covered}
-use Rattle.kp_batch.proofs.WritingLemmas.{unsealed, sealed, length-before, batch_spelled, sealed_whole}
+use Rattle.std.proofs.lemmas.List.{take_at, length-map}
+use Rattle.kp_batch.proofs.BatchLemmas.{length-covered, length-before}
+use Rattle.kp_batch.proofs.WritingLemmas.{unsealed, sealed, batch_spelled}
 use Rattle.kp_batch.proofs.writing.write_batch.Goals as goal
 
 pub put_covered-requires-clause-few : goal.put_covered-requires-clause-few
-put_covered-requires-clause-few g c = omega (arith, c.requires.fits, size_of_batch-is (map g.T.AsRecord.body c.args.records.now), many_records (base_timestamp (map g.T.AsRecord.body c.args.records.now)) 0 (map g.T.AsRecord.body c.args.records.now), as_many g.T.AsRecord.body c.args.records.now)
+put_covered-requires-clause-few g c = omega (arith, c.requires.fits, size_of_batch-is (map g.T.AsRecord.body c.args.records.now), many_records (base_timestamp (map g.T.AsRecord.body c.args.records.now)) 0 (map g.T.AsRecord.body c.args.records.now), length-map c.args.records.now g.T.AsRecord.body)
 
 -- what stands before the seal
 before : (out front-bytes covered-bytes whole : List ℕ) (o1 : List ℕ) → out ≡ [] → o1 ≡ out ++ front-bytes → whole ≡ o1 ++ covered-bytes → whole ≡ front-bytes ++ covered-bytes
@@ -35,7 +35,7 @@ returns-in-Ok g c =
     let items : c.put_covered.new.out.items ≡ c.deref_mut.result.now = sym c.deref_mut.ensures.value in
     let done : c.seal.new.bytes ≡ front.spell (sealed unsealed cov) ++ cov = c.seal.ensures.sealed unsealed cov whole in
     let same : length c.deref_mut.result.now ≡ length c.seal.new.bytes = omega (arith, ap length whole, ap length done, length-before unsealed cov, length-before (sealed unsealed cov) cov) in
-    let through = sealed_whole c.put_covered.new.out.len c.deref_mut.result.now c.seal.new.bytes (c.put_covered.new.out.ok.0 ∙ ap length items ∙ same) in
+    let through = take_at c.seal.new.bytes (drop (length c.seal.new.bytes) c.deref_mut.result.now) c.put_covered.new.out.len (sym (c.put_covered.new.out.ok.0 ∙ ap length items ∙ same)) in
     let S : List ℕ → Type 0 = λ x. Spells (take c.put_covered.new.out.len (c.seal.new.bytes ++ drop (length c.seal.new.bytes) x)) (written h rs) in
     subst S (sym items)
     (batch_spelled h rs _ (omega (arith, length-covered h rs, size_of_batch-is rs, c.requires.fits)) c.in-Ok.ensures.fits (c.seal.ensures.fits unsealed cov whole) (through ∙ done))

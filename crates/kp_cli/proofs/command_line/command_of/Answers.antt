@@ -1,7 +1,8 @@
-use Rattle.std.proofs.Common.{◌≡◌, ◌∙◌, ap, ap₂, codes, map, None, Some}
+use Rattle.std.proofs.Common.{◌≡◌, ◌∙◌, ap, ap₂, codes, map, Some}
+use Rattle.std.proofs.lemmas.Option.{none-some, same_Some}
 use Rattle.std.proofs.lemmas.Result.{err_from_is_err_and}
-use Rattle.clap.specs.Words.{Text, is_simple, subcommand_of, takes}
-use Rattle.kp_cli.proofs.CommandLineLemmas.{words_asked, is_found, is_file, is_simple_app, is_taken, rows_found}
+use Rattle.clap.specs.Words.{is_simple, takes}
+use Rattle.kp_cli.proofs.CommandLineLemmas.{words_asked, found_asked, is_file, is_simple_app, is_taken, rows_found}
 use Rattle.kp_cli.proofs.command_line.command_of.Goals as goal
 
 pub returns-in_err-matches : goal.returns-in_err-matches
@@ -17,27 +18,17 @@ returns-in_err-matches g c = record {
 pub returns-in-Some : goal.returns-in-Some
 returns-in-Some g c = record {
   input = λ asked.
-      let words = map g.S.AsStr.text c.args.words.now in
-      let known = words_asked words asked in
-      let matched = (c.in_ok-matches.ensures.matches (ap is_simple c.in_ok-program.ensures ∙ is_simple_app)).1
-      ∙ ap₂ subcommand_of c.in_ok-program.ensures known.1 ∙ is_found known.0 in
+      let known = found_asked _ (map g.S.AsStr.text c.args.words.now) c.in_ok-program.ensures asked in
+      let matched = (c.in_ok-matches.ensures.matches (ap is_simple c.in_ok-program.ensures ∙ is_simple_app)).1 ∙ known.1 in
       let file : Some c.in-Some.file.now ≡ Some (codes "-") = c.in-Some.ensures (rows_found known.0) matched ∙ is_file known.0 in
-      same_texts _ _ file;
+      same_Some _ _ file;
 }
-  where
-    same_texts : (a b : Text) → Some a ≡ Some b → a ≡ b
-    same_texts a b same = cc
 
 pub returns : goal.returns
 returns g c = record {
   input = λ asked.
-      let words = map g.S.AsStr.text c.args.words.now in
-      let known = words_asked words asked in
-      let matched = (c.in_ok-matches.ensures.matches (ap is_simple c.in_ok-program.ensures ∙ is_simple_app)).1
-      ∙ ap₂ subcommand_of c.in_ok-program.ensures known.1 ∙ is_found known.0 in
+      let known = found_asked _ (map g.S.AsStr.text c.args.words.now) c.in_ok-program.ensures asked in
+      let matched = (c.in_ok-matches.ensures.matches (ap is_simple c.in_ok-program.ensures ∙ is_simple_app)).1 ∙ known.1 in
       let file = c.in-None.ensures (rows_found known.0) matched ∙ is_file known.0 in
-      absurd (no_text _ file);
+      absurd (none-some _ file);
 }
-  where
-    no_text : (a : Text) → None ≡ Some a → ⊥
-    no_text a same = cc

@@ -1,7 +1,7 @@
 use Rattle.std.proofs.Common.{◌++◌, codes}
 use Rattle.std.proofs.lemmas.Result.{on_ok_weaker}
 use Rattle.kp_cli.specs.Packed.{newline}
-use Rattle.kp_cli.proofs.KnownBytesLemmas.{Appends-append}
+use Rattle.std.proofs.KnownBytes.{Appends-trans}
 use Rattle.kp_cli.proofs.fault.put_fault.Goals as goal
 
 pub returns-in_ok-write_all-in-CannotRead-2 : goal.returns-in_ok-write_all-in-CannotRead-2
@@ -13,9 +13,9 @@ returns-in_ok-write_all-in-CannotRead-2 g c =
     let words = codes "kprod: cannot read " in
     let file = c.in-CannotRead.file.now in
     let named = rw c.as_bytes.ensures.value at c.in_ok-write_all-in-CannotRead-2.ensures.bytes in
-    let two = Appends-append at_first after_words after_file words file c.in_ok-write_all-in-CannotRead.ensures.bytes named in
+    let two = Appends-trans at_first after_words after_file words file c.in_ok-write_all-in-CannotRead.ensures.bytes named in
     rw c.in-CannotRead.is
-    (on_ok_weaker c.write_all-in-CannotRead-2.result (λ last. Appends-append at_first after_file at_last (words ++ file) newline two last) c.write_all-in-CannotRead-2.ensures.bytes)
+    (on_ok_weaker c.write_all-in-CannotRead-2.result (λ last. Appends-trans at_first after_file at_last (words ++ file) newline two last) c.write_all-in-CannotRead-2.ensures.bytes)
 
 pub returns-in-TooLarge : goal.returns-in-TooLarge
 returns-in-TooLarge g c = rw c.in-TooLarge.is c.write_all-in-TooLarge.ensures.bytes

@@ -1,10 +1,11 @@
-use Rattle.std.proofs.Common.{◌∙◌, ◌-◌, ℕ, List, drop, ap, sym, subst, refl, arith, length}
+use Rattle.std.proofs.Common.{◌<◌, ◌∙◌, ℕ, List, drop, ap, sym, subst, refl, arith}
 use Rattle.std.specs.Prelude.{bit_xor}
 use Rattle.std.specs.List.{fold}
-use Rattle.std.proofs.lemmas.List.{take_all, length-drop}
+use Rattle.std.proofs.lemmas.List.{take_all, take_rest}
 use Rattle.kp_wire.specs.Register.{byte_step, step_times}
 use Rattle.kp_wire.proofs.ChecksumLemmas.{AreBytes, are_bytes}
-use Rattle.kp_wire.proofs.SliceLemmas.{eight_bytes, rest_are_bytes, low_first}
+use Rattle.kp_wire.proofs.SliceLemmas.{eight_bytes, low_first}
+use Rattle.kp_wire.proofs.ListLemmas.{all_drop}
 use Rattle.kp_wire.proofs.checksum.shift_all.Goals as goal
 
 pub loop-left-init : goal.loop-left-init
@@ -14,14 +15,14 @@ pub loop-left-preserved : goal.loop-left-preserved
 unfolding low_first
 loop-left-preserved c =
     let bytes : List ℕ = c.loop-left.left.now in
-    let same = take_all (length bytes - 8) (drop 8 bytes) (omega (arith, length-drop 8 bytes)) in
+    let same = take_rest bytes 8 in
     record {
       so_far =
           ap (fold byte_step c.shift_eight-register.result) same
           ∙ ap (λ (s : ℕ). fold byte_step s (drop 8 bytes)) (c.shift_eight-register.ensures ∙ ap (λ (x : ℕ). step_times 64 (bit_xor c.loop-left.register x)) (c.from_le_bytes-eight.ensures ∙ omega arith))
           ∙ eight_bytes c.loop-left.register bytes (omega arith) c.loop-left.invariant.bytes
           ∙ c.loop-left.invariant.so_far;
-      bytes = subst AreBytes (sym same) (rest_are_bytes 8 bytes c.loop-left.invariant.bytes);
+      bytes = subst AreBytes (sym same) (all_drop (λ b. b < 256) 8 bytes c.loop-left.invariant.bytes);
     }
 
 pub returns : goal.returns

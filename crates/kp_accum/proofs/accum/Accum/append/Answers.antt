@@ -12,16 +12,14 @@ pub returns-then-not-has_room-clause-refused : goal.returns-then-not-has_room-cl
 returns-then-not-has_room-clause-refused c =
     let item = c.args.item in
     let a = c.args.self.now in
-    let one = c.charge-charge.ensures.exact (charge-small a item _ _ _ _ _ _ c.self.view_is c.self.invariant c.requires.request) in
-    let told = exhausted-is a item _ _ _ _ _ _ _ _ c.self.view_is c.self.invariant one c.has_room.ensures in
+    let told = exhausted-is a item _ _ _ _ _ _ _ _ c.self.view_is c.self.invariant c.requires.request c.charge-charge.ensures.exact c.has_room.ensures in
     ap (λ (fault : AppendFault). (fault, item)) (sym (refusal-full item a (told ∙ ap not c.if-not-has_room.true)))
 
 pub returns-then-self-clause-refused : goal.returns-then-self-clause-refused
 returns-then-self-clause-refused c =
     let item = c.args.item in
     let a = c.args.self.now in
-    let one = c.charge-charge.ensures.exact (charge-small a item _ _ _ _ _ _ c.self.view_is c.self.invariant c.requires.request) in
-    let told = exhausted-is a item _ _ _ _ _ _ _ _ c.self.view_is c.self.invariant one c.has_room.ensures in
+    let told = exhausted-is a item _ _ _ _ _ _ _ _ c.self.view_is c.self.invariant c.requires.request c.charge-charge.ensures.exact c.has_room.ensures in
     ap (λ (fault : AppendFault). (fault, item)) (sym (refusal-memory item a (told ∙ ap not c.if-not-has_room.false)))
 
 pub append-requires-clause-is_its : goal.append-requires-clause-is_its
@@ -36,8 +34,7 @@ pub returns-in-Err-clause-refused : goal.returns-in-Err-clause-refused
 returns-in-Err-clause-refused c =
     let item = c.args.item in
     let a = c.args.self.now in
-    let one = c.charge-charge.ensures.exact (charge-small a item _ _ _ _ _ _ c.self.view_is c.self.invariant c.requires.request) in
-    let told = exhausted-is a item _ _ _ _ _ _ _ _ c.self.view_is c.self.invariant one c.has_room.ensures in
+    let told = exhausted-is a item _ _ _ _ _ _ _ _ c.self.view_is c.self.invariant c.requires.request c.charge-charge.ensures.exact c.has_room.ensures in
     ap (λ (fault : AppendFault). (fault, c.in-Err.refused.value)) (sym (refusal-memory item a (told ∙ ap not c.if-not-has_room.false)))
     ∙ ap (λ (i : Item). (refusal item a, i)) c.in-Err.ensures.back
 
@@ -70,6 +67,5 @@ pub returns-clause-room : goal.returns-clause-room
 returns-clause-room c =
     let item = c.args.item in
     let a = c.args.self.now in
-    let one = c.charge-charge.ensures.exact (charge-small a item _ _ _ _ _ _ c.self.view_is c.self.invariant c.requires.request) in
-    let told = exhausted-is a item _ _ _ _ _ _ _ _ c.self.view_is c.self.invariant one c.has_room.ensures in
+    let told = exhausted-is a item _ _ _ _ _ _ _ _ c.self.view_is c.self.invariant c.requires.request c.charge-charge.ensures.exact c.has_room.ensures in
     told ∙ ap not c.if-not-has_room.false
