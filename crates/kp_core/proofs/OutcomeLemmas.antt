@@ -32,7 +32,8 @@ use Rattle.kp_core.specs.Replies.{Replies, first_answered, answering, batches_an
 use Rattle.kp_core.specs.Telling.{told_all, told_at_each, told_at}
 use Rattle.kp_core.specs.Tick.{Ticks, is_open_late, late_front, expired_front, passed, ticked}
 use Rattle.kp_core.proofs.CallLemmas.{at_appended, at_ended, at_replied, at_ticked}
-use Rattle.kp_core.proofs.ListLemmas.{contains_head, all_append, all_contained, all_flat_map, filtered, found}
+use Rattle.kp_core.proofs.ListLemmas.{contains_head, all_contained, all_flat_map, filtered, found}
+use Rattle.kp_wire.proofs.ListLemmas.{all_append}
 
 -- ---- lists
 

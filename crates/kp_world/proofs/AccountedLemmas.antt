@@ -13,7 +13,8 @@ use Rattle.kp_world.specs.Accounts.{is_same, is_among, of_sender, items_handed, 
 use Rattle.kp_world.specs.World.{World}
 use Rattle.kp_world.proofs.AccountLemmas.{taken_for, IsAccounted, partition-append}
 use Rattle.kp_world.proofs.FateLemmas.{all_both, filter_agrees, filter_none, filter_passes, filter_same, filter_twice, has_number, is_out, AreNumbered, in_itself, numbered_rise, fates_rise, fates_handed, Rising, rising_apart, fates_apart}
-use Rattle.kp_world.proofs.ListLemmas.{all_back, all_drop, all_filter, all_front, all_take, all_weaker}
+use Rattle.kp_world.proofs.ListLemmas.{all_back, all_filter, all_front, all_take, all_weaker}
+use Rattle.kp_wire.proofs.ListLemmas.{all_drop}
 
 -- ---- of one sender and partition
 

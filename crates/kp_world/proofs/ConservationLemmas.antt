@@ -32,9 +32,10 @@ use Rattle.kp_core.proofs.OutcomeLemmas.{all_enumerated, all_told}
 use Rattle.kp_log.proofs.PlaceLemmas.{In, In-from_contains}
 use Rattle.std.proofs.lemmas.Bool.{not_from_false}
 use Rattle.kp_world.proofs.WeightLemmas.{weigh, weigh-append, none_counted}
-use Rattle.kp_core.proofs.ListLemmas.{all_append, all_flat_map}
+use Rattle.kp_core.proofs.ListLemmas.{all_flat_map}
 use Rattle.kp_world.proofs.ListLemmas.{all_back, all_front, all_say, all_weaker}
 use Rattle.kp_world.proofs.ListLemmas.{found_in, left_in}
+use Rattle.kp_wire.proofs.ListLemmas.{all_append}
 
 -- ---- what is told
 

@@ -10,10 +10,10 @@ use Rattle.kp_core.specs.Next.{Sending, Produce, flags_of, used_up_to, in_turn, 
 use Rattle.kp_core.specs.Partitions.{new_partition, is_in}
 use Rattle.kp_core.specs.Records.{Batch, Partition, Core}
 use Rattle.kp_core.specs.Requesting.{partitions_in}
-use Rattle.kp_core.proofs.ListLemmas.{all_append}
 use Rattle.kp_world.proofs.SendingLemmas.{IsPlace, places, all_filter_map, all_fitting, demand_is_next}
 use Rattle.kp_world.proofs.TellingLemmas.{Distinct}
 use Rattle.kp_world.proofs.ListLemmas.{all_back, all_front, all_weaker}
+use Rattle.kp_wire.proofs.ListLemmas.{all_append}
 
 -- ---- lists of which no two have one key
 

@@ -20,7 +20,6 @@ use Rattle.kp_core.specs.Partitions.{new_partition, present_id}
 use Rattle.kp_core.specs.Records.{Batch, Open, Partition}
 use Rattle.kp_core.specs.Replies.{under}
 use Rattle.kp_core.specs.Requesting.{Outgoing}
-use Rattle.kp_core.proofs.ListLemmas.{all_append}
 use Rattle.kp_world.specs.Message.{sent_of}
 use Rattle.kp_world.specs.World.{PartAnswer, ReplyContent, Batches, Id, Reply}
 use Rattle.kp_world.proofs.LeavingLemmas.{Rising, CameFrom, IsOpen, Leaves}
@@ -28,6 +27,7 @@ use Rattle.kp_world.proofs.PrefixLemmas.{Cut, Grown, cut_empty, cut_kept, cut_ha
 use Rattle.kp_world.proofs.SendingLemmas.{all_again}
 use Rattle.kp_world.proofs.SoundLemmas.{Sound}
 use Rattle.kp_world.proofs.ListLemmas.{all_at, one_more}
+use Rattle.kp_wire.proofs.ListLemmas.{all_append}
 
 -- ---- packets
 

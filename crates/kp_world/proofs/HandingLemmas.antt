@@ -34,11 +34,11 @@ use Rattle.kp_world.proofs.RequestLemmas.{grown_known, grown_new}
 use Rattle.kp_world.proofs.SendingLemmas.{find_open, demand_is_sent}
 use Rattle.kp_world.proofs.SoundLemmas.{Sound}
 use Rattle.kp_world.proofs.TellingLemmas.{Distinct, home_past}
-use Rattle.kp_core.proofs.ListLemmas.{all_append}
 use Rattle.kp_core.proofs.CallLemmas.{at_requested}
 use Rattle.kp_log.specs.History.{History}
 use Rattle.kp_world.specs.Delivering.{log_at}
 use Rattle.kp_world.proofs.LawfulLemmas.{IsLawful, GoesAgain, GoesFirst, sends_cases}
+use Rattle.kp_wire.proofs.ListLemmas.{all_append}
 
 -- ---- one partition
 

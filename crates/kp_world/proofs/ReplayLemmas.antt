@@ -12,7 +12,6 @@ use Rattle.kp_core.specs.Next.{Sending, Demand, Produce, InitProducerId}
 use Rattle.kp_core.specs.Partitions.{partition_at}
 use Rattle.kp_core.specs.Records.{Batch, Partition, Core}
 use Rattle.kp_core.specs.Requesting.{Outgoing}
-use Rattle.kp_core.proofs.ListLemmas.{all_append}
 use Rattle.kp_world.specs.declared.event.Event.{Event}
 use Rattle.kp_world.specs.declared.event.Event.TheVariants as event
 use Rattle.kp_world.specs.declared.event.Treatment.{Treatment}
@@ -33,6 +32,7 @@ use Rattle.kp_world.proofs.LawfulLemmas.{IsLawfulWithin}
 use Rattle.kp_world.proofs.RunLemmas.{parts_known, lawful_step, lawful_opening_within}
 use Rattle.kp_world.proofs.SoundLemmas.{Sound, sents}
 use Rattle.kp_world.proofs.ListLemmas.{In-map, all_weaker, in_at}
+use Rattle.kp_wire.proofs.ListLemmas.{all_append}
 
 -- ---- batches
 

@@ -11,10 +11,10 @@ use Rattle.kp_core.specs.MaySend.{sends}
 use Rattle.kp_core.specs.Next.{Sending, Produce, flags_of, used_up_to, in_turn, sending_by, fitting, next_batches, next_asking, produce_of, demand_of, next_demand}
 use Rattle.kp_core.specs.Partitions.{partition_at, new_partition}
 use Rattle.kp_core.specs.Records.{Batch, Open, Partition, Core}
-use Rattle.kp_core.proofs.ListLemmas.{all_append}
 use Rattle.kp_world.proofs.KeepingLemmas.{OpenIn}
-use Rattle.kp_world.proofs.ListLemmas.{all_at, all_drop, all_take, all_weaker}
+use Rattle.kp_world.proofs.ListLemmas.{all_at, all_take, all_weaker}
 use Rattle.kp_world.proofs.ListLemmas.{found_in}
+use Rattle.kp_wire.proofs.ListLemmas.{all_append, all_drop}
 
 -- ---- a batch goes out again
 

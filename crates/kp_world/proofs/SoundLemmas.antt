@@ -18,10 +18,10 @@ use Rattle.kp_core.specs.MaySend.{new_batch}
 use Rattle.kp_core.specs.Partitions.{new_partition, present_id}
 use Rattle.kp_core.specs.Records.{Batch, Open, Partition}
 use Rattle.kp_core.specs.Replies.{under}
-use Rattle.kp_core.proofs.ListLemmas.{all_append}
 use Rattle.kp_world.specs.Message.{sent_of}
 use Rattle.kp_world.proofs.KeepingLemmas.{HasItems, OpenIn, Keeps}
 use Rattle.kp_world.proofs.ListLemmas.{all_weaker, one_more}
+use Rattle.kp_wire.proofs.ListLemmas.{all_append}
 
 -- the batches as a broker sees them
 abbrev pub sents : List Batch → List Sent

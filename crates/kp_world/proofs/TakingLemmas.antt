@@ -24,7 +24,7 @@ use Rattle.kp_world.proofs.KeepingLemmas.{length-changed_at, at-changed_at}
 use Rattle.kp_world.proofs.TellingLemmas.{Distinct, home_past, weigh_places}
 use Rattle.kp_log.proofs.PlaceLemmas.{In}
 use Rattle.kp_world.proofs.ListLemmas.{all_at, all_filter, all_say}
-use Rattle.kp_core.proofs.ListLemmas.{all_append}
+use Rattle.kp_wire.proofs.ListLemmas.{all_append}
 
 -- ---- lists
 
