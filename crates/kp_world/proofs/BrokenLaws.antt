@@ -1,12 +1,14 @@
 -- What a world has in which a law does not hold, so that it can be computed.
-use Rattle.std.proofs.Common.{◌≡◌, ℕ, suc, zero, ◌+◌, ◌<◌, ◌≤◌, Bool, true, false, not, cond, List, [], ◌∷◌, ◌++◌, length, map, ℤ, pos, negsuc, Some, None, refl, sym, ap, ◌∙◌, subst, arith, Contains}
-use Rattle.std.specs.Prelude.{Option, Ok, unwrap_or, filter, flat_map, take, slice_get, ◌||◌}
+use Rattle.std.proofs.Common.{◌≡◌, ℕ, suc, zero, ◌+◌, ◌<◌, Bool, true, false, not, List, [], ◌∷◌, ◌++◌, length, map, ℤ, pos, negsuc, Some, None, refl, sym, ap, ◌∙◌, subst, arith, Contains}
+use Rattle.std.specs.Prelude.{Option, Ok, unwrap_or, flat_map, take, slice_get, ◌||◌}
 use Rattle.std.specs.List.{AllByRecursion, list_all, list_any}
 use Rattle.std.specs.Ordering.{int_eq}
 use Rattle.std.proofs.lemmas.Bool.{true≢false, and_parts}
 use Rattle.std.specs.Str.{bytes_eq}
 use Rattle.std.proofs.lemmas.Slice.Eq.{bytes_eq-Decides}
 use Rattle.std.proofs.lemmas.List.{map-append}
+use Rattle.std.proofs.lemmas.List.Sums.{length-filter, count_by-le-length, AllPass-from_list_all}
+use Rattle.std.proofs.lemmas.List.Folds.{list_any-append}
 use Rattle.std.proofs.lemmas.List.Concat.{flat_map-append}
 use Rattle.kp_accum.specs.Config.{checked}
 use Rattle.kp_accum.specs.declared.config.Config.{Config}
@@ -18,9 +20,7 @@ use Rattle.kp_log.specs.Log.{stored_as}
 use Rattle.kp_log.specs.declared.stored.Stored.{Stored}
 use Rattle.kp_core.specs.declared.outcome.Outcome.{Outcome}
 use Rattle.kp_core.specs.declared.outcome.Outcome.TheVariants.{Delivered, DeliveredNoOffset, Unknown, Rejected, Unsent}
-use Rattle.kp_core.specs.declared.attempt.Attempt.{Attempt}
-use Rattle.kp_core.specs.declared.attempt.Attempt.TheVariants.{InFlight, Waiting}
-use Rattle.kp_core.specs.Attempts.{is_waiting, is_waiting_attempt, is_attempt_in}
+use Rattle.kp_core.specs.Attempts.{is_waiting, is_waiting_attempt}
 use Rattle.kp_core.specs.OutcomeRule.{Call, Append, Tick, Reply as ToReply, End, MayTell}
 use Rattle.kp_core.specs.Partitions.{partition_at}
 use Rattle.kp_core.specs.Records.{Core, Partition, Batch, Told}
@@ -36,6 +36,7 @@ use Rattle.kp_world.specs.Run.{Producer, MayBegin}
 use Rattle.kp_world.specs.World.{World, opening}
 use Rattle.kp_log.proofs.PlaceLemmas.{In-from_contains}
 use Rattle.kp_world.specs.declared.event.Event.TheVariants as event
+use Rattle.kp_world.proofs.LeavingLemmas.{awaits_is}
 use Rattle.kp_world.proofs.ListLemmas.{all_at}
 use Rattle.kp_world.proofs.ToldLemmas.{same_itself}
 use Rattle.kp_world.proofs.ChosenRuns.{Choice, are_there, AreHonest, end_of, run_of}
@@ -122,20 +123,14 @@ among_first i (x ∷ earlier) later (suc n) l = at_test (is_same i x) (among_fir
     at_test true e = refl
     at_test false e = e
 
-no_longer : {A : Type 0} (test : A → Bool) (xs : List A) → length (filter test xs) ≤ length xs
-no_longer test [] = omega arith
-no_longer test (x ∷ xs) = at_test (test x) (no_longer test xs)
-  where
-    at_test : (b : Bool) → length (filter test xs) ≤ length xs → length (cond b (x ∷ filter test xs) (filter test xs)) ≤ suc (length xs)
-    at_test true l = omega (arith, l)
-    at_test false l = omega (arith, l)
-
 place_is_above : (w : World) (i : Item) (k : ℕ) → StandsAt w i (pos k) → is_before_place w i k ≡ false
 unfolding own
 place_is_above w i k s =
-    let own_before = no_longer (is_under (map pos (partition_of i.partition w).ids)) s.before in
+    let is_own = is_under (map pos (partition_of i.partition w).ids) in
+    let own_before = length-filter is_own s.before in
+    let no_more = count_by-le-length is_own s.before in
     let before : k ≡ length s.before = cc in
-    let early : length s.earlier < k + 1 = omega (arith, own_before, before, s.place) in
+    let early : length s.earlier < k + 1 = omega (arith, own_before, no_more, before, s.place) in
     ap (λ is. not (is_among i (take (k + 1) is))) s.handed ∙ ap not (among_first i s.earlier s.later (k + 1) early)
 
 pub offset_is_early : (w : World) → has_told (λ t. at_offset (is_before_place w t.item) t.outcome) w ≡ true → ToldOffsetsStand w → ⊥
@@ -211,14 +206,6 @@ delivered_is Unknown e = absurd cc
 delivered_is (Rejected code) e = absurd cc
 delivered_is (Unsent why) e = absurd cc
 
-waits : (k : ℕ) (a : Attempt) → is_waiting_attempt a ≡ true → is_attempt_in k a ≡ true → ⊥
-waits k (InFlight c) w f = absurd cc
-waits k (Waiting since) w f = absurd cc
-
-passes : {A : Type 0} (test : A → Bool) (xs : List A) → list_all test xs ≡ true → AllByRecursion (λ x. test x ≡ true) xs
-passes test [] e = tt
-passes test (x ∷ xs) e = let both = and_parts (test x) (list_all test xs) e in (both.0, passes test xs both.1)
-
 wait_at : (ts : List Partition) (p : ℕ) → list_all all_wait ts ≡ true → all_wait (partition_at p ts) ≡ true
 wait_at [] p e = refl
 wait_at (t ∷ ts) zero e = (and_parts (all_wait t) (list_all all_wait ts) e).0
@@ -232,22 +219,20 @@ none_delivered s t offset still is h = at_call h.0 (subst (MayTell s h.0 t.item)
     at_call (Append i) m = m
     at_call (Tick now) m = m
     at_call (ToReply now response) m =
-        let a = m.0.answered in
+        let o = m.0.batch in
+        let place = m.0.answered.is_open in
         let batches = (partition_at m.0.partition s.partitions).open_batches in
-        waits a.correlation m.0.batch.attempt (all_at (λ o. is_waiting o ≡ true) batches m.0.batch (passes is_waiting batches (wait_at s.partitions m.0.partition still)) (In-from_contains batches m.0.batch a.is_open)) a.in_flight
+        let waiting : is_waiting o ≡ true = sym (ap is_waiting place.2) ∙ AllPass-from_list_all is_waiting batches (wait_at s.partitions m.0.partition still) place.0 o place.1 in
+        absurd (true≢false (sym waiting ∙ ap is_waiting_attempt (awaits_is m.0.answered.correlation o m.0.answered.in_flight)))
     at_call End m = m
 
 last_passes : {A : Type 0} (test : A → Bool) (xs : List A) (x : A) → list_any test xs ≡ false → list_any test (xs ++ x ∷ []) ≡ true → test x ≡ true
-last_passes test [] x none e = at_test (test x) e
+last_passes test xs x none e =
+    at_test (test x) (sym (list_any-append test xs (x ∷ []) ∙ ap (λ (b : Bool). b || (test x || false)) none) ∙ e)
   where
     at_test : (b : Bool) → b || false ≡ true → b ≡ true
     at_test true e' = refl
     at_test false e' = absurd cc
-last_passes test (y ∷ xs) x none e = at_test (test y) none e (λ n e'. last_passes test xs x n e')
-  where
-    at_test : (b : Bool) → b || list_any test xs ≡ false → b || list_any test (xs ++ x ∷ []) ≡ true → (list_any test xs ≡ false → list_any test (xs ++ x ∷ []) ≡ true → test x ≡ true) → test x ≡ true
-    at_test true n e' later = absurd cc
-    at_test false n e' later = later n e'
 
 pub told_against_rule : (w v : World) → list_all all_wait w.core.partitions ≡ true → has_told (λ t. is_delivered t.outcome) w ≡ false → has_told (λ t. is_delivered t.outcome) v ≡ true
     → TellsByRule w v → ⊥
