@@ -26,7 +26,7 @@ use Rattle.kp_world.specs.World.{PartAnswer, Reply}
 use Rattle.kp_world.proofs.FlightLemmas.{Carried, PartHolds, Steady, part_grown, steady_grown}
 use Rattle.kp_world.proofs.PrefixLemmas.{Cut, Grown, lands, lands_at, grown_same, grown_appended}
 use Rattle.kp_world.proofs.SoundLemmas.{Sound, sents, sound_history}
-use Rattle.kp_world.proofs.ListLemmas.{In-map}
+use Rattle.kp_world.proofs.ListLemmas.{at_set, In-map}
 
 -- ---- a batch that is old
 
@@ -123,17 +123,9 @@ pub agree_set : {most : ℕ} (n : ℕ) (ids : List ℕ) (core : Core) (handed : 
     → p < length logs → AllAgree most n ids core handed logs packets replies → PartAgrees most p ids core.ended core.correlation (partition_at p core.partitions) (handed_at p handed) log packets replies
     → AllAgree most n ids core handed (slice_set logs p log) packets replies
 agree_set {most = most} n ids core handed logs packets replies p log within all agrees q h =
-    ⊎_elim
-    (λ (k : (eqb q p ≡ true) × (q ≡ p)). subst (Agrees most n ids core handed (slice_set logs p log) packets replies) (sym k.1) (on_log p (sym here) agrees))
-    (λ (k : (eqb q p ≡ false) × (q ≡ p → ⊥)). on_log q (sym (get_or-set_other logs p q log empty_history k.1)) (all q h))
-    (eqb_tells q p)
-  where
-    here : log_at p (slice_set logs p log) ≡ log
-    here = get_or-set_same logs p log empty_history within
-
-    on_log : (r : ℕ) {l l' : History} → l ≡ l' → PartAgrees most r ids core.ended core.correlation (partition_at r core.partitions) (handed_at r handed) l packets replies
-        → PartAgrees most r ids core.ended core.correlation (partition_at r core.partitions) (handed_at r handed) l' packets replies
-    on_log r e a = subst (λ (l : History). PartAgrees most r ids core.ended core.correlation (partition_at r core.partitions) (handed_at r handed) l packets replies) e a
+    at_set (λ (l : History). PartAgrees most q ids core.ended core.correlation (partition_at q core.partitions) (handed_at q handed) l packets replies) logs p q log empty_history
+    (λ e. (within, subst (λ (r : ℕ). PartAgrees most r ids core.ended core.correlation (partition_at r core.partitions) (handed_at r handed) log packets replies) (sym e) agrees))
+    (all q h)
 
 -- each part is there, was handed over, and went out with this correlation id
 abbrev pub Known : ℕ → ℕ → List (List Batch) → List Outgoing → List Sending → Type 0

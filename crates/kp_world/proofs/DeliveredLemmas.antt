@@ -1,14 +1,11 @@
 -- What is told of items: that one was delivered at an offset is told only where it stands there, and
 -- none is told delivered without an offset.
-use Rattle.std.proofs.Common.{◌≡◌, ℕ, zero, suc, ◌<◌, List, [], ◌∷◌, ◌++◌, length, map, ℤ, pos, ◌+ℤ◌, refl, sym, ap, ◌∙◌, subst, arith, append_assoc}
+use Rattle.std.proofs.Common.{◌≡◌, ℕ, zero, suc, ◌<◌, List, [], ◌∷◌, ◌++◌, length, ℤ, pos, ◌+ℤ◌, refl, sym, ap, ◌∙◌, subst, arith, append_assoc}
 use Rattle.std.specs.Prelude.{take}
-use Rattle.std.specs.Str.{bytes_eq}
 use Rattle.std.proofs.lemmas.List.Concat.{flat_map-append}
 use Rattle.kp_accum.specs.declared.item.Item.{Item}
 use Rattle.kp_frames.specs.declared.produce.PartitionProduceResponse.{PartitionProduceResponse}
-use Rattle.kp_frames.specs.declared.produce.ProduceResponse.{ProduceResponse}
 use Rattle.kp_frames.specs.declared.response.Response.{Response}
-use Rattle.kp_frames.specs.declared.response.ResponseBody.TheVariants as body
 use Rattle.kp_log.specs.declared.stored.Stored.{Stored as Record}
 use Rattle.kp_log.specs.BrokerStep.{Stands}
 use Rattle.kp_log.specs.History.{History}
@@ -18,7 +15,6 @@ use Rattle.kp_core.specs.declared.attempt.Attempt.TheVariants.{InFlight}
 use Rattle.kp_core.specs.declared.outcome.Outcome.TheVariants.{Delivered, DeliveredNoOffset}
 use Rattle.kp_core.specs.Answered.{verdict_of}
 use Rattle.kp_core.specs.Causes.{IsAnswered}
-use Rattle.kp_core.specs.Mismatch.{answers_of}
 use Rattle.kp_core.specs.OutcomeRule.{Call, TellsBy, IsDelivered, IsDuplicate, MayTell}
 use Rattle.kp_core.specs.OutcomeRule as call
 use Rattle.kp_core.specs.Partitions.{partition_at}
@@ -26,14 +22,13 @@ use Rattle.kp_core.specs.Records.{Batch, Open, Partition, Core, Told}
 use Rattle.kp_world.specs.Accounts.{items_handed}
 use Rattle.kp_world.specs.Client.{handed_at}
 use Rattle.kp_world.specs.Delivering.{log_at}
-use Rattle.kp_world.specs.Message.{sent_of, part_response, body_of_reply, response_of}
-use Rattle.kp_world.specs.World.{PartAnswer, ReplyContent, Batches as Parts, Id as GivenId, Reply, World, names}
+use Rattle.kp_world.specs.Message.{sent_of, part_response, response_of}
+use Rattle.kp_world.specs.World.{PartAnswer, Batches as Parts, Reply, World}
 use Rattle.std.proofs.lemmas.List.{length-take-le}
-use Rattle.std.proofs.lemmas.Option.{cond_some}
 use Rattle.kp_world.proofs.TakingLemmas.{took}
 use Rattle.kp_world.proofs.AccountLemmas.{items_of, IsAccounted}
 use Rattle.kp_world.proofs.AccountedLemmas.{handed_home}
-use Rattle.kp_world.proofs.HearingLemmas.{stored_code, duplicate_code, from_map, answered_batch, old_not_in_flight, same_correlation}
+use Rattle.kp_world.proofs.HearingLemmas.{parts_heard, stored_code, duplicate_code, from_map, answered_batch, old_not_in_flight, same_correlation}
 use Rattle.kp_world.proofs.LawfulLemmas.{IsLawful}
 use Rattle.kp_world.proofs.LeavingLemmas.{awaits_is}
 use Rattle.kp_world.proofs.RuledLemmas.{IsMade, MayBeToldIn}
@@ -107,29 +102,21 @@ pub record Heard (n : ℕ) (w : World) (r : Reply) (p : ℕ) (o : Open) (answer 
   pub answer_is : answer ≡ part_response part
 
 pub heard : (n : ℕ) (w : World) (r : Reply) (p : ℕ) (o : Open) (answer : PartitionProduceResponse) → IsLawful n w → IsAnswered w.core (response_of r) p o answer → Heard n w r p o answer
-heard n w r p o answer g x = at_content r.content refl x.body_is
-  where
-    there : In o (partition_at p w.core.partitions).open_batches
-    there = In-from_contains (partition_at p w.core.partitions).open_batches o x.is_open
-
-    at_content : (c : ReplyContent) → r.content ≡ c → body_of_reply c ≡ body.Produce x.produce → Heard n w r p o answer
-    at_content (GivenId code id) is e = absurd cc
-    at_content (Parts parts) is e =
-        let produce : record { topics = (record { topic = names.topic; partitions = map part_response parts }) ∷ []; throttle_time_ms = pos 0 } ≡ x.produce = cc in
-        let topic = ap (λ (q : ProduceResponse). answers_of w.core.names.topic q.topics) produce ∙ x.topic in
-        let answers = (cond_some (bytes_eq names.topic w.core.names.topic) (map part_response parts) x.answers topic).1 in
-        let from = from_map part_response parts answer (subst (In answer) (sym answers) (In-from_contains x.answers answer x.has)) in
-        record {
-          within = subst (λ (m : ℕ). p < m) g.count (open_there w.core.partitions p o there);
-          there = there;
-          flies = awaits_is x.correlation o x.in_flight ∙ ap InFlight (same_correlation x.correlation r.correlation x.named);
-          parts = parts;
-          content = is;
-          part = from.0;
-          known = from.1;
-          place = same_correlation from.0.partition p (sym (ap (λ (y : PartitionProduceResponse). y.partition) from.2) ∙ x.partition);
-          answer_is = from.2;
-        }
+heard n w r p o answer g x =
+    let there : In o (partition_at p w.core.partitions).open_batches = In-from_contains (partition_at p w.core.partitions).open_batches o x.is_open in
+    let h = parts_heard w.core.names.topic r.content x.produce x.answers x.body_is x.topic in
+    let from = from_map part_response h.0 answer (subst (In answer) (sym h.2) (In-from_contains x.answers answer x.has)) in
+    record {
+      within = subst (λ (m : ℕ). p < m) g.count (open_there w.core.partitions p o there);
+      there = there;
+      flies = awaits_is x.correlation o x.in_flight ∙ ap InFlight (same_correlation x.correlation r.correlation x.named);
+      parts = h.0;
+      content = h.1;
+      part = from.0;
+      known = from.1;
+      place = same_correlation from.0.partition p (sym (ap (λ (y : PartitionProduceResponse). y.partition) from.2) ∙ x.partition);
+      answer_is = from.2;
+    }
 
 -- ---- what is told is true
 

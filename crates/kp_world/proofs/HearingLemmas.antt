@@ -6,6 +6,7 @@ use Rattle.std.specs.Ordering.{int_eq}
 use Rattle.std.specs.Str.{bytes_eq}
 use Rattle.std.proofs.lemmas.Bool.{and_parts, not-true}
 use Rattle.std.proofs.lemmas.Bool.Decides.{Decides-int_eq}
+use Rattle.std.proofs.lemmas.Option.{none-some}
 use Rattle.kp_accum.specs.declared.config.Config.{Config}
 use Rattle.kp_frames.specs.declared.produce.PartitionProduceResponse.{PartitionProduceResponse}
 use Rattle.kp_frames.specs.declared.producer_id.InitProducerIdResponse.{InitProducerIdResponse}
@@ -210,13 +211,10 @@ lawful_given {most = most} n id s logs handed packets replies ids q r g going i 
   some = g.some;
   agree = each;
   went = λ o j. let w = g.went o j in record { before = w.before; parts = w.parts };
-  gave = λ x j. let w = g.gave x j in record { before = w.before; drawn = w.drawn; spare = λ m a b c d p h at. absurd (nobody a c) };
-  asked = λ a e. absurd (nobody a e);
+  gave = λ x j. let w = g.gave x j in record { before = w.before; drawn = w.drawn; spare = λ m a b c d p h at. absurd (none-some a c) };
+  asked = λ a e. absurd (none-some a e);
 }
   where
-    nobody : (a : IdRequest) → None ≡ Some a → ⊥
-    nobody a e = absurd cc
-
     fresh : (p : ℕ) → p < n → PartAgrees most p ids s.ended s.correlation (under_if_wanted id s p (partition_at p s.partitions)) (handed_at p handed) (log_at p logs) packets replies
     fresh p h =
         subst (λ (e : Bool). PartAgrees most p ids e s.correlation (under_if_wanted id s p (partition_at p s.partitions)) (handed_at p handed) (log_at p logs) packets replies) (sym going)

@@ -1,8 +1,9 @@
 -- Lists: what holds of all elements, and which elements there are.
-use Rattle.std.proofs.Common.{◌≡◌, ◌⊎◌, ℕ, suc, zero, Bool, true, false, cond, List, [], ◌∷◌, ◌++◌, map, Some, sym, ap, ◌∙◌, subst, inl, inr, ⊎_elim}
-use Rattle.std.specs.Prelude.{find, filter, take, slice_get}
+use Rattle.std.proofs.Common.{◌≡◌, ◌⊎◌, ℕ, suc, zero, Bool, true, false, cond, List, [], ◌∷◌, ◌++◌, map, Some, sym, ap, ◌∙◌, subst, inl, inr, ⊎_elim, ◌<◌, length, get_or, eqb}
+use Rattle.std.specs.Prelude.{find, filter, take, slice_get, slice_set}
 use Rattle.std.specs.List.{AllByRecursion}
-use Rattle.std.proofs.lemmas.List.{map-append}
+use Rattle.std.proofs.lemmas.Bool.Decides.{eqb_tells}
+use Rattle.std.proofs.lemmas.List.{map-append, get_or-set_same, get_or-set_other}
 use Rattle.kp_core.proofs.ListLemmas.{found, filtered}
 use Rattle.kp_log.proofs.PlaceLemmas.{In-from_contains, contains_from_In, In, In-nil, In-cons, In-head, In-tail, In-append_cases}
 
@@ -69,3 +70,11 @@ found_in test xs x e = let f = found test xs x e in (In-from_contains xs x f.0, 
 pub left_in : {A : Type 0} (test : A → Bool) (xs : List A) (x : A) → In x (filter test xs) → In x xs × (test x ≡ true)
 left_in test xs x i =
     let f = filtered test xs x (contains_from_In (filter test xs) x i) in (In-from_contains xs x f.0, f.1)
+
+-- what holds of an element that was set, and of the one that was there, holds of the one that is there
+pub at_set : {A : Type 0} (P : A → Type 0) (xs : List A) (i j : ℕ) (v d : A) → (j ≡ i → (i < length xs) × P v) → P (get_or xs j d) → P (get_or (slice_set xs i v) j d)
+at_set P xs i j v d new old =
+    ⊎_elim
+    (λ (k : (eqb j i ≡ true) × (j ≡ i)). let n = new k.1 in subst (λ (m : ℕ). P (get_or (slice_set xs i v) m d)) (sym k.1) (subst P (sym (get_or-set_same xs i v d n.0)) n.1))
+    (λ (k : (eqb j i ≡ false) × (j ≡ i → ⊥)). subst P (sym (get_or-set_other xs i j v d k.1)) old)
+    (eqb_tells j i)

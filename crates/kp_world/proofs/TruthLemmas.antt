@@ -1,7 +1,7 @@
 -- In every world of a run, what was ever told of an item is true of what was handed over and of the
 -- logs.
-use Rattle.std.proofs.Common.{get_or, ◌≡◌, ℕ, ◌<◌, Bool, true, false, List, [], ◌∷◌, ◌++◌, length, replicate, refl, sym, ap, ◌∙◌, subst, ⊎_elim}
-use Rattle.std.specs.Prelude.{slice_set, if◌then◌else◌, ◌==◌}
+use Rattle.std.proofs.Common.{◌≡◌, ℕ, ◌<◌, Bool, true, false, List, [], ◌∷◌, ◌++◌, length, replicate, refl, sym, ap, ◌∙◌, subst, ⊎_elim}
+use Rattle.std.specs.Prelude.{if◌then◌else◌, ◌==◌}
 use Rattle.kp_accum.specs.declared.config.Config.{Config}
 use Rattle.kp_log.specs.declared.stored.Stored.{Stored}
 use Rattle.kp_log.specs.History.{History, empty_history, with_others, NO_ID}
@@ -16,8 +16,7 @@ use Rattle.kp_world.specs.Noting.{noted}
 use Rattle.kp_world.specs.Run.{with_delivery, Steps, IsReached}
 use Rattle.kp_world.specs.World.{Happened, World, opening}
 use Rattle.kp_world.proofs.RunLemmas.{parts_came}
-use Rattle.std.proofs.lemmas.Bool.{eqb-true, eqb-false}
-use Rattle.std.proofs.lemmas.List.{length-set, get_or-set_same, get_or-set_other, append-nil}
+use Rattle.std.proofs.lemmas.List.{length-set, append-nil}
 use Rattle.kp_log.proofs.PlaceLemmas.{In, In-nil, In-append_left}
 use Rattle.kp_world.specs.Client.{handed_at, handed_with, grown_by, with_sending, with_sendings}
 use Rattle.kp_world.proofs.AccountLemmas.{IsAccounted}
@@ -26,7 +25,7 @@ use Rattle.kp_world.proofs.DeliveredLemmas.{Truly, AllTruly, truly_grown, truly_
 use Rattle.kp_world.proofs.EventLemmas.{at_sent, at_taken, OfEvent, at_step, at_run}
 use Rattle.kp_world.proofs.LawfulLemmas.{IsLawful}
 use Rattle.kp_world.proofs.RuledLemmas.{MayBeToldIn, TellsIn, told_step}
-use Rattle.kp_world.proofs.ListLemmas.{all_at, in_at, one_more}
+use Rattle.kp_world.proofs.ListLemmas.{at_set, all_at, in_at, one_more}
 
 -- ---- what was handed over stays
 
@@ -37,19 +36,9 @@ grown_in b c handed i = at_test (b.number == length handed)
     at_test true = In-append_left c handed (b ∷ []) i
     at_test false = i
 
--- what holds of an element that was set, and of the one that was there, holds of the one that is there
-at_place : {A : Type 0} (P : A → Type 0) (xs : List A) (i j : ℕ) (v d : A) → j < length xs → (j ≡ i → P v) → P (get_or xs j d) → P (get_or (slice_set xs i v) j d)
-at_place P xs i j v d h new old = at_test (j == i) refl
-  where
-    at_test : (b : Bool) → (j == i) ≡ b → P (get_or (slice_set xs i v) j d)
-    at_test true is =
-        let e : j ≡ i = eqb-true j i is in
-        subst (λ (n : ℕ). P (get_or (slice_set xs i v) n d)) (sym e) (subst P (sym (get_or-set_same xs i v d (subst (λ (n : ℕ). n < length xs) e h))) (new e))
-    at_test false is = subst P (sym (get_or-set_other xs i j v d (eqb-false j i is))) old
-
 sending_in : (x : Sending) (handed : List (List Batch)) (p : ℕ) (b : Batch) → p < length handed → In b (handed_at p handed) → In b (handed_at p (with_sending x handed))
 sending_in x handed p b h i =
-    at_place (In b) handed x.partition p (grown_by x.batch (handed_at x.partition handed)) [] h (λ e. grown_in x.batch b (handed_at x.partition handed) (subst (λ (q : ℕ). In b (handed_at q handed)) e i)) i
+    at_set (In b) handed x.partition p (grown_by x.batch (handed_at x.partition handed)) [] (λ e. (subst (λ (q : ℕ). q < length handed) e h, grown_in x.batch b (handed_at x.partition handed) (subst (λ (q : ℕ). In b (handed_at q handed)) e i))) i
 
 sendings_in : (xs : List Sending) (handed : List (List Batch)) (p : ℕ) (b : Batch) → p < length handed → In b (handed_at p handed) → In b (handed_at p (with_sendings xs handed))
 unfolding with_sendings
@@ -66,8 +55,8 @@ grown_logs n w o d g i (InitProducerId q) is honest p = ([], ap (λ (ls : List H
 
 others_grown : (p m : ℕ) (logs : List History) (q : ℕ) → q < length logs → (more : List Stored) × ((log_at q (logs_with_others p m logs)).records ≡ (log_at q logs).records ++ more)
 others_grown p m logs q within =
-    at_place (λ (l : History). (more : List Stored) × (l.records ≡ (log_at q logs).records ++ more)) logs p q (with_others m other_record (log_at p logs)) empty_history within
-    (λ e. (stored_as NO_ID (replicate m other_record), ap (λ (n : ℕ). (log_at n logs).records ++ stored_as NO_ID (replicate m other_record)) (sym e)))
+    at_set (λ (l : History). (more : List Stored) × (l.records ≡ (log_at q logs).records ++ more)) logs p q (with_others m other_record (log_at p logs)) empty_history
+    (λ e. (subst (λ (n : ℕ). n < length logs) e within, (stored_as NO_ID (replicate m other_record), ap (λ (n : ℕ). (log_at n logs).records ++ stored_as NO_ID (replicate m other_record)) (sym e))))
     ([], sym (append-nil (log_at q logs).records))
 
 -- ---- every step
