@@ -1,7 +1,7 @@
 -- What a rule leaves as it is in a partition: what was handed over, and that what is open was.
-use Rattle.std.proofs.Common.{◌≡◌, ℕ, suc, zero, ◌+◌, ◌<◌, Bool, true, false, not, List, [], ◌∷◌, length, get_or, map, Some, None, refl, sym, ap, ◌∙◌, subst, arith, length-append}
-use Rattle.std.specs.Prelude.{Option, if◌then◌else◌}
-use Rattle.std.specs.List.{AllByRecursion, enumerate_from, list_any}
+use Rattle.std.proofs.Common.{◌≡◌, ℕ, suc, zero, ◌+◌, ◌<◌, Bool, true, false, not, List, [], ◌∷◌, length, get_or, map, refl, sym, ap, ◌∙◌, subst, arith, length-append}
+use Rattle.std.specs.Prelude.{if◌then◌else◌}
+use Rattle.std.specs.List.{AllByRecursion, enumerate_from}
 use Rattle.kp_accum.specs.declared.config.Config.{Config}
 use Rattle.kp_accum.specs.declared.item.Item.{Item}
 use Rattle.kp_accum.specs.Queue.{Pending, joins, with_item, joined_by, begun_by, marked_by_flush}
@@ -11,14 +11,14 @@ use Rattle.kp_log.proofs.PlaceLemmas.{In}
 use Rattle.kp_core.specs.declared.attempt.Attempt.TheVariants.{Waiting}
 use Rattle.kp_core.specs.declared.verdict.Verdict.{Verdict}
 use Rattle.kp_core.specs.declared.verdict.Verdict.TheVariants.{Stored, Duplicate, Retry, Reject}
-use Rattle.kp_core.specs.Answered.{acknowledged, without_attempt, waiting_since, settled, answered_if, answered, verdict_of}
+use Rattle.kp_core.specs.Answered.{acknowledged, without_attempt, waiting_since, settled}
 use Rattle.kp_core.specs.Appending.{with_queued}
-use Rattle.kp_core.specs.Attempts.{awaits, awaiting, dropped_batch, without_attempts}
+use Rattle.kp_core.specs.Attempts.{awaits, dropped_batch, without_attempts}
 use Rattle.kp_core.specs.Fence.{fenced, given_up}
 use Rattle.kp_core.specs.Flush.{marked_open, with_marks}
 use Rattle.kp_core.specs.Partitions.{partition_at, changed_at, new_partition, is_in}
 use Rattle.kp_core.specs.Records.{Batch, Open, Partition, Told}
-use Rattle.kp_core.specs.Tick.{behind_late, expired_front, is_open_late, passed}
+use Rattle.kp_core.specs.Tick.{behind_late, expired_front}
 use Rattle.kp_world.proofs.ListLemmas.{all_filter, all_map}
 
 -- ---- one partition
@@ -92,14 +92,6 @@ keeps_expired c now t = record {
   queue = λ h. queue_behind_late c now t.queue h;
 }
 
-pub keeps_passed : (c : Config) (now : ℕ) (t : Partition) → Keeps t (passed c now t).after
-unfolding passed
-keeps_passed c now t = at_test (list_any (is_open_late c now) t.open_batches)
-  where
-    at_test : (late : Bool) → Keeps t (if late then fenced t else expired_front c now t).after
-    at_test true = keeps_fenced t
-    at_test false = keeps_expired c now t
-
 pub same_waiting : (now k : ℕ) (o : Open) → (waiting_since now k o).batch ≡ o.batch
 same_waiting now k o = at_test (awaits k o)
   where
@@ -138,14 +130,6 @@ keeps_settled now k t o a Retry = record {
 }
 keeps_settled now k t o a Reject = keeps_more t (without_attempt k t)
     (fenced (without_attempt k t)).after (keeps_without k t) (keeps_fenced (without_attempt k t))
-
-pub keeps_answered : (now k : ℕ) (t : Partition) (a : PartitionProduceResponse) → Keeps t (answered now k t a).after
-unfolding answered
-keeps_answered now k t a = at_option (awaiting k t)
-  where
-    at_option : (o : Option Open) → Keeps t (answered_if now k t a o).after
-    at_option None = keeps_same t
-    at_option (Some o) = keeps_settled now k t o a (verdict_of a.error_code)
 
 pub keeps_marked : (t : Partition) → Keeps t (with_marks t)
 keeps_marked t = record {

@@ -15,7 +15,8 @@ ghost use Rattle.kp_world.specs.World.{World};
 ghost use Rattle.kp_world.specs.declared.event.Event.{Event};
 ghost use Rattle.kp_world.specs.declared.event.Event.TheVariants.{Reply};
 
-/// With the rule as it is, these producers are the producer.
+/// Where the rule for handing over, the replies as they are heard, or the rule for a tick are as they are, these producers
+/// are the producer.
 #[tactic(auto, unfolding(crate::specs::Client::client, kp_core::specs::Requesting::requested, kp_core::specs::Next::next_demand, kp_core::specs::Next::next_batches, kp_core::specs::MaySend::sends, kp_core::specs::Tick::ticked))]
 pub fn only_one_rule_is_changed()
     ensures handing_over { (e : Event) (w : World) → sending_by may_hand_over e w ≡ client e w }
