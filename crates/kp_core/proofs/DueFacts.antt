@@ -2,11 +2,11 @@
 use Rattle.std.proofs.Common.{◌≡◌, Some, None, refl}
 use Rattle.kp_accum.specs.Config.{default_config}
 use Rattle.kp_accum.specs.declared.config.Config.{Config}
-use Rattle.kp_core.specs.Appending.{appended}
+use Rattle.kp_core.specs.Appending.{append_step}
 use Rattle.kp_core.specs.Due.{next_due}
 use Rattle.kp_core.specs.Opening.{new_core}
 use Rattle.kp_core.specs.Records.{Core}
-use Rattle.kp_core.specs.Tick.{disconnected}
+use Rattle.kp_core.specs.Dropping.{disconnect_step}
 use Rattle.kp_core.proofs.Evaluation.{evaluated}
 use Rattle.kp_core.proofs.Scenes.{names, item, fresh, both_sent}
 
@@ -18,7 +18,7 @@ abbrev lingers : Config
 lingers = record default_config { linger_ms = 5 }
 
 abbrev lingering : Core
-lingering = (appended (item 0 0 97) (new_core lingers names 1 1 1000 2)).after
+lingering = (append_step (item 0 0 97) (new_core lingers names 1 1 1000 2)).after
 
 pub a_batch_is_due_when_it_has_lingered : next_due lingering ≡ Some 5
 unfolding evaluated
@@ -28,6 +28,6 @@ pub a_request_is_due_when_it_times_out : next_due both_sent ≡ Some 30000
 unfolding evaluated
 a_request_is_due_when_it_times_out = refl
 
-pub a_dropped_batch_is_due_after_its_backoff : next_due (disconnected 40 both_sent) ≡ Some 140
+pub a_dropped_batch_is_due_after_its_backoff : next_due (disconnect_step 40 both_sent) ≡ Some 140
 unfolding evaluated
 a_dropped_batch_is_due_after_its_backoff = refl

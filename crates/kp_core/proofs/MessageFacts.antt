@@ -9,13 +9,15 @@ use Rattle.kp_frames.specs.Produce.{partition_data, topic_data, produce_request}
 use Rattle.kp_frames.specs.ProducerId.{init_producer_id_request}
 use Rattle.kp_frames.specs.Request.{known, body, spelling}
 use Rattle.kp_frames.specs.Stream.{frame}
-use Rattle.kp_core.specs.Next.{Sending, Produce, InitProducerId}
-use Rattle.kp_core.specs.Requesting.{Outgoing, message_of}
+use Rattle.kp_core.specs.Next.{Sending}
+use Rattle.kp_core.specs.Records.{Produce, InitProducerId}
+use Rattle.kp_core.specs.Requesting.{Packet}
+use Rattle.kp_core.specs.Framing.{message_of, frame_of}
 use Rattle.kp_core.proofs.Evaluation.{evaluated}
 use Rattle.kp_core.proofs.Scenes.{names, item}
 
-abbrev written : Outgoing → List ℕ
-written o = frame.spell (spelling (message_of default_config names o))
+abbrev written : Packet → List ℕ
+written o = frame_of default_config names o
 
 abbrev zeros : List ℕ
 zeros = 0 ∷ 0 ∷ 0 ∷ 0 ∷ 0 ∷ 0 ∷ 0 ∷ 0 ∷ []

@@ -1,37 +1,42 @@
 -- Whatever is told of an item is a case of the outcome rule.
 use Rattle.std.proofs.Common.{◌≡◌, ℕ, suc, zero, ◌+◌, ◌<◌, Bool, true, false, not, List, [], ◌∷◌, ◌++◌, length, get_or, map, ℤ, pos, Some, None, refl, sym, ap, ◌∙◌, subst, arith, Contains}
-use Rattle.std.specs.Prelude.{Option, if◌then◌else◌, ◌||◌, find, flat_map, slice_get, ◌+ℤ◌}
-use Rattle.std.specs.List.{AllByRecursion, enumerate_from, list_any}
+use Rattle.std.specs.Prelude.{Option, if◌then◌else◌, ◌||◌, ◌&&◌, ◌==◌, flat_map, slice_get, ◌+ℤ◌}
+use Rattle.std.specs.List.{AllByRecursion, enumerate_from, list_any, list_all}
 use Rattle.std.specs.Ordering.{int_eq}
+use Rattle.std.specs.Str.{bytes_eq}
+use Rattle.std.proofs.lemmas.Bool.{not-true, and_parts}
 use Rattle.std.proofs.lemmas.Bool.Decides.{Decides-int_eq}
+use Rattle.std.proofs.lemmas.List.{append-nil}
 use Rattle.kp_accum.specs.declared.config.Config.{Config}
 use Rattle.kp_accum.specs.declared.item.Item.{Item}
 use Rattle.kp_accum.specs.Queue.{Pending}
 use Rattle.kp_accum.specs.Ready.{is_late}
 use Rattle.kp_frames.specs.declared.produce.PartitionProduceResponse.{PartitionProduceResponse}
 use Rattle.kp_frames.specs.declared.produce.ProduceResponse.{ProduceResponse}
+use Rattle.kp_frames.specs.declared.produce.TopicProduceResponse.{TopicProduceResponse}
 use Rattle.kp_frames.specs.declared.response.Response.{Response}
 use Rattle.kp_frames.specs.declared.response.ResponseBody.TheVariants as body
 use Rattle.kp_core.specs.declared.outcome.Outcome.{Outcome}
 use Rattle.kp_core.specs.declared.outcome.Outcome.TheVariants.{Delivered, DeliveredNoOffset, Unknown, Rejected, Unsent}
 use Rattle.kp_core.specs.declared.outcome.Reason.{Reason}
 use Rattle.kp_core.specs.declared.outcome.Reason.TheVariants as reason
-use Rattle.kp_core.specs.declared.verdict.Verdict.{Verdict}
-use Rattle.kp_core.specs.declared.verdict.Verdict.TheVariants.{Stored, Duplicate, Retry, Reject}
-use Rattle.kp_core.specs.Answered.{verdict_of, without_attempt, settled, answered_if, answered}
-use Rattle.kp_core.specs.Appending.{Appends, appended}
-use Rattle.kp_core.specs.Attempts.{awaits, awaiting, dropped_batch, without_attempts, dropped}
-use Rattle.kp_core.specs.Awaited.{Nothing, Batches, Id, id_awaited, or_id, awaited}
-use Rattle.kp_core.specs.Fence.{told_given_up, fenced, given_up, ended}
-use Rattle.kp_core.specs.Mismatch.{Answers, is_for, answers_for, answers_of}
+use Rattle.kp_core.specs.declared.meaning.Meaning.{Meaning}
+use Rattle.kp_core.specs.declared.meaning.Meaning.TheVariants.{Stored, Duplicate, Retry, Reject}
+use Rattle.kp_core.specs.Appending.{Appends, append_step}
+use Rattle.kp_core.specs.Attempts.{awaits, awaiting}
 use Rattle.kp_core.specs.Causes.{IsAtLateFront, IsOpenIn, IsQueuedIn, IsAnswered, Settles}
-use Rattle.kp_core.specs.OutcomeRule.{Call, Append, Tick, Reply, End, told_by, MayTell}
+use Rattle.kp_core.specs.Closing.{end_step}
+use Rattle.kp_core.specs.Dropping.{drop_attempt, drop_attempts, drop_requests}
+use Rattle.kp_core.specs.Fence.{give_up, fence}
+use Rattle.kp_core.specs.Mismatch.{is_one_topic, is_for, entries_of, entries_for, has_offsets, answers_batches}
+use Rattle.kp_core.specs.OutcomeRule.{Telling, Append, Tick, Reply, End, IsOpenBeside, told_in, MayTell}
 use Rattle.kp_core.specs.Partitions.{partition_at, items_open, items_queued}
-use Rattle.kp_core.specs.Records.{Open, Partition, Request, IdRequest, Core, Told, Step}
-use Rattle.kp_core.specs.Replies.{Replies, first_answered, answering, batches_answered, replied}
-use Rattle.kp_core.specs.Telling.{told_all, told_at_each, told_at}
-use Rattle.kp_core.specs.Tick.{Ticks, is_open_late, late_front, expired_front, passed, ticked}
-use Rattle.kp_core.proofs.CallLemmas.{at_appended, at_ended, at_replied, at_ticked}
+use Rattle.kp_core.specs.Records.{Open, Partition, Request, Core, Told, Effect, Called}
+use Rattle.kp_core.specs.Replies.{Replies, awaited, settle_batches, response_step}
+use Rattle.kp_core.specs.Settling.{meaning_of, without_attempt, settle_by, left_alone, settle_batch}
+use Rattle.kp_core.specs.Telling.{told_all, with_partitions, at_each, at_these}
+use Rattle.kp_core.specs.Tick.{Ticks, is_open_late, late_front, expire_front, heed_deadlines, tick_step}
+use Rattle.kp_core.proofs.CallLemmas.{at_append, at_end_step, at_response, at_tick}
 use Rattle.kp_core.proofs.ListLemmas.{contains_head, all_contained, all_flat_map, filtered, found}
 use Rattle.kp_wire.proofs.ListLemmas.{all_append}
 
@@ -76,7 +81,8 @@ queued_items Q t f = all_flat_map Q (λ b. b.items) t.queue
 all_given_up : (P : Told → Type 0) (why : Reason) (t : Partition)
     → ((i : Item) → IsOpenIn t i → P (record { item = i; outcome = Unknown }))
     → ((i : Item) → IsQueuedIn t i → P (record { item = i; outcome = Unsent why }))
-    → AllByRecursion P (told_given_up why t)
+    → AllByRecursion P (give_up why t).told
+unfolding give_up
 all_given_up P why t f g = all_append P (told_all Unknown (items_open t.open_batches))
     (told_all (Unsent why) (items_queued t.queue))
     (all_told P Unknown (items_open t.open_batches)
@@ -93,71 +99,73 @@ all_places P g (t ∷ ts) f =
 
 -- ---- the end
 
-abbrev MayBeTold : Core → Call → Told → Type 0
+abbrev MayBeTold : Core → Telling → Told → Type 0
 MayBeTold s call t = MayTell s call t.item t.outcome
 
-at_end : (s : Core) → AllByRecursion (MayBeTold s End) (ended s).told
-unfolding MayTell told_at_each given_up
-at_end s = at_ended (λ (x : Step (Unit {0})). AllByRecursion (MayBeTold s End) x.told) s tt
-    (all_places (MayBeTold s End) (λ t. (given_up t).told) s.partitions
+tells_end : (s : Core) → AllByRecursion (MayBeTold s End) (end_step s).told
+unfolding MayTell at_each with_partitions
+tells_end s = at_end_step (λ (x : Called ℕ). AllByRecursion (MayBeTold s End) x.told) s tt
+    (all_places (MayBeTold s End) (λ t. (give_up reason.Ended t).told) s.partitions
     (λ p. all_given_up (MayBeTold s End) reason.Ended (partition_at p s.partitions) (λ i h. (p, h)) (λ i h. (p, h))))
 
 -- ---- an append
 
-at_append : (i : Item) (s : Core) → AllByRecursion (MayBeTold s (Append i)) (appended i s).told
+tells_append : (i : Item) (s : Core) → AllByRecursion (MayBeTold s (Append i)) (append_step i s).told
 unfolding MayTell
-at_append i s = at_appended (λ (x : Appends). AllByRecursion (MayBeTold s (Append i)) x.told) i s (record {
-  past_end = λ e. ((refl, e), tt);
-  by_fence = λ e f. ((refl, e, f), tt);
+tells_append i s = at_append (λ (x : Appends). AllByRecursion (MayBeTold s (Append i)) x.told) i s (record {
+  outside = tt;
+  past_end = λ m e. ((refl, e), tt);
+  by_fence = λ m e f. ((refl, e, f), tt);
   full = tt;
-  room = λ e f r. tt;
+  room = λ m e f r. tt;
 })
 
 -- ---- a tick
 
 same_any : (c : Config) (now at : ℕ) (os : List Open)
-    → list_any (is_open_late c now) (map (dropped_batch at) os) ≡ list_any (is_open_late c now) os
+    → list_any (is_open_late c now) (map (drop_attempt at) os) ≡ list_any (is_open_late c now) os
 same_any c now at [] = refl
 same_any c now at (o ∷ os) = ap (λ (b : Bool). is_open_late c now o || b) (same_any c now at os)
 
-same_items : (at : ℕ) (os : List Open) → items_open (map (dropped_batch at) os) ≡ items_open os
+same_items : (at : ℕ) (os : List Open) → items_open (map (drop_attempt at) os) ≡ items_open os
 same_items at [] = refl
 same_items at (o ∷ os) = ap (λ (is : List Item). o.batch.items ++ is) (same_items at os)
 
 abbrev told_passed : Config → ℕ → Partition → Bool → List Told
-told_passed c now t b = if b then told_given_up reason.Fenced t else told_all
+told_passed c now t b = if b then (give_up reason.Fenced t).told else told_all
     (Unsent reason.Expired) (items_queued (late_front c now t.queue))
 
-passed_tells : (c : Config) (now : ℕ) (t : Partition) → (passed c now t).told
+passed_tells : (c : Config) (now : ℕ) (t : Partition) → (heed_deadlines c now t).told
     ≡ told_passed c now t (list_any (is_open_late c now) t.open_batches)
-unfolding passed fenced
+unfolding heed_deadlines fence
 passed_tells c now t = at_test (list_any (is_open_late c now) t.open_batches)
   where
-    at_test : (b : Bool) → (if b then fenced t else expired_front c now t).told ≡ told_passed c now t b
+    at_test : (b : Bool) → (if b then fence t else expire_front c now t).told ≡ told_passed c now t b
     at_test true = refl
     at_test false = refl
 
 dropped_tells : (c : Config) (now at : ℕ) (t : Partition)
-    → (passed c now (without_attempts at t)).told ≡ (passed c now t).told
+    → (heed_deadlines c now (drop_attempts at t)).told ≡ (heed_deadlines c now t).told
+unfolding give_up
 dropped_tells c now at t =
-    passed_tells c now (without_attempts at t)
-    ∙ ap (told_passed c now (without_attempts at t)) (same_any c now at t.open_batches)
+    passed_tells c now (drop_attempts at t)
+    ∙ ap (told_passed c now (drop_attempts at t)) (same_any c now at t.open_batches)
     ∙ at_test (list_any (is_open_late c now) t.open_batches)
     ∙ sym (passed_tells c now t)
   where
-    at_test : (b : Bool) → told_passed c now (without_attempts at t) b ≡ told_passed c now t b
+    at_test : (b : Bool) → told_passed c now (drop_attempts at t) b ≡ told_passed c now t b
     at_test true = ap (λ (is : List Item). told_all Unknown is
         ++ told_all (Unsent reason.Fenced) (items_queued t.queue)) (same_items at t.open_batches)
     at_test false = refl
 
 all_dropped_tell : (c : Config) (now at : ℕ) (ts : List Partition)
-    → flat_map (λ t. (passed c now t).told) (map (without_attempts at) ts)
-    ≡ flat_map (λ t. (passed c now t).told) ts
+    → flat_map (λ t. (heed_deadlines c now t).told) (map (drop_attempts at) ts)
+    ≡ flat_map (λ t. (heed_deadlines c now t).told) ts
 all_dropped_tell c now at [] = refl
 all_dropped_tell c now at (t ∷ ts) =
-    ap (λ (xs : List Told). xs ++ flat_map (λ t. (passed c now t).told)
-    (map (without_attempts at) ts)) (dropped_tells c now at t)
-    ∙ ap (λ (xs : List Told). (passed c now t).told ++ xs) (all_dropped_tell c now at ts)
+    ap (λ (xs : List Told). xs ++ flat_map (λ t. (heed_deadlines c now t).told)
+    (map (drop_attempts at) ts)) (dropped_tells c now at t)
+    ∙ ap (λ (xs : List Told). (heed_deadlines c now t).told ++ xs) (all_dropped_tell c now at ts)
 
 late_contained : (c : Config) (now : ℕ) (q : List Pending) (b : Pending)
     → Contains (late_front c now q) b → IsAtLateFront c now q b
@@ -193,7 +201,7 @@ late_contained c now (x ∷ q) b h = at_test (is_late c now x) refl h
 
 passed_all : (s : Core) (now p : ℕ)
     → AllByRecursion (MayBeTold s (Tick now))
-    (passed s.config now (partition_at p s.partitions)).told
+    (heed_deadlines s.config now (partition_at p s.partitions)).told
 unfolding MayTell
 passed_all s now p = subst (AllByRecursion (MayBeTold s (Tick now)))
     (sym (passed_tells s.config now (partition_at p s.partitions)))
@@ -221,61 +229,43 @@ passed_all s now p = subst (AllByRecursion (MayBeTold s (Tick now)))
           },
         ))))
 
-at_tick : (now : ℕ) (s : Core) → AllByRecursion (MayBeTold s (Tick now)) (ticked now s).told
-unfolding told_at_each dropped
-at_tick now s = at_ticked (λ (x : Ticks). AllByRecursion (MayBeTold s (Tick now)) x.told) now s (record {
+tells_tick : (now : ℕ) (s : Core) → AllByRecursion (MayBeTold s (Tick now)) (tick_step now s).told
+unfolding at_each with_partitions drop_requests
+tells_tick now s = at_tick (λ (x : Ticks). AllByRecursion (MayBeTold s (Tick now)) x.told) now s (record {
   ended = tt;
   timed_out = subst (AllByRecursion (MayBeTold s (Tick now))) (sym (all_dropped_tell s.config now now s.partitions)) all;
   on_time = all;
 })
   where
-    all : AllByRecursion (MayBeTold s (Tick now)) (flat_map (λ t. (passed s.config now t).told) s.partitions)
-    all = all_places (MayBeTold s (Tick now)) (λ t. (passed s.config now t).told) s.partitions (passed_all s now)
+    all : AllByRecursion (MayBeTold s (Tick now)) (flat_map (λ t. (heed_deadlines s.config now t).told) s.partitions)
+    all = all_places (MayBeTold s (Tick now)) (λ t. (heed_deadlines s.config now t).told) s.partitions (passed_all s now)
 
 -- ---- a reply
 
 -- a request that is awaited is in flight
-pub in_flight : (k : ℤ) (s : Core) (r : Request) → awaited k s ≡ Batches r
+pub in_flight : (k : ℤ) (s : Core) (r : Request) → awaited k s ≡ Some r
     → Contains s.requests r × (pos r.correlation ≡ k)
 unfolding awaited
-in_flight k s r e = at_request (find (λ (q : Request). int_eq (pos q.correlation) k) s.requests) refl e
-  where
-    at_test : (q : IdRequest) (b : Bool) → (if b then Id q else Nothing) ≡ Batches r → ⊥
-    at_test q true e' = absurd cc
-    at_test q false e' = absurd cc
+in_flight k s r e =
+    let here = found (λ (x : Request). int_eq (pos x.correlation) k) s.requests r e in
+    (here.0, (Decides-int_eq (pos r.correlation) k).0 here.1)
 
-    at_option : (o : Option IdRequest) → id_awaited k o ≡ Batches r → ⊥
-    at_option None e' = absurd cc
-    at_option (Some q) e' = at_test q (int_eq (pos q.correlation) k) e'
-
-    at_request : (o : Option Request)
-        → find (λ (q : Request). int_eq (pos q.correlation) k) s.requests ≡ o → or_id k s o
-        ≡ Batches r → Contains s.requests r × (pos r.correlation ≡ k)
-    at_request (Some q) is e' =
-        let same : q ≡ r = cc in
-        let here = found (λ (x : Request). int_eq (pos x.correlation) k) s.requests q is in
-        subst (λ (x : Request). Contains s.requests x × (pos x.correlation ≡ k)) same
-        (here.0, (Decides-int_eq (pos q.correlation) k).0 here.1)
-    at_request None is e' = absurd (at_option s.id_request e')
-
-open_without : (k : ℕ) (t : Partition) (i : Item) → IsOpenIn (without_attempt k t) i → IsOpenIn t i
-open_without k t i h = record {
-  batch = h.batch;
-  is_open = (filtered (λ o. not (awaits k o)) t.open_batches h.batch h.is_open).0;
-  has = h.has;
-}
+open_beside : (k : ℕ) (t : Partition) (i : Item) → IsOpenIn (without_attempt k t) i → IsOpenBeside k t i
+open_beside k t i h =
+    let kept = filtered (λ o. not (awaits k o)) t.open_batches h.batch h.is_open in
+    record { here = record { batch = h.batch; is_open = kept.0; has = h.has }; other = not-true (awaits k h.batch) kept.1 }
 
 abbrev settles : (s : Core) (response : Response) (p : ℕ) (o : Open) (a : PartitionProduceResponse) → IsAnswered s response p o a
-    → (v : Verdict) → verdict_of a.error_code ≡ v → (n : ℕ) (i : Item) → slice_get o.batch.items n ≡ Some i → Settles s response i v
+    → (v : Meaning) → meaning_of a.error_code ≡ v → (n : ℕ) (i : Item) → slice_get o.batch.items n ≡ Some i → Settles s response i v
 settles s response p o a is v means n i e = record { partition = p; batch = o; answer = a; answered = is; means = means; place = n; item = e }
 
 at_settled : (now k p : ℕ) (s : Core) (response : Response) (o : Open)
-    (a : PartitionProduceResponse) → IsAnswered s response p o a
-    → (v : Verdict) → verdict_of a.error_code ≡ v
+    (a : PartitionProduceResponse) (is : IsAnswered s response p o a) → k ≡ is.correlation
+    → (v : Meaning) → meaning_of a.error_code ≡ v
     → AllByRecursion (MayBeTold s (Reply now response))
-    (settled now k (partition_at p s.partitions) o a v).told
-unfolding MayTell fenced
-at_settled now k p s response o a is Stored v = all_enumerated (MayBeTold s (Reply now response))
+    (settle_by now k (partition_at p s.partitions) o a v).told
+unfolding MayTell fence
+at_settled now k p s response o a is same Stored v = all_enumerated (MayBeTold s (Reply now response))
     (λ x. record { item = x.1; outcome = Delivered (a.base_offset +ℤ pos x.0) }) 0 o.batch.items one
   where
     one : (n : ℕ) (i : Item) → slice_get o.batch.items n ≡ Some i
@@ -283,15 +273,15 @@ at_settled now k p s response o a is Stored v = all_enumerated (MayBeTold s (Rep
         (record { item = i; outcome = Delivered (a.base_offset +ℤ pos (0 + n)) })
     one n i e = let same : 0 + n ≡ n = omega arith
         in (settles s response p o a is Stored v n i e, ap (λ (m : ℕ). a.base_offset +ℤ pos m) same)
-at_settled now k p s response o a is Duplicate v =
+at_settled now k p s response o a is same Duplicate v =
     all_told (MayBeTold s (Reply now response)) DeliveredNoOffset o.batch.items
     (all_placed (λ (i : Item). MayBeTold s (Reply now response)
     (record { item = i; outcome = DeliveredNoOffset })) o.batch.items
     (settles s response p o a is Duplicate v))
-at_settled now k p s response o a is Retry v = tt
-at_settled now k p s response o a is Reject v =
+at_settled now k p s response o a is same Retry v = tt
+at_settled now k p s response o a is same Reject v =
     all_append (MayBeTold s (Reply now response)) (told_all (Rejected a.error_code) o.batch.items)
-    (told_given_up reason.Fenced (without_attempt k (partition_at p s.partitions)))
+    (give_up reason.Fenced (without_attempt k (partition_at p s.partitions))).told
     (all_told (MayBeTold s (Reply now response)) (Rejected a.error_code) o.batch.items
     (all_placed (λ (i : Item). MayBeTold s (Reply now response)
     (record { item = i; outcome = Rejected a.error_code })) o.batch.items
@@ -300,8 +290,7 @@ at_settled now k p s response o a is Reject v =
     (λ i h. (
       p,
       record { batch = o; answer = a; answered = is; means = v },
-      open_without k
-          (partition_at p s.partitions) i h,
+      open_beside is.correlation (partition_at p s.partitions) i (subst (λ (n : ℕ). IsOpenIn (without_attempt n (partition_at p s.partitions)) i) same h),
     ))
     (λ i h. (
       p,
@@ -310,27 +299,57 @@ at_settled now k p s response o a is Reject v =
           { batch = h.batch; is_queued = h.is_queued; has = h.has },
     )))
 
-at_answered : (now k p : ℕ) (s : Core) (response : Response) (a : PartitionProduceResponse)
-    → ((o : Open) → awaiting k (partition_at p s.partitions) ≡ Some o → IsAnswered s response p o a)
-    → AllByRecursion (MayBeTold s (Reply now response)) (answered now k (partition_at p s.partitions) a).told
-unfolding answered
-at_answered now k p s response a f = at_option (awaiting k (partition_at p s.partitions)) refl
+abbrev pub by_attempt : ℕ → ℕ → Partition → PartitionProduceResponse → Option Open → Effect
+by_attempt now k t a o = elim o [ None ↦ left_alone t | Some o ↦ settle_by now k t o a (meaning_of a.error_code) ]
+
+at_entry : (now k p : ℕ) (s : Core) (response : Response) (a : PartitionProduceResponse)
+    → ((o : Open) → awaiting k (partition_at p s.partitions) ≡ Some o → (x : IsAnswered s response p o a) × (k ≡ x.correlation))
+    → AllByRecursion (MayBeTold s (Reply now response)) (settle_batch now k (partition_at p s.partitions) a).told
+unfolding settle_batch
+at_entry now k p s response a f = at_option (awaiting k (partition_at p s.partitions)) refl
   where
     at_option : (o : Option Open) → awaiting k (partition_at p s.partitions) ≡ o
-        → AllByRecursion (MayBeTold s (Reply now response))
-        (answered_if now k (partition_at p s.partitions) a o).told
+        → AllByRecursion (MayBeTold s (Reply now response)) (by_attempt now k (partition_at p s.partitions) a o).told
     at_option None is = tt
-    at_option (Some o) is = at_settled now k p s response o a (f o is) (verdict_of a.error_code) refl
+    at_option (Some o) is = at_settled now k p s response o a (f o is).0 (f o is).1 (meaning_of a.error_code) refl
 
--- an answer to a request answers the partition's batch that is in flight in it
-pub answered_so : (s : Core) (response : Response) (r : Request) (produce : ProduceResponse) (answers : Answers)
-    → awaited response.correlation s ≡ Batches r → response.body ≡ body.Produce produce
-    → answers_of s.names.topic produce.topics ≡ Some answers
-    → (p : ℕ) (a : PartitionProduceResponse) (rest : Answers) → answers_for p answers ≡ a ∷ rest
+-- ---- a response's entries
+
+-- there is one topic, and it has this name
+pub record IsOneTopic (name : List ℕ) (topics : List TopicProduceResponse) : Type 0 where
+  pub topic : TopicProduceResponse
+  pub one : topics ≡ topic ∷ []
+  pub named : bytes_eq topic.topic name ≡ true
+
+one_topic : (name : List ℕ) (topics : List TopicProduceResponse) → is_one_topic name topics ≡ true → IsOneTopic name topics
+one_topic name [] e = absurd cc
+one_topic name (topic ∷ []) e = record { topic = topic; one = refl; named = e }
+one_topic name (topic ∷ other ∷ topics) e = absurd cc
+
+first_of_four : (a b c d : Bool) → (a && b && c && d) ≡ true → a ≡ true
+first_of_four a b c d e = (and_parts a b (and_parts (a && b) c (and_parts (a && b && c) d e).0).0).0
+
+pub has_one_topic : (k : ℕ) (ps : List ℕ) (s : Core) (produce : ProduceResponse) → answers_batches k ps s produce ≡ true → IsOneTopic s.names.topic produce.topics
+unfolding answers_batches
+has_one_topic k ps s produce e = one_topic s.names.topic produce.topics (first_of_four (is_one_topic s.names.topic produce.topics)
+    (length (entries_of produce) == length ps)
+    (list_all (λ (p : ℕ). length (entries_for p produce) == 1) ps)
+    (list_all (λ (p : ℕ). list_all (has_offsets (awaiting k (partition_at p s.partitions))) (entries_for p produce)) ps) e)
+
+pub entries_of_one : (produce : ProduceResponse) (topic : TopicProduceResponse) → produce.topics ≡ topic ∷ [] → entries_of produce ≡ topic.partitions
+entries_of_one produce topic e =
+    ap (λ (ts : List TopicProduceResponse). flat_map (λ (t : TopicProduceResponse). t.partitions) ts) e ∙ append-nil topic.partitions
+
+-- an entry of a response to a request answers the partition's batch that is in flight in it
+pub answered_so : (s : Core) (response : Response) (r : Request) (ps : List ℕ) (produce : ProduceResponse)
+    → awaited response.correlation s ≡ Some r → response.body ≡ body.Produce produce → answers_batches r.correlation ps s produce ≡ true
+    → (p : ℕ) (a : PartitionProduceResponse) (rest : List PartitionProduceResponse) → entries_for p produce ≡ a ∷ rest
     → (o : Open) → awaiting r.correlation (partition_at p s.partitions) ≡ Some o → IsAnswered s response p o a
-answered_so s response r produce answers it is topic p a rest e o h =
+answered_so s response r ps produce it is fits p a rest e o h =
+    let topic = has_one_topic r.correlation ps s produce fits in
     let here = found (awaits r.correlation) (partition_at p s.partitions).open_batches o h in
-    let first = filtered (is_for p) answers a (subst (λ (xs : Answers). Contains xs a) (sym e) (contains_head a rest)) in
+    let first = filtered (is_for p) (entries_of produce) a (subst (λ (xs : List PartitionProduceResponse). Contains xs a) (sym e) (contains_head a rest)) in
+    let entries = entries_of_one produce topic.topic topic.one in
     record {
       is_open = here.0;
       correlation = r.correlation;
@@ -338,41 +357,43 @@ answered_so s response r produce answers it is topic p a rest e o h =
       in_flight = here.1;
       produce = produce;
       body_is = is;
-      answers = answers;
-      topic = topic;
-      has = first.0;
+      topic = topic.topic;
+      topics = topic.one;
+      own = topic.named;
+      has = subst (λ (xs : List PartitionProduceResponse). Contains xs a) entries first.0;
       partition = (Decides-int_eq a.partition (pos p)).0 first.1;
     }
 
-at_batches : (now : ℕ) (s : Core) (response : Response) (r : Request) (produce : ProduceResponse) (answers : Answers)
-    → awaited response.correlation s ≡ Batches r → response.body ≡ body.Produce produce
-    → answers_of s.names.topic produce.topics ≡ Some answers
-    → AllByRecursion (MayBeTold s (Reply now response)) (batches_answered now r answers s).told
-unfolding told_at
-at_batches now s response r produce answers it is topic =
-    all_flat_map (MayBeTold s (Reply now response))
-    (λ p. (answering now r.correlation answers p (partition_at p s.partitions)).told)
-    r.partitions (λ p c. at_answers p (answers_for p answers) refl)
-  where
-    at_answers : (p : ℕ) (xs : Answers) → answers_for p answers ≡ xs
-        → AllByRecursion (MayBeTold s (Reply now response))
-        (first_answered now r.correlation (partition_at p s.partitions) xs).told
-    at_answers p [] e = tt
-    at_answers p (a ∷ rest) e = at_answered now r.correlation p s response a
-        (answered_so s response r produce answers it is topic p a rest e)
+abbrev pub by_entries : ℕ → ℕ → Partition → List PartitionProduceResponse → Effect
+by_entries now k t xs = elim xs [ [] ↦ left_alone t | entry ∷ others ↦ settle_batch now k t entry ]
 
-at_reply : (now : ℕ) (response : Response) (s : Core)
-    → AllByRecursion (MayBeTold s (Reply now response)) (replied now response s).told
-at_reply now response s = at_replied (λ (x : Replies). AllByRecursion (MayBeTold s (Reply now response)) x.told) now response s (record {
+at_batches : (now : ℕ) (s : Core) (response : Response) (r : Request) (ps : List ℕ) (produce : ProduceResponse)
+    → awaited response.correlation s ≡ Some r → response.body ≡ body.Produce produce → answers_batches r.correlation ps s produce ≡ true
+    → AllByRecursion (MayBeTold s (Reply now response)) (settle_batches now r.correlation ps produce s).told
+unfolding at_these with_partitions answered_so
+at_batches now s response r ps produce it is fits =
+    all_flat_map (MayBeTold s (Reply now response))
+    (λ p. (by_entries now r.correlation (partition_at p s.partitions) (entries_for p produce)).told)
+    ps (λ p c. at_entries p (entries_for p produce) refl)
+  where
+    at_entries : (p : ℕ) (xs : List PartitionProduceResponse) → entries_for p produce ≡ xs
+        → AllByRecursion (MayBeTold s (Reply now response)) (by_entries now r.correlation (partition_at p s.partitions) xs).told
+    at_entries p [] e = tt
+    at_entries p (a ∷ rest) e =
+        at_entry now r.correlation p s response a (λ o h. (answered_so s response r ps produce it is fits p a rest e o h, refl))
+
+tells_reply : (now : ℕ) (response : Response) (s : Core)
+    → AllByRecursion (MayBeTold s (Reply now response)) (response_step now response s).told
+tells_reply now response s = at_response (λ (x : Replies). AllByRecursion (MayBeTold s (Reply now response)) x.told) now response s (record {
   same = λ answer. tt;
-  batches = λ r produce answers it is topic valid. at_batches now s response r produce answers it is topic;
-  id = λ r x it is valid. tt;
+  batches = λ r ps produce it demand is fits. at_batches now s response r ps produce it is fits;
+  id = λ r p x it demand is fits. tt;
 })
 
 -- ---- any call
 
-pub each_outcome : (s : Core) (call : Call) → AllByRecursion (λ t. MayTell s call t.item t.outcome) (told_by s call)
-each_outcome s (Append i) = at_append i s
-each_outcome s (Tick now) = at_tick now s
-each_outcome s (Reply now response) = at_reply now response s
-each_outcome s End = at_end s
+pub each_outcome : (s : Core) (call : Telling) → AllByRecursion (λ t. MayTell s call t.item t.outcome) (told_in s call)
+each_outcome s (Append i) = tells_append i s
+each_outcome s (Tick now) = tells_tick now s
+each_outcome s (Reply now response) = tells_reply now response s
+each_outcome s End = tells_end s

@@ -3,12 +3,12 @@ use Rattle.std.proofs.Common.{◌≡◌, List, [], ◌∷◌, pos, negsuc, refl}
 use Rattle.std.specs.Prelude.{codes, Err}
 use Rattle.kp_frames.specs.declared.fault.FrameFault.TheVariants.{Mismatch, Short}
 use Rattle.kp_frames.specs.declared.response.Response.{Response}
-use Rattle.kp_core.specs.declared.fault.CoreFault.TheVariants.{Ended}
+use Rattle.kp_core.specs.declared.fault.CoreFault.TheVariants.{ReplyFault, Ended}
 use Rattle.kp_core.specs.declared.outcome.Outcome.TheVariants.{Delivered, DeliveredNoOffset, Rejected, Unsent}
 use Rattle.kp_core.specs.declared.outcome.Reason.TheVariants.{Fenced}
-use Rattle.kp_core.specs.Fence.{ended}
+use Rattle.kp_core.specs.Closing.{end_step}
 use Rattle.kp_core.specs.Records.{Core, Told}
-use Rattle.kp_core.specs.Replies.{replied, heard, faulty, unknown}
+use Rattle.kp_core.specs.Replies.{response_step, reply_step, refuse_as, unknown}
 use Rattle.kp_core.proofs.Evaluation.{evaluated}
 use Rattle.kp_core.proofs.Scenes.{item, one_sent, both_sent, part, topic, reply, answers}
 
@@ -21,15 +21,15 @@ both_stored =
     ∷ []
 
 pub each_partition_by_its_answer :
-    (replied 7 (answers (part 0 (pos 0) (pos 5) ∷ part 1 (pos 0) (pos 9) ∷ [])) both_sent).told
+    (response_step 7 (answers (part 0 (pos 0) (pos 5) ∷ part 1 (pos 0) (pos 9) ∷ [])) both_sent).told
     ≡ both_stored
 unfolding evaluated
 each_partition_by_its_answer = refl
 
 -- Answers in another order settle the same, in the request's order.
 pub order_does_not_matter :
-    replied 7 (answers (part 1 (pos 0) (pos 9) ∷ part 0 (pos 0) (pos 5) ∷ [])) both_sent
-    ≡ replied 7 (answers (part 0 (pos 0) (pos 5) ∷ part 1 (pos 0) (pos 9) ∷ [])) both_sent
+    response_step 7 (answers (part 1 (pos 0) (pos 9) ∷ part 0 (pos 0) (pos 5) ∷ [])) both_sent
+    ≡ response_step 7 (answers (part 0 (pos 0) (pos 5) ∷ part 1 (pos 0) (pos 9) ∷ [])) both_sent
 unfolding evaluated
 order_does_not_matter = refl
 
@@ -37,7 +37,7 @@ order_does_not_matter = refl
 
 -- nothing is settled, of no partition
 abbrev IsRefused : Core → Response → Type 0
-IsRefused s r = replied 7 r s ≡ faulty Mismatch s
+IsRefused s r = response_step 7 r s ≡ refuse_as (ReplyFault Mismatch) s
 
 pub a_partition_is_missing : IsRefused both_sent (answers (part 0 (pos 0) (pos 5) ∷ []))
 unfolding evaluated
@@ -82,21 +82,21 @@ an_offset_is_too_large = refl
 
 -- ---- replies that name nothing in flight, or come too late
 
-pub another_correlation_id_changes_nothing : replied 7 (reply 3 []) one_sent ≡ unknown one_sent
+pub another_correlation_id_changes_nothing : response_step 7 (reply 3 []) one_sent ≡ unknown one_sent
 unfolding evaluated
 another_correlation_id_changes_nothing = refl
 
-pub fewer_than_four_bytes_are_short : heard 7 (0 ∷ 0 ∷ 0 ∷ []) one_sent ≡ faulty Short one_sent
+pub fewer_than_four_bytes_are_short : reply_step 7 (0 ∷ 0 ∷ 0 ∷ []) one_sent ≡ refuse_as (ReplyFault Short) one_sent
 unfolding evaluated
 fewer_than_four_bytes_are_short = refl
 
 -- what follows the correlation id of no request in flight isn't read
-pub what_is_unknown_is_not_read : heard 7 (0 ∷ 0 ∷ 0 ∷ 3 ∷ 255 ∷ []) one_sent ≡ unknown one_sent
+pub what_is_unknown_is_not_read : reply_step 7 (0 ∷ 0 ∷ 0 ∷ 3 ∷ 255 ∷ []) one_sent ≡ unknown one_sent
 unfolding evaluated
 what_is_unknown_is_not_read = refl
 
 pub after_the_end_no_reply_is_heard :
-    (replied 7 (answers (part 0 (pos 0) (pos 5) ∷ [])) (ended one_sent).after).answer ≡ Err Ended
+    (response_step 7 (answers (part 0 (pos 0) (pos 5) ∷ [])) (end_step one_sent).after).answer ≡ Err Ended
 unfolding evaluated
 after_the_end_no_reply_is_heard = refl
 
@@ -104,13 +104,13 @@ after_the_end_no_reply_is_heard = refl
 
 -- the batch stands in the log, and nobody knows where
 pub an_old_batch_is_delivered :
-    (replied 7 (answers (part 0 (pos 46) (negsuc 0) ∷ [])) one_sent).told
+    (response_step 7 (answers (part 0 (pos 46) (negsuc 0) ∷ [])) one_sent).told
     ≡ (record { item = item 0 0 97; outcome = DeliveredNoOffset }) ∷ []
 unfolding evaluated
 an_old_batch_is_delivered = refl
 
 pub a_refused_batch_fences_its_partition :
-    (replied 7 (answers (part 0 (pos 10) (negsuc 0) ∷ [])) one_sent).told
+    (response_step 7 (answers (part 0 (pos 10) (negsuc 0) ∷ [])) one_sent).told
     ≡ (record { item = item 0 0 97; outcome = Rejected (pos 10) })
     ∷ (record { item = item 0 1 98; outcome = Unsent Fenced })
     ∷ []

@@ -3,13 +3,13 @@ use Rattle.std.proofs.Common.{◌≡◌, List, [], ◌∷◌, pos, Some, None, r
 use Rattle.std.specs.Prelude.{codes, Ok, Err}
 use Rattle.kp_frames.specs.declared.produce.TopicProduceResponse.{TopicProduceResponse}
 use Rattle.kp_core.specs.declared.fault.CoreFault.TheVariants.{CorrelationSpent, Ended}
-use Rattle.kp_core.specs.Fence.{ended}
+use Rattle.kp_core.specs.Closing.{end_step}
 use Rattle.kp_core.specs.HandingOver.{audited}
-use Rattle.kp_core.specs.Next.{Sending, Produce}
+use Rattle.kp_core.specs.Next.{Sending}
 use Rattle.kp_core.specs.Partitions.{used}
-use Rattle.kp_core.specs.Records.{Core}
-use Rattle.kp_core.specs.Replies.{replied}
-use Rattle.kp_core.specs.Requesting.{requested, nothing_out}
+use Rattle.kp_core.specs.Records.{Produce, Core, quietly}
+use Rattle.kp_core.specs.Replies.{response_step}
+use Rattle.kp_core.specs.Requesting.{request_step}
 use Rattle.kp_core.proofs.Evaluation.{evaluated}
 use Rattle.kp_core.proofs.Scenes.{item, fresh, with_all, sent_at, one_sent, part, topic, reply}
 
@@ -25,13 +25,13 @@ first_batch = record {
 }
 
 pub the_last_id_is_used :
-    (requested 0 last_id).answer
+    (request_step 0 last_id).answer
     ≡ Ok (Some (record { correlation = 2147483647; demand = Produce (first_batch ∷ []) }))
 unfolding evaluated
 the_last_id_is_used = refl
 
 -- while nothing could be sent, no id is wanting
-pub nothing_is_to_be_sent : (requested 0 (sent_at 0 last_id)).answer ≡ Ok None
+pub nothing_is_to_be_sent : (request_step 0 (sent_at 0 last_id)).answer ≡ Ok None
 unfolding evaluated
 nothing_is_to_be_sent = refl
 
@@ -39,13 +39,13 @@ abbrev stored : List TopicProduceResponse
 stored = topic (codes "t") (part 0 (pos 0) (pos 0) ∷ []) ∷ []
 
 abbrev answered : Core
-answered = (replied 0 (reply 2147483647 stored) (sent_at 0 last_id)).after
+answered = (response_step 0 (reply 2147483647 stored) (sent_at 0 last_id)).after
 
-pub no_id_is_left : requested 0 answered ≡ nothing_out answered (Err CorrelationSpent)
+pub no_id_is_left : request_step 0 answered ≡ quietly answered (Err CorrelationSpent)
 unfolding evaluated
 no_id_is_left = refl
 
-pub after_the_end_nothing_goes_out : (requested 0 (ended last_id).after).answer ≡ Err Ended
+pub after_the_end_nothing_goes_out : (request_step 0 (end_step last_id).after).answer ≡ Err Ended
 unfolding evaluated
 after_the_end_nothing_goes_out = refl
 

@@ -9,10 +9,10 @@ use Rattle.kp_frames.specs.declared.produce.TopicProduceResponse.{TopicProduceRe
 use Rattle.kp_frames.specs.declared.response.Response.{Response}
 use Rattle.kp_frames.specs.declared.response.ResponseBody.TheVariants.{Produce}
 use Rattle.kp_core.specs.declared.names.Names.{Names}
-use Rattle.kp_core.specs.Appending.{appended}
+use Rattle.kp_core.specs.Appending.{append_step}
 use Rattle.kp_core.specs.Opening.{new_core}
 use Rattle.kp_core.specs.Records.{Core}
-use Rattle.kp_core.specs.Requesting.{requested}
+use Rattle.kp_core.specs.Requesting.{request_step}
 
 abbrev pub names : Names
 names = record { topic = codes "t"; client = codes "kp" }
@@ -36,10 +36,10 @@ fresh partitions correlation = new_core config names partitions 1 1000 correlati
 
 abbrev pub with_all : List Item → Core → Core
 with_all [] s = s
-with_all (i ∷ is) s = with_all is (appended i s).after
+with_all (i ∷ is) s = with_all is (append_step i s).after
 
 abbrev pub sent_at : ℕ → Core → Core
-sent_at now s = (requested now s).after
+sent_at now s = (request_step now s).after
 
 -- one partition with two batches, of which the first was sent at moment 0 in request 2
 abbrev pub one_sent : Core

@@ -1,5 +1,5 @@
 -- Appending an item.
-use Rattle.std.specs.Prelude.{Result, Ok, Err, ◌+◌, Bool, true, [], ◌∷◌, nat_lt, if◌then◌else◌}
+use Rattle.std.specs.Prelude.{Result, Ok, Err, IsOk, ◌+◌, Bool, true, not, [], ◌∷◌, length, nat_le, nat_lt, ◌&&◌, if◌then◌else◌}
 use Rattle.kp_accum.specs.declared.config.Config.{Config}
 use Rattle.kp_accum.specs.declared.fault.AppendFault.{AppendFault}
 use Rattle.kp_accum.specs.declared.fault.AppendFault.TheVariants.{BufferFull}
@@ -8,42 +8,51 @@ use Rattle.kp_accum.specs.Queue.{charge_of, with_item}
 use Rattle.kp_core.specs.declared.outcome.Outcome.TheVariants.{Unsent}
 use Rattle.kp_core.specs.declared.outcome.Reason.{Reason}
 use Rattle.kp_core.specs.declared.outcome.Reason.TheVariants.{Fenced, Ended}
-use Rattle.kp_core.specs.Records.{Partition, Core, Step}
-use Rattle.kp_core.specs.Partitions.{used, partition_at, changed_at}
-use Rattle.kp_core.specs.Telling.{told_all, with_reports}
+use Rattle.kp_core.specs.Records.{Partition, Core, Called, quietly}
+use Rattle.kp_core.specs.Partitions.{used, partition_at, with_partition}
+use Rattle.kp_core.specs.Reports.{with_reports}
+use Rattle.kp_core.specs.Telling.{told_all}
 
-abbrev pub Appends : Type 0
-Appends = Step (Result (Unit {0}) AppendFault)
+-- What may be appended: an item of a sender and a partition that are there, which a request can
+-- hold, and the memory too.
+unfoldable pub may_append : Item → Core → Bool
+may_append i s =
+    nat_lt i.sender (length s.reports)
+    && nat_lt i.partition (length s.partitions)
+    && nat_le (charge_of i) s.config.max_request_size
+    && nat_le (charge_of i) s.config.buffer_memory
 
--- with the item, more memory would be used than there may be
+-- With the item, more memory would be used than there may be. What is counted are charges: the
+-- sizes of batches that hold one item each.
 unfoldable pub would_exhaust : Item → Core → Bool
 would_exhaust i s = nat_lt s.config.buffer_memory (used s + charge_of i)
 
-abbrev pub with_queued : Config → Item → Partition → Partition
-with_queued c i t = record t { queue = with_item c i t.queue }
-
-abbrev pub in_queue : Item → Core → Core
-in_queue i s = record s {
-  partitions = changed_at (i.partition ∷ []) (λ p t. with_queued s.config i t) s.partitions;
-}
-
-abbrev pub queued : Item → Core → Appends
-queued i s = record { after = in_queue i s; told = []; answer = Ok tt }
+abbrev pub Appends : Type 0
+Appends = Called (Result (Unit {0}) AppendFault)
 
 -- It is told at once, and takes no memory.
-abbrev pub turned_away : Reason → Item → Core → Appends
-turned_away why i s =
+abbrev pub turn_away : Reason → Item → Core → Appends
+turn_away why i s =
     let told = told_all (Unsent why) (i ∷ []) in
-    let after = record s { reports = with_reports told s.reports } in
-    record { after = after; told = told; answer = Ok tt }
+    record { after = record s { reports = with_reports told s.reports }; told = told; answer = Ok tt }
 
--- The item is the caller's still, and every front batch is ready from now on.
-abbrev pub refused : Core → Appends
-refused s = record { after = record s { exhausted = true }; told = []; answer = Err BufferFull }
+abbrev pub enqueue : Config → Item → Partition → Partition
+enqueue c i t = record t { queue = with_item c i t.queue }
 
-unfoldable pub appended : Item → Core → Appends
-appended i s =
-    if s.ended then turned_away Ended i s
-    else if (partition_at i.partition s.partitions).fenced then turned_away Fenced i s
-    else if would_exhaust i s then refused s
-    else queued i s
+abbrev pub with_queued : Item → Core → Core
+with_queued i s =
+    with_partition i.partition (enqueue s.config i (partition_at i.partition s.partitions)) s
+
+-- What is refused is the caller's still. Where it is so for want of buffer memory, every front
+-- batch is ready from now on.
+unfoldable pub append_step : Item → Core → Appends
+append_step i s =
+    if not (may_append i s) then quietly s (Err BufferFull)
+    else if s.ended then turn_away Ended i s
+    else if (partition_at i.partition s.partitions).fenced then turn_away Fenced i s
+    else if would_exhaust i s then quietly (record s { exhausted = true }) (Err BufferFull)
+    else quietly (with_queued i s) (Ok tt)
+
+-- Memory can be wanting only where the item would be taken, and so never in place of BufferFull.
+abbrev pub AppendNeedsMemory : Item → Core → Type 0
+AppendNeedsMemory i s = IsOk (append_step i s).answer

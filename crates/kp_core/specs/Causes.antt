@@ -1,21 +1,22 @@
 -- Where an item stands, and what a reply says of it.
-use Rattle.std.specs.Prelude.{◌∷◌, ◌++◌, ◌≡◌, ℕ, pos, true, List, Some, Contains, slice_get}
+use Rattle.std.specs.Prelude.{◌∷◌, ◌++◌, ◌≡◌, ℕ, pos, true, List, [], Some, Contains, slice_get}
 use Rattle.std.specs.List.{AllByRecursion}
+use Rattle.std.specs.Str.{bytes_eq}
 use Rattle.kp_accum.specs.declared.config.Config.{Config}
 use Rattle.kp_accum.specs.declared.item.Item.{Item}
 use Rattle.kp_accum.specs.Queue.{Pending}
 use Rattle.kp_accum.specs.Ready.{is_late}
 use Rattle.kp_frames.specs.declared.produce.PartitionProduceResponse.{PartitionProduceResponse}
 use Rattle.kp_frames.specs.declared.produce.ProduceResponse.{ProduceResponse}
+use Rattle.kp_frames.specs.declared.produce.TopicProduceResponse.{TopicProduceResponse}
 use Rattle.kp_frames.specs.declared.response.Response.{Response}
 use Rattle.kp_frames.specs.declared.response.ResponseBody.TheVariants as body
-use Rattle.kp_core.specs.declared.verdict.Verdict.{Verdict}
-use Rattle.kp_core.specs.declared.verdict.Verdict.TheVariants.{Reject}
-use Rattle.kp_core.specs.Answered.{verdict_of}
+use Rattle.kp_core.specs.declared.meaning.Meaning.{Meaning}
+use Rattle.kp_core.specs.declared.meaning.Meaning.TheVariants.{Reject}
 use Rattle.kp_core.specs.Attempts.{awaits}
-use Rattle.kp_core.specs.Mismatch.{answers_of}
 use Rattle.kp_core.specs.Partitions.{partition_at}
 use Rattle.kp_core.specs.Records.{Open, Partition, Core}
+use Rattle.kp_core.specs.Settling.{meaning_of}
 
 -- ---- where an item stands
 
@@ -55,18 +56,19 @@ pub record IsAnswered (s : Core) (response : Response) (p : ℕ) (o : Open)
   pub in_flight : awaits correlation o ≡ true
   pub produce : ProduceResponse
   pub body_is : response.body ≡ body.Produce produce
-  pub answers : List PartitionProduceResponse
-  pub topic : answers_of s.names.topic produce.topics ≡ Some answers
-  pub has : Contains answers answer
+  pub topic : TopicProduceResponse
+  pub topics : produce.topics ≡ topic ∷ []
+  pub own : bytes_eq topic.topic s.names.topic ≡ true
+  pub has : Contains topic.partitions answer
   pub partition : answer.partition ≡ pos p
 
 -- the answer settles the batch in which the item is number k
-pub record Settles (s : Core) (response : Response) (i : Item) (verdict : Verdict) : Type 0 where
+pub record Settles (s : Core) (response : Response) (i : Item) (meaning : Meaning) : Type 0 where
   pub partition : ℕ
   pub batch : Open
   pub answer : PartitionProduceResponse
   pub answered : IsAnswered s response partition batch answer
-  pub means : verdict_of answer.error_code ≡ verdict
+  pub means : meaning_of answer.error_code ≡ meaning
   pub place : ℕ
   pub item : slice_get batch.batch.items place ≡ Some i
 
@@ -75,4 +77,4 @@ pub record RejectsIn (s : Core) (response : Response) (p : ℕ) : Type 0 where
   pub batch : Open
   pub answer : PartitionProduceResponse
   pub answered : IsAnswered s response p batch answer
-  pub means : verdict_of answer.error_code ≡ Reject
+  pub means : meaning_of answer.error_code ≡ Reject

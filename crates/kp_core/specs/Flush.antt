@@ -4,14 +4,8 @@ use Rattle.std.specs.List.{list_any}
 use Rattle.kp_accum.specs.Queue.{marked_by_flush, is_marked}
 use Rattle.kp_core.specs.Records.{Open, Partition, Core}
 
-abbrev pub is_marked_open : Open → Bool
-is_marked_open o = o.marked
-
-abbrev pub marked_open : Open → Open
-marked_open o = record o { marked = true }
-
 unfoldable pub has_marks : Partition → Bool
-has_marks t = list_any is_marked t.queue || list_any is_marked_open t.open_batches
+has_marks t = list_any is_marked t.queue || list_any (λ o. o.marked) t.open_batches
 
 -- No queued or open batch is marked. Only telling takes a marked batch away, and a flush marks all,
 -- so then every item that was appended before the last flush is told.
@@ -20,9 +14,14 @@ is_flushed s = not (list_any has_marks s.partitions)
 
 -- ---- a flush marks all queued and open batches
 
-abbrev pub with_marks : Partition → Partition
-with_marks t =
-    record t { queue = map marked_by_flush t.queue; open_batches = map marked_open t.open_batches }
+abbrev pub mark_open : Open → Open
+mark_open o = record o { marked = true }
 
-unfoldable pub flushed : Core → Core
-flushed s = record s { partitions = map with_marks s.partitions }
+abbrev pub mark : Partition → Partition
+mark t = record t {
+  queue = map marked_by_flush t.queue;
+  open_batches = map mark_open t.open_batches;
+}
+
+unfoldable pub flush_step : Core → Core
+flush_step s = record s { partitions = map mark s.partitions }

@@ -1,7 +1,7 @@
 -- Handing over: a batch gets its number, its producer id and its base sequence when it first goes
 -- out (KIP-98: sequence numbers count records from 0, by producer id and partition), and keeps them
 -- and its records for good.
-use Rattle.std.specs.Prelude.{ℕ, ◌+◌, Bool, List, [], ◌∷◌, ◌++◌, length, Option, Some, None, ◌==◌, ◌&&◌, if◌then◌else◌}
+use Rattle.std.specs.Prelude.{ℕ, ◌+◌, List, [], ◌∷◌, ◌++◌, length, Some, None, ◌==◌, ◌&&◌, if◌then◌else◌}
 use Rattle.kp_accum.specs.declared.item.Item.{Item}
 use Rattle.kp_accum.specs.Queue.{Pending}
 use Rattle.kp_core.specs.declared.attempt.Attempt.TheVariants.{InFlight}
@@ -15,13 +15,10 @@ use Rattle.kp_core.specs.MaySend.{new_batch}
 abbrev pub run_of : Item → Run
 run_of i = record { sender = i.sender; first = i.number; count = 1 }
 
-abbrev pub goes_on : Item → Run → Bool
-goes_on i r = r.sender == i.sender && (r.first + r.count == i.number)
-
 unfoldable pub with_audited : Item → List Run → List Run
 with_audited i [] = run_of i ∷ []
 with_audited i (r ∷ []) =
-    if goes_on i r then (record r { count = r.count + 1 }) ∷ [] else r ∷ run_of i ∷ []
+    if r.sender == i.sender && (r.first + r.count == i.number) then (record r { count = r.count + 1 }) ∷ [] else r ∷ run_of i ∷ []
 with_audited i (r ∷ r' ∷ rs) = r ∷ with_audited i (r' ∷ rs)
 
 -- the runs, with these items behind them
@@ -39,13 +36,14 @@ opened_in k t front = record {
   marked = front.marked;
 }
 
-unfoldable pub handed_over_in : ℕ → Partition → List Pending → Partition
-handed_over_in k t [] = t
-handed_over_in k t (front ∷ rest) = record t {
-  queue = rest;
+unfoldable pub hand_over_in : ℕ → Partition → List Pending → Partition
+hand_over_in k t [] = t
+hand_over_in k t (front ∷ behind) = record t {
+  queue = behind;
   open_batches = t.open_batches ++ opened_in k t front ∷ [];
   next_number = t.next_number + 1;
   next_sequence = t.next_sequence + length front.items;
+  attempts_sent = t.attempts_sent + 1;
   audit = audited t.audit front.items;
 }
 
@@ -54,16 +52,18 @@ handed_over_in k t (front ∷ rest) = record t {
 abbrev pub again_in : ℕ → Open → Open
 again_in k o = record o { attempt = InFlight k }
 
-unfoldable pub sent_again_in : ℕ → List Open → List Open
-sent_again_in k [] = []
-sent_again_in k (o ∷ others) =
-    if is_waiting o then again_in k o ∷ others else o ∷ sent_again_in k others
+unfoldable pub send_again_in : ℕ → List Open → List Open
+send_again_in k [] = []
+send_again_in k (o ∷ others) =
+    if is_waiting o then again_in k o ∷ others else o ∷ send_again_in k others
 
 -- ---- the partition once what it may send went out in request k
 
-abbrev pub sent_first_in : ℕ → Partition → Option Open → Partition
-sent_first_in k t (Some lowest) = record t { open_batches = sent_again_in k t.open_batches }
-sent_first_in k t None = handed_over_in k t t.queue
-
-unfoldable pub sent_in : ℕ → Partition → Partition
-sent_in k t = sent_first_in k t (lowest_waiting t)
+unfoldable pub send_in : ℕ → Partition → Partition
+send_in k t = elim (lowest_waiting t) [
+  | Some lowest ↦ record t {
+    open_batches = send_again_in k t.open_batches;
+    attempts_sent = t.attempts_sent + 1;
+  }
+  | None ↦ hand_over_in k t t.queue
+]

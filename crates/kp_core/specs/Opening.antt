@@ -1,13 +1,10 @@
--- A new core, and the reports that are fetched from it.
-use Rattle.std.specs.Prelude.{◌≡◌, ℕ, ◌≤◌, ◌<◌, ◌^◌, false, List, [], length, replicate, drop, Option, None, Ok, slice_index_or, slice_set, slice_get}
+-- A new core.
+use Rattle.std.specs.Prelude.{◌≡◌, ℕ, ◌≤◌, ◌<◌, ◌^◌, false, [], length, replicate, None, Ok}
 use Rattle.kp_accum.specs.declared.config.Config.{Config}
 use Rattle.kp_accum.specs.Config.{checked}
 use Rattle.kp_core.specs.declared.names.Names.{Names}
-use Rattle.kp_core.specs.declared.outcome.Report.{Report}
 use Rattle.kp_core.specs.Records.{Core}
 use Rattle.kp_core.specs.Partitions.{new_partition}
-
--- ---- a new core
 
 unfoldable pub new_core : Config → Names → ℕ → ℕ → ℕ → ℕ → Core
 new_core c names partitions senders id correlation = record {
@@ -15,7 +12,6 @@ new_core c names partitions senders id correlation = record {
   names = names;
   partitions = replicate partitions (new_partition id);
   requests = [];
-  id_request = None;
   id_waits = None;
   correlation = correlation;
   last_used = None;
@@ -40,14 +36,3 @@ pub record MayOpen (c : Config) (n : Names) (partitions senders id correlation :
   pub client : length n.client ≤ NAME_LIMIT
   pub known_id : id < 2 ^ 63
   pub known_correlation : correlation < 2 ^ 31
-
--- ---- a sender's reports are fetched first in, first out
-
-abbrev pub reports_for : ℕ → Core → List Report
-reports_for sender s = slice_index_or s.reports sender []
-
-abbrev pub next_report : ℕ → Core → Option Report
-next_report sender s = slice_get (reports_for sender s) 0
-
-abbrev pub fetched : ℕ → Core → Core
-fetched sender s = record s { reports = slice_set s.reports sender (drop 1 (reports_for sender s)) }

@@ -1,5 +1,5 @@
 -- Partitions and their items, and the memory that is used.
-use Rattle.std.specs.Prelude.{ℕ, Bool, false, true, List, [], ◌∷◌, ◌++◌, map, sum_by, flat_map, unwrap_or, None, slice_index_or, ◌==◌, if◌then◌else◌}
+use Rattle.std.specs.Prelude.{ℕ, Bool, false, true, List, [], ◌∷◌, ◌++◌, map, sum_by, flat_map, unwrap_or, None, slice_index_or, slice_set, ◌==◌, if◌then◌else◌}
 use Rattle.std.specs.List.{enumerate_from, last_or, list_any}
 use Rattle.kp_accum.specs.declared.item.Item.{Item}
 use Rattle.kp_accum.specs.Queue.{Pending, charge_of}
@@ -22,6 +22,7 @@ new_partition id = record {
   ids = id ∷ [];
   next_number = 0;
   next_sequence = 0;
+  attempts_sent = 0;
   acknowledged = false;
   fenced = false;
   audit = [];
@@ -46,11 +47,19 @@ untold t = items_open t.open_batches ++ items_queued t.queue
 abbrev pub partition_at : ℕ → List Partition → Partition
 partition_at p ts = slice_index_or ts p (new_partition 0)
 
+-- one partition is this one now
+abbrev pub with_partition : ℕ → Partition → Core → Core
+with_partition p t s = record s { partitions = slice_set s.partitions p t }
+
 -- these partitions changed, and the others as they are
 unfoldable pub changed_at : List ℕ → (ℕ → Partition → Partition) → List Partition → List Partition
 changed_at ps change ts =
     map (λ x. if is_in x.0 ps then change x.0 x.1 else x.1) (enumerate_from 0 ts)
 
+-- the items that were appended and are not told, by partition
+abbrev pub all_untold : Core → List Item
+all_untold s = flat_map untold s.partitions
+
 -- The memory that is used: the charges of the items that are not told.
 unfoldable pub used : Core → ℕ
-used s = sum_by charge_of (flat_map untold s.partitions)
+used s = sum_by charge_of (all_untold s)

@@ -1,123 +1,127 @@
 -- A reply: which request it names, and what it does.
-use Rattle.std.specs.Prelude.{ℕ, ℤ, true, false, List, [], ◌∷◌, ◌++◌, length, Option, Some, None, Result, Ok, Err, nat_abs, if◌then◌else◌}
+use Rattle.std.specs.Prelude.{◌≡◌, ℕ, ℤ, pos, true, false, not, List, [], ◌∷◌, ◌++◌, filter, find, Option, Some, None, Result, Ok, Err, IsSome, nat_abs, if◌then◌else◌}
+use Rattle.std.specs.Ordering.{int_eq}
 use Rattle.kp_wire.specs.Fields.{int32}
-use Rattle.kp_frames.specs.declared.fault.FrameFault.{FrameFault}
+use Rattle.kp_frames.specs.declared.api.Api.{Api}
+use Rattle.kp_frames.specs.declared.api.Api.TheVariants as api
 use Rattle.kp_frames.specs.declared.fault.FrameFault.TheVariants.{Short, Mismatch}
+use Rattle.kp_frames.specs.declared.produce.ProduceResponse.{ProduceResponse}
 use Rattle.kp_frames.specs.declared.producer_id.InitProducerIdResponse.{InitProducerIdResponse}
 use Rattle.kp_frames.specs.declared.response.Response.{Response}
 use Rattle.kp_frames.specs.declared.response.ResponseBody.{ResponseBody}
-use Rattle.kp_frames.specs.declared.response.ResponseBody.TheVariants.{Produce, InitProducerId}
+use Rattle.kp_frames.specs.declared.response.ResponseBody.TheVariants as body
 use Rattle.kp_frames.specs.Response.{response_at}
 use Rattle.kp_core.specs.declared.fault.CoreFault.{CoreFault}
 use Rattle.kp_core.specs.declared.fault.CoreFault.TheVariants.{ReplyFault, Ended}
 use Rattle.kp_core.specs.declared.ticked.Replied.{Replied}
-use Rattle.kp_core.specs.Records.{Partition, Request, IdRequest, Core, Effect, Told, Step}
-use Rattle.kp_core.specs.Partitions.{changed_at}
+use Rattle.kp_core.specs.Records.{Partition, Demand, Produce, InitProducerId, Request, Core, Called, quietly}
+use Rattle.kp_core.specs.Partitions.{partition_at, with_partition}
+use Rattle.kp_core.specs.Attempts.{asks_for_id}
 use Rattle.kp_core.specs.MaySend.{wants_id}
-use Rattle.kp_core.specs.Telling.{at_these, told_at}
-use Rattle.kp_core.specs.Answered.{answered}
-use Rattle.kp_core.specs.Awaited.{Awaited, Nothing, Batches, Id, awaited, api_of}
-use Rattle.kp_core.specs.Mismatch.{Answers, answers_for, answers_of, answer_batches, is_given, answers_id}
+use Rattle.kp_core.specs.Mismatch.{entries_for, answers_batches, is_given, answers_id}
+use Rattle.kp_core.specs.Settling.{left_alone, settle_batch}
+use Rattle.kp_core.specs.Telling.{at_these}
+
+-- ---- which request in flight it is one to: the one that its correlation id names
+
+unfoldable pub awaited : ℤ → Core → Option Request
+awaited k s = find (λ r. int_eq (pos r.correlation) k) s.requests
+
+-- ---- a response to request k, for these partitions' batches: each is settled by its entry, in the
+-- request's order
+
+abbrev pub settle_batches : ℕ → ℕ → List ℕ → ProduceResponse → Core → Called ℕ
+settle_batches now k ps response s =
+    at_these ps (λ p t. elim (entries_for p response) [
+      | [] ↦ left_alone t
+      | entry ∷ others ↦ settle_batch now k t entry
+    ]) s
+
+-- ---- a response to the request for an id, for this partition
+
+-- It goes on under this id, from sequence number 0.
+abbrev pub go_on_under : ℕ → Partition → Partition
+go_on_under id t = record t { ids = t.ids ++ id ∷ []; next_sequence = 0; acknowledged = false }
+
+-- Where the partition no longer wants an id, nobody goes on under this one.
+abbrev pub give_id : ℕ → ℕ → Core → Core
+give_id id p s =
+    let t = partition_at p s.partitions in
+    if wants_id s.config t then with_partition p (go_on_under id t) s else s
+
+-- An id that is refused may be asked for again once the backoff is over.
+abbrev pub settle_id : ℕ → ℕ → InitProducerIdResponse → Core → Core
+settle_id now p response s =
+    let idle : Core = record s { requests = filter (λ r. not (asks_for_id r)) s.requests } in
+    if is_given response then give_id (nat_abs response.producer_id) p idle
+    else record idle { id_waits = Some now }
+
+-- ---- a response
 
 abbrev pub Replies : Type 0
-Replies = Step (Result Replied CoreFault)
+Replies = Called (Result Replied CoreFault)
 
--- ---- answers
+abbrev pub refuse_as : CoreFault → Core → Replies
+refuse_as fault s = quietly s (Err fault)
 
-abbrev pub faulty : FrameFault → Core → Replies
-faulty fault s = record { after = s; told = []; answer = Err (ReplyFault fault) }
-
--- The request is not in flight, and nothing changes.
+-- It names no request in flight, and nothing changes.
 abbrev pub unknown : Core → Replies
-unknown s = record { after = s; told = []; answer = Ok (record { known = false; reports = 0 }) }
+unknown s = quietly s (Ok (record { known = false; reports = 0 }))
 
-abbrev pub known : Core → List Told → Replies
-known after told = record {
-  after = after;
-  told = told;
-  answer = Ok (record { known = true; reports = length told });
+abbrev pub known : Called ℕ → Replies
+known made = record {
+  after = made.after;
+  told = made.told;
+  answer = Ok (record { known = true; reports = made.answer });
 }
 
--- ---- a reply to a Produce request: each partition of the request by its answer, in the request's
--- order
+-- It is one to the request, and all of it is settled; or nothing of it is.
+abbrev pub settle : ℕ → Core → ℕ → Demand ℕ → ResponseBody → Replies
+settle now s k (Produce ps) (body.Produce response) =
+    if answers_batches k ps s response then known (settle_batches now k ps response s)
+    else refuse_as (ReplyFault Mismatch) s
+settle now s k (InitProducerId p) (body.InitProducerId response) =
+    if answers_id response then known (quietly (settle_id now p response s) 0)
+    else refuse_as (ReplyFault Mismatch) s
+settle now s k demand response = refuse_as (ReplyFault Mismatch) s
 
-abbrev pub first_answered : ℕ → ℕ → Partition → Answers → Effect
-first_answered now k t [] = record { after = t; told = [] }
-first_answered now k t (a ∷ as') = answered now k t a
+unfoldable pub response_step : ℕ → Response → Core → Replies
+response_step now response s =
+    if s.ended then refuse_as Ended s
+    else elim (awaited response.correlation s) [
+      | None ↦ unknown s
+      | Some r ↦ settle now s r.correlation r.demand response.body
+    ]
 
-abbrev pub answering : ℕ → ℕ → Answers → ℕ → Partition → Effect
-answering now k answers p t = first_answered now k t (answers_for p answers)
+-- ---- a reply, as bytes: it is read as a response to the request that its first four bytes name
 
-abbrev pub batches_answered : ℕ → Request → Answers → Core → Replies
-batches_answered now r answers s =
-    let rule = answering now r.correlation answers in
-    known (at_these r.partitions rule s) (told_at r.partitions rule s)
+abbrev pub api_of : Demand ℕ → Api
+api_of (Produce ps) = api.Produce
+api_of (InitProducerId p) = api.InitProducerId
 
--- Nothing is settled unless the whole reply is one to its request.
-abbrev pub batches_replied : ℕ → Request → Core → Option Answers → Replies
-batches_replied now r s None = faulty Mismatch s
-batches_replied now r s (Some answers) =
-    if answer_batches r.correlation r.partitions s.partitions answers
-    then batches_answered now r answers s else faulty Mismatch s
+unfoldable pub reply_step : ℕ → List ℕ → Core → Replies
+reply_step now content s =
+    if s.ended then refuse_as Ended s
+    else elim (int32.read content) [
+      | Err fault ↦ refuse_as (ReplyFault Short) s
+      | Ok x ↦ elim (awaited x.0 s) [
+        | None ↦ unknown s
+        | Some r ↦ elim (response_at (api_of r.demand) content) [
+          | Err fault ↦ refuse_as (ReplyFault fault) s
+          | Ok response ↦ response_step now response s
+        ]
+      ]
+    ]
 
--- ---- a reply to an InitProducerId request
+-- Memory can be wanting only where the reply names a request in flight.
+pub record ReplyNeedsMemory (content : List ℕ) (s : Core) : Type 0 where
+  pub going : s.ended ≡ false
+  pub correlation : ℤ
+  pub behind : List ℕ
+  pub named : int32.read content ≡ Ok (correlation, behind)
+  pub in_flight : IsSome (awaited correlation s)
 
--- A partition that still wants an id goes on under this one, from sequence number 0.
-abbrev pub under : ℕ → Partition → Partition
-under id t = record t { ids = t.ids ++ id ∷ []; next_sequence = 0; acknowledged = false }
-
-abbrev pub under_if_wanted : ℕ → Core → ℕ → Partition → Partition
-under_if_wanted id s p t = if wants_id s.config t then under id t else t
-
-abbrev pub id_given : ℕ → IdRequest → Core → Core
-id_given id r s = record s {
-  partitions = changed_at (r.partition ∷ []) (under_if_wanted id s) s.partitions;
-  id_request = None;
-}
-
-abbrev pub id_refused : ℕ → Core → Core
-id_refused now s = record s { id_request = None; id_waits = Some now }
-
-abbrev pub id_answered : ℕ → IdRequest → InitProducerIdResponse → Core → Core
-id_answered now r response s =
-    if is_given response then id_given (nat_abs response.producer_id) r s else id_refused now s
-
-abbrev pub id_replied : ℕ → IdRequest → InitProducerIdResponse → Core → Replies
-id_replied now r response s =
-    if answers_id response then known (id_answered now r response s) [] else faulty Mismatch s
-
--- ---- any reply
-
-abbrev pub replied_to : ℕ → Core → Awaited → ResponseBody → Replies
-replied_to now s Nothing body = unknown s
-replied_to now s (Batches r) (Produce response) =
-    batches_replied now r s (answers_of s.names.topic response.topics)
-replied_to now s (Id r) (InitProducerId response) = id_replied now r response s
-replied_to now s _ body = faulty Mismatch s
-
-abbrev pub after_end : Core → Replies
-after_end s = record { after = s; told = []; answer = Err Ended }
-
-unfoldable pub replied : ℕ → Response → Core → Replies
-replied now response s =
-    if s.ended then after_end s else replied_to now s (awaited response.correlation s) response.body
-
--- ---- as bytes: a reply is read as one to the request that its first four bytes name
-
-abbrev pub read_reply : ℕ → Core → Result Response FrameFault → Replies
-read_reply now s (Ok response) = replied now response s
-read_reply now s (Err fault) = faulty fault s
-
-abbrev pub heard_for : ℕ → List ℕ → Core → Awaited → Replies
-heard_for now content s Nothing = unknown s
-heard_for now content s who = read_reply now s (response_at (api_of who) content)
-
-abbrev pub named : List ℕ → Option ℤ
-named content = elim (int32.read content) [ Ok x ↦ Some x.0 | Err fault ↦ None ]
-
-abbrev pub heard_named : ℕ → List ℕ → Core → Option ℤ → Replies
-heard_named now content s None = faulty Short s
-heard_named now content s (Some k) = heard_for now content s (awaited k s)
-
-unfoldable pub heard : ℕ → List ℕ → Core → Replies
-heard now content s = if s.ended then after_end s else heard_named now content s (named content)
+-- the api as which a reply to it is read, if it is one to a request in flight
+abbrev pub IsReadAs : Api → Option Request → Type 0
+IsReadAs a None = Unit {0}
+IsReadAs a (Some r) = api_of r.demand ≡ a

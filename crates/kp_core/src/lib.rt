@@ -2,19 +2,25 @@
 //! of Kafka's documentation).
 #![tactic(auto)]
 
+pub mod account_laws;
 mod attempt;
 mod audit;
 mod fault;
 pub mod laws;
+mod meaning;
 mod names;
+pub mod order_laws;
 mod outcome;
+mod outgoing;
+pub mod request_laws;
+pub mod telling_laws;
 mod ticked;
-mod verdict;
 
 pub use attempt::Attempt;
 pub use audit::Run;
 pub use fault::CoreFault;
+pub use meaning::Meaning;
 pub use names::Names;
 pub use outcome::{Outcome, Reason, Report};
+pub use outgoing::Outgoing;
 pub use ticked::{Replied, Ticked};
-pub use verdict::Verdict;

@@ -18,9 +18,10 @@ pub enum Outcome {
     Delivered(i64),
     /// It stands in the log; the broker no longer knows at which offset.
     DeliveredNoOffset,
-    /// It was sent, and may stand in the log or not.
+    /// It was sent, and given up before an answer came; it may stand in the log or not.
     Unknown,
-    /// The broker refused its batch for good, with this error code.
+    /// The broker refused its batch for good, with this error code; it may stand in the log or not, where an earlier
+    /// attempt was lost.
     Rejected(i16),
     /// It was never sent.
     Unsent(Reason),

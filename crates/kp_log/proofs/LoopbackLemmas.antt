@@ -10,7 +10,7 @@ use Rattle.kp_log.specs.declared.kept.Kept.{Kept}
 use Rattle.kp_log.specs.declared.kept.Span.{Span}
 use Rattle.kp_log.specs.declared.stored.Stored.{Stored}
 use Rattle.kp_log.specs.Log.{Log, count_of, kept_of, last_kept, nothing_kept, appended}
-use Rattle.kp_log.specs.SequenceRule.{Step, is_repeat, is_next, is_older}
+use Rattle.kp_log.specs.SequenceRule.{Judgement, is_repeat, is_next, is_older}
 use Rattle.kp_log.specs.History.{Sent, History, batch_of, stored_of, of_id, with_batch}
 use Rattle.kp_log.specs.KeptBatches.{span_in, offset_in, kept_in, log_for}
 use Rattle.kp_log.specs.BrokerStep.{Stands, IsOld, MayAppend, BrokerStep, NO_ERROR, DUPLICATE_SEQUENCE_NUMBER, Offered, answered, history_after, offered_to, offered_late}
@@ -62,7 +62,7 @@ offered_of h b (IsOlder fresh is old) = with_history (pos 46) (negsuc 0) h
 offered_of h b (LeavesGap fresh is old) = with_history (pos 45) (negsuc 0) h
 
 -- its answer and its history, by the step of its log
-abbrev offered_by : History → Sent → Step → Offered
+abbrev offered_by : History → Sent → Judgement → Offered
 offered_by h b step = record { answer = answered step.answer; history = history_after h b step.log }
 
 stays : (h : History) (b : Sent) → history_after h b (log_for b.id h) ≡ h

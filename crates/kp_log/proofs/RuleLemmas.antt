@@ -16,7 +16,7 @@ use Rattle.kp_log.specs.declared.stored.Stored.{Stored}
 use Rattle.kp_log.specs.History.{Sent, batch_of, arrived}
 use Rattle.kp_log.proofs.RulingLemmas.{Ruling, Repeats, GoesOn, IsOlder, LeavesGap, ruling, step_of}
 use Rattle.kp_log.proofs.LogLemmas.{int_eq_same, kept_of-appended}
-use Rattle.kp_log.specs.SequenceRule.{IsFirst, Step, is_repeat, repeated, is_next, is_older, judged, unchanged, stored}
+use Rattle.kp_log.specs.SequenceRule.{IsFirst, Judgement, is_repeat, repeated, is_next, is_older, judged, unchanged, stored}
 
 abbrev pub spans_of : Log → Batch → List Span
 spans_of log b = (kept_of b.head.producer_id log).spans
@@ -156,9 +156,9 @@ judged-appended log b to fresh = judged_repeat (appended log b) b (span_of log b
 abbrev pub IsAnsweredAlike : Log → Batch → Type 0
 IsAnsweredAlike log b = judged (judged log b).log b ≡ unchanged (judged log b).log (judged log b).answer
 
-alike_at : (log : Log) (b : Batch) (s : Step) → judged log b ≡ s
+alike_at : (log : Log) (b : Batch) (s : Judgement) → judged log b ≡ s
     → judged s.log b ≡ unchanged s.log s.answer → IsAnsweredAlike log b
-alike_at log b s is again = let P : Step → Type 0 = λ t. judged t.log b ≡ unchanged t.log t.answer in subst P (sym is) again
+alike_at log b s is again = let P : Judgement → Type 0 = λ t. judged t.log b ≡ unchanged t.log t.answer in subst P (sym is) again
 
 alike_by : (log : Log) (b : Batch) → Outcome log b → IsAnsweredAlike log b
 alike_by log b (Stays a is) = alike_at log b (unchanged log a) is is
@@ -171,15 +171,15 @@ pub answered_with_offset : (log : Log) (b : Batch) (offset : ℤ)
     → judged log b ≡ record { answer = answer.Stored offset; log = appended log b }
     → judged (appended log b) b ≡ unchanged (appended log b) (answer.Stored offset)
 answered_with_offset log b offset is =
-    let P : Step → Type 0 = λ t. judged t.log b ≡ unchanged t.log t.answer in
+    let P : Judgement → Type 0 = λ t. judged t.log b ≡ unchanged t.log t.answer in
     subst P is (answered_alike log b)
 
 -- ---- a refusal
 
 refusal_at : (log : Log) (b : Batch) (refusal : Refusal) → Outcome log b
     → (judged log b).answer ≡ answer.Refused refusal → (judged log b).log ≡ log
-refusal_at log b refusal (Stays a is) refused = ap (λ (s : Step). s.log) is
-refusal_at log b refusal (Grows t) refused = absurd (let stands : (judged log b).answer ≡ answer.Stored (pos (length log.records)) = ap (λ (s : Step). s.answer) t.taken in cc)
+refusal_at log b refusal (Stays a is) refused = ap (λ (s : Judgement). s.log) is
+refusal_at log b refusal (Grows t) refused = absurd (let stands : (judged log b).answer ≡ answer.Stored (pos (length log.records)) = ap (λ (s : Judgement). s.answer) t.taken in cc)
 
 pub refusal_keeps : (log : Log) (b : Batch) (refusal : Refusal)
     → (judged log b).answer ≡ answer.Refused refusal → (judged log b).log ≡ log

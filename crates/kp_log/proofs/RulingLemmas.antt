@@ -6,7 +6,7 @@ use Rattle.kp_log.specs.declared.answer.Refusal.TheVariants.{DuplicateSequenceNu
 use Rattle.kp_log.specs.declared.kept.Span.{Span}
 use Rattle.kp_log.specs.declared.stored.Stored.{Stored}
 use Rattle.kp_log.specs.Log.{Log}
-use Rattle.kp_log.specs.SequenceRule.{Step, repeated, is_next, is_older, unchanged, stored}
+use Rattle.kp_log.specs.SequenceRule.{Judgement, repeated, is_next, is_older, unchanged, stored}
 
 -- what is found, given the records and the batches that are kept of the batch's producer
 pub data Ruling (records : List Stored) (spans : List Span) (b : Batch) : Type 0 where
@@ -29,7 +29,7 @@ pub ruling : (records : List Stored) (spans : List Span) (b : Batch) → Ruling 
 ruling records spans b = ruling_at records spans b (repeated b spans) refl
 
 -- the step that a log then makes
-abbrev pub step_of : {records : List Stored} {spans : List Span} {b : Batch} → Log → Batch → Ruling records spans b → Step
+abbrev pub step_of : {records : List Stored} {spans : List Span} {b : Batch} → Log → Batch → Ruling records spans b → Judgement
 step_of log arriving (Repeats s is) = unchanged log (answer.Stored s.base_offset)
 step_of log arriving (GoesOn fresh is) = stored log arriving
 step_of log arriving (IsOlder fresh is old) = unchanged log (answer.Refused DuplicateSequenceNumber)

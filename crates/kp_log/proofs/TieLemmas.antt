@@ -10,7 +10,7 @@ use Rattle.kp_log.specs.declared.kept.Kept.{Kept}
 use Rattle.kp_log.specs.declared.kept.Span.{Span}
 use Rattle.kp_log.specs.declared.stored.Stored.{Stored}
 use Rattle.kp_log.specs.Log.{Log, log_of, empty, count_of, kept_of, kept_after, last_kept, span_of, stored_as, appended}
-use Rattle.kp_log.specs.SequenceRule.{Step, judged}
+use Rattle.kp_log.specs.SequenceRule.{Judgement, judged}
 use Rattle.kp_log.specs.History.{Sent, batch_of, History, arrived, stored_of, of_id, empty_history, with_batch, with_others, NO_ID}
 use Rattle.kp_log.specs.KeptBatches.{span_in, kept_in, IsHistoryOf}
 use Rattle.kp_log.specs.BrokerStep.{Answered, Offered, answered, offered_to}
@@ -118,7 +118,7 @@ others_are_of_others h log n body of whole = record {
 -- ---- an offer
 
 -- the log answers as the loopback broker does, and its history is then the one after
-pub record AnswersAlike (o : Offered) (step : Step) : Type 0 where
+pub record AnswersAlike (o : Offered) (step : Judgement) : Type 0 where
   pub answer : answered step.answer ≡ o.answer
   pub history : IsHistoryOf o.history step.log
 

@@ -11,7 +11,7 @@ use Rattle.kp_log.specs.declared.kept.Span.{Span}
 use Rattle.kp_log.specs.Log.{Log, count_of, kept_of, appended, SEQUENCE_LIMIT, LENGTH_LIMIT}
 
 -- an answer, and the log after it
-pub record Step : Type 0 where
+pub record Judgement : Type 0 where
   pub answer : Answer
   pub log : Log
 
@@ -42,31 +42,31 @@ is_older b (oldest ∷ later) =
 
 -- ---- the rule
 
-abbrev pub unchanged : Log → Answer → Step
+abbrev pub unchanged : Log → Answer → Judgement
 unchanged log a = record { answer = a; log = log }
 
-abbrev pub stored : Log → Batch → Step
+abbrev pub stored : Log → Batch → Judgement
 stored log b = record { answer = answer.Stored (pos (length log.records)); log = appended log b }
 
 -- a batch that repeats none of those kept
-abbrev pub judged_new : Log → Batch → Step
+abbrev pub judged_new : Log → Batch → Judgement
 judged_new log b =
     if is_next log.records b then stored log b
     else if is_older b (kept_of b.head.producer_id log).spans then unchanged log (answer.Refused DuplicateSequenceNumber)
     else unchanged log (answer.Refused OutOfOrderSequenceNumber)
 
-abbrev pub judged_against : Log → Batch → Option Span → Step
+abbrev pub judged_against : Log → Batch → Option Span → Judgement
 judged_against log b (Some s) = unchanged log (answer.Stored s.base_offset)
 judged_against log b None = judged_new log b
 
-unfoldable pub judged : Log → Batch → Step
+unfoldable pub judged : Log → Batch → Judgement
 judged log b =
     if int_lt b.head.producer_id (pos 0) then unchanged log (answer.Refused InvalidRequest)
     else if not (int_eq b.head.epoch (pos 0)) then unchanged log (answer.Refused InvalidProducerEpoch)
     else judged_against log b (repeated b (kept_of b.head.producer_id log).spans)
 
 -- what was offered: a batch, or bytes that are none
-abbrev pub offered : Log → Result Batch BatchFault → Step
+abbrev pub offered : Log → Result Batch BatchFault → Judgement
 offered log (Ok b) = judged log b
 offered log (Err fault) = unchanged log (answer.Refused CorruptMessage)
 

@@ -6,9 +6,9 @@ use Rattle.kp_log.specs.declared.offering.Verdict.{Verdict}
 use Rattle.kp_log.specs.declared.offering.Verdict.TheVariants.{Refuse, Repeat, Append}
 use Rattle.kp_log.specs.declared.stored.Stored.{Stored}
 use Rattle.kp_log.specs.Log.{Log}
-use Rattle.kp_log.specs.SequenceRule.{Step, is_next, unchanged, stored}
+use Rattle.kp_log.specs.SequenceRule.{Judgement, is_next, unchanged, stored}
 
-abbrev pub done : Log → Batch → Verdict → Step
+abbrev pub done : Log → Batch → Verdict → Judgement
 done log b (Refuse refusal) = unchanged log (answer.Refused refusal)
 done log b (Repeat offset) = unchanged log (answer.Stored offset)
 done log b Append = stored log b

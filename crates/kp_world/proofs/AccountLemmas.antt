@@ -1,4 +1,5 @@
 -- What holds of every world: of each sender and partition, what was taken is accounted for.
+use Rattle.kp_world.proofs.TellingLemmas.{HasDistinct}
 use Rattle.std.proofs.Common.{◌≡◌, ℕ, ◌+◌, ◌<◌, ◌≤◌, Bool, true, false, cond, List, [], ◌∷◌, ◌++◌, length, take, map, refl, sym, ap, ◌∙◌, subst, arith}
 use Rattle.std.specs.Prelude.{flat_map, slice_index, slice_index_or, ◌==◌}
 use Rattle.std.specs.List.{AllByRecursion, filter, range_with_len}
@@ -7,7 +8,7 @@ use Rattle.std.proofs.lemmas.List.Concat.{flat_map-append}
 use Rattle.std.proofs.lemmas.List.Elements.{filter-append}
 use Rattle.kp_accum.specs.declared.item.Item.{Item}
 use Rattle.kp_core.specs.Partitions.{partition_at, items_queued, untold}
-use Rattle.kp_core.specs.Records.{Batch, Request, Core, Told}
+use Rattle.kp_core.specs.Records.{HandedBatch, Core, Told}
 use Rattle.kp_world.specs.Accepting.{for_partition}
 use Rattle.kp_world.specs.Accounts.{of_sender, told_in, unsent_among, is_unsent}
 use Rattle.kp_world.specs.Client.{handed_at}
@@ -16,12 +17,12 @@ use Rattle.kp_world.specs.Noting.{noted}
 use Rattle.kp_world.specs.World.{World, Happened}
 use Rattle.kp_world.proofs.ConservationLemmas.{items_told, unsent-append}
 use Rattle.kp_world.proofs.FateLemmas.{AreNumbered, Fates, fates_given_up}
-use Rattle.kp_world.proofs.TellingLemmas.{told_for, Distinct, AtHome, home_past, CoreTells, core_weighs}
+use Rattle.kp_world.proofs.TellingLemmas.{told_for, AtHome, home_past, CoreTells, core_weighs}
 use Rattle.kp_world.proofs.WeightLemmas.{weigh, weigh-append}
 
 -- ---- what holds
 
-abbrev pub items_of : List Batch → List Item
+abbrev pub items_of : List HandedBatch → List Item
 items_of handed = flat_map (λ b. b.items) handed
 
 -- a sender's items that were taken
@@ -43,12 +44,12 @@ pub record Accepts (n s : ℕ) (items : List Item) (taken : ℕ) : Type 0 where
   pub own : AllByRecursion (λ i. i.sender ≡ s) items
   pub numbered : (p : ℕ) → AreNumbered 0 (for_partition p items)
 
-pub record Accounts (core : Core) (accepted : List (List Item)) (taken : List ℕ) (handed : List (List Batch)) (told : List Told) : Type 0 where
+pub record Accounts (core : Core) (accepted : List (List Item)) (taken : List ℕ) (handed : List (List HandedBatch)) (told : List Told) : Type 0 where
   pub taken_count : length taken ≡ length accepted
   pub handed_count : length handed ≡ length core.partitions
   pub senders : (s : ℕ) → Accepts (length core.partitions) s (slice_index_or accepted s []) (slice_index taken s)
   pub home : AtHome core.partitions
-  pub requests : AllByRecursion (λ (r : Request). Distinct r.partitions) core.requests
+  pub requests : AllByRecursion HasDistinct core.requests
   pub fates : (s p : ℕ) → p < length core.partitions
       → Fates (taken_for s p accepted taken) (of_sender s (items_queued (partition_at p core.partitions).queue)) (of_sender s (items_of (handed_at p handed))) (of_sender s (for_partition p (unsent_among told)))
   pub weights : (f : Item → ℕ) → weigh f (items_told told) + weigh f (flat_map untold core.partitions) ≡ weigh f (all_taken accepted taken)
@@ -86,14 +87,14 @@ unsent_for p (t ∷ told) = at_tests (is_unsent t.outcome) (t.item.partition == 
 pub items_told-append : (f : Item → ℕ) (a b : List Told) → weigh f (items_told (a ++ b)) ≡ weigh f (items_told a) + weigh f (items_told b)
 items_told-append f a b = ap (weigh f) (map-append (λ (t : Told). t.item) a b) ∙ weigh-append f (items_told a) (items_told b)
 
-accounts_core : (core : Core) (accepted : List (List Item)) (taken : List ℕ) (handed : List (List Batch)) (told more : List Told) (core' : Core)
+accounts_core : (core : Core) (accepted : List (List Item)) (taken : List ℕ) (handed : List (List HandedBatch)) (told more : List Told) (core' : Core)
     → Accounts core accepted taken handed told → CoreTells core more core' → Accounts core' accepted taken handed (told ++ more)
 accounts_core core accepted taken handed told more core' a k = record {
   taken_count = a.taken_count;
   handed_count = a.handed_count ∙ sym k.count;
   senders = λ s. subst (λ (n : ℕ). Accepts n s (slice_index_or accepted s []) (slice_index taken s)) (sym k.count) (a.senders s);
   home = home_past core'.partitions (λ p l. (k.each p (within p l)).left_from (λ i. i.partition ≡ p) (a.home p));
-  requests = k.requests (λ r. Distinct r.partitions) a.requests;
+  requests = k.requests HasDistinct a.requests;
   fates = λ s p l.
       let here = within p l in
       let front = unsent_among (told_for p more) in

@@ -7,17 +7,20 @@ use Rattle.std.proofs.lemmas.List.{length-replicate, get_or-replicate}
 use Rattle.kp_accum.specs.declared.config.Config.{Config}
 use Rattle.kp_accum.specs.declared.item.Item.{Item}
 use Rattle.kp_log.proofs.PlaceLemmas.{In, In-head, In-tail}
+use Rattle.kp_core.proofs.CallLemmas.{at_append}
+use Rattle.kp_core.specs.Closing.{close_step, end_step}
+use Rattle.kp_core.specs.Flush.{flush_step}
+use Rattle.kp_core.specs.Replies.{response_step}
+use Rattle.kp_core.specs.Tick.{tick_step}
 use Rattle.kp_core.specs.declared.outcome.Reason.{Reason}
 use Rattle.kp_core.specs.declared.outcome.Reason.TheVariants.{Fenced, Ended}
-use Rattle.kp_core.specs.Appending.{Appends, in_queue, turned_away, refused}
-use Rattle.kp_core.specs.Fence.{ended}
-use Rattle.kp_core.specs.Flush.{flushed}
+use Rattle.kp_core.specs.Appending.{Appends, with_queued, turn_away}
+use Rattle.kp_core.specs.Attempts.{awaits}
+use Rattle.kp_core.specs.Dropping.{disconnect_step}
 use Rattle.kp_core.specs.Opening.{new_core}
 use Rattle.kp_core.specs.Partitions.{partition_at, new_partition, items_queued, untold}
-use Rattle.kp_core.specs.Records.{Batch, Open, Partition}
-use Rattle.kp_core.specs.Requesting.{Outgoing}
-use Rattle.kp_core.specs.Replies.{replied}
-use Rattle.kp_core.specs.Tick.{ticked, disconnected, closed}
+use Rattle.kp_core.specs.Records.{HandedBatch, Open, Partition}
+use Rattle.kp_core.specs.Requesting.{Packet}
 use Rattle.kp_world.specs.declared.event.Event.{Event}
 use Rattle.kp_world.specs.Accepting.{for_partition, item_for, accepted_by, with_accepted, with_taken, taken_by, taking_of, taking}
 use Rattle.kp_world.specs.Accounts.{of_sender, told_in}
@@ -28,20 +31,19 @@ use Rattle.kp_world.specs.Loopback.{logs_with_others}
 use Rattle.kp_world.specs.Message.{response_of}
 use Rattle.kp_world.specs.Run.{answer_line, with_delivery, Steps, MayBegin, IsReached}
 use Rattle.kp_world.specs.World.{Reply, World, FIRST_ID, opening}
-use Rattle.kp_core.proofs.CallLemmas.{at_appended}
 use Rattle.kp_world.proofs.EventLemmas.{OfEvent, at_step, at_run}
 use Rattle.kp_world.proofs.AccountLemmas.{items_of, taken_of, Accepts, IsAccounted, accounts_only, accounts_noted, accounts_call}
 use Rattle.kp_world.proofs.ConservationLemmas.{attempts_of, attempt_count}
 use Rattle.kp_world.proofs.FateLemmas.{Fates}
 use Rattle.kp_core.specs.declared.attempt.Attempt.TheVariants.{InFlight}
-use Rattle.kp_core.specs.Attempts.{awaits}
 use Rattle.kp_world.proofs.DeliveredLemmas.{heard}
 use Rattle.kp_world.proofs.FlightLemmas.{flies_same}
 use Rattle.kp_world.proofs.HearingLemmas.{answered_batch, same_correlation}
 use Rattle.kp_world.proofs.LawfulLemmas.{IsLawful}
 use Rattle.kp_world.proofs.LeavingLemmas.{Rising, awaits_is}
 use Rattle.kp_world.proofs.RunLemmas.{lawful_step, lawful_opening, within_five}
-use Rattle.kp_world.proofs.ListLemmas.{all_at, all_in, all_say, in_at}
+use Rattle.kp_core.proofs.ListLemmas.{all_say}
+use Rattle.kp_world.proofs.ListLemmas.{all_at, all_in, in_at}
 use Rattle.kp_world.proofs.WeightLemmas.{weigh, weigh_flat, weigh_none}
 use Rattle.kp_world.proofs.HandingLemmas.{accounts_sending}
 use Rattle.kp_world.proofs.TakingLemmas.{NextOf, next_of, accounts_accepted, accounts_turned_away, accounts_queued}
@@ -53,11 +55,12 @@ abbrev taken_in : ℕ → World → Appends → World
 taken_in s w step = taking_of s step.after step.told step.answer w
 
 accounts_taken : (s : ℕ) (i : Item) (w : World) → s < length w.accepted → slice_get (accepted_by s w) (taken_by s w) ≡ Some i → IsAccounted w → IsAccounted (taking s (Some i) w)
-accounts_taken s i w l e a = at_appended (λ (step : Appends). IsAccounted (taken_in s w step)) i w.core (record {
-  past_end = λ ended. turned Ended;
-  by_fence = λ ended fenced. turned Fenced;
-  full = accounts_call (refused w.core).after (Full s ∷ []) [] w a (core_alike w.core (refused w.core).after refl (λ P h. h));
-  room = λ ended fenced fits. accounts_only (in_queue i w.core) [] (with_taken s w) (accounts_queued w.core w.accepted w.taken w.handed (told_in w.past) s i a within next);
+accounts_taken s i w l e a = at_append (λ (step : Appends). IsAccounted (taken_in s w step)) i w.core (record {
+  outside = accounts_call w.core (Full s ∷ []) [] w a (core_alike w.core w.core refl (λ P h. h));
+  past_end = λ may ended. turned Ended;
+  by_fence = λ may ended fenced. turned Fenced;
+  full = accounts_call (record w.core { exhausted = true }) (Full s ∷ []) [] w a (core_alike w.core (record w.core { exhausted = true }) refl (λ P h. h));
+  room = λ may ended fenced fits. accounts_only (with_queued i w.core) [] (with_taken s w) (accounts_queued w.core w.accepted w.taken w.handed (told_in w.past) s i a within next);
 })
   where
     within : s < length w.taken
@@ -66,9 +69,9 @@ accounts_taken s i w l e a = at_appended (λ (step : Appends). IsAccounted (take
     next : NextOf (length w.core.partitions) s (accepted_by s w) (taken_by s w) i
     next = next_of (length w.core.partitions) s (accepted_by s w) (taken_by s w) i (a.senders s) e
 
-    turned : (why : Reason) → IsAccounted (taken_in s w (turned_away why i w.core))
-    turned why = accounts_noted (turned_away why i w.core).after [] (turned_away why i w.core).told (with_taken s w)
-        (accounts_turned_away why w.core (turned_away why i w.core).after w.accepted w.taken w.handed (told_in w.past) s i a within next refl refl)
+    turned : (why : Reason) → IsAccounted (taken_in s w (turn_away why i w.core))
+    turned why = accounts_noted (turn_away why i w.core).after [] (turn_away why i w.core).told (with_taken s w)
+        (accounts_turned_away why w.core (turn_away why i w.core).after w.accepted w.taken w.handed (told_in w.past) s i a within next refl refl)
 
 -- batches of which those in flight in this request are one
 single : (k : ℕ) (os : List Open) → Rising os → ((o x : Open) → In o os → In x os → o.attempt ≡ InFlight k → x.attempt ≡ InFlight k → o.batch ≡ x.batch) → attempt_count k os ≤ 1
@@ -80,7 +83,7 @@ single k (o ∷ os) rises one = at_test (awaits k o) refl (single k os rises.1 (
       where
         other : (x : Open) → In x os → awaits k x ≡ true → ⊥
         other x i too =
-            let same : o.batch.number ≡ x.batch.number = ap (λ (b : Batch). b.number) (one o x (In-head o os) (In-tail x o os i) (awaits_is k o is) (awaits_is k x too)) in
+            let same : o.batch.number ≡ x.batch.number = ap (λ (b : HandedBatch). b.number) (one o x (In-head o os) (In-tail x o os i) (awaits_is k o is) (awaits_is k x too)) in
             let above : o.batch.number < x.batch.number = all_at (λ (y : Open). o.batch.number < y.batch.number) os x rises.0 i in
             omega (arith, same, above)
 
@@ -107,20 +110,20 @@ accounts_event n w g a = record {
   none_taken = λ s. accounts_only w.core (Empty s ∷ []) w a;
   taken = λ s i here there. accounts_taken s i w here there a;
   now = λ moment. accounts_only w.core [] (record w { moment = moment }) a;
-  tick = accounts_call (ticked w.moment w.core).after _ (ticked w.moment w.core).told w a (core_ticked w.moment w.core a.home);
+  tick = accounts_call (tick_step w.moment w.core).after _ (tick_step w.moment w.core).told w a (core_ticked w.moment w.core a.home);
   send = accounts_sending n w g a;
   reply = λ j r there.
-      let step = replied w.moment (response_of r) w.core in
+      let step = response_step w.moment (response_of r) w.core in
       accounts_call step.after (reply_line j step.answer) step.told w a (core_replied w.moment (response_of r) w.core (is_single n w r g (in_at w.replies j r there)) a.requests a.home);
-  lost = accounts_call (disconnected w.moment w.core) [] [] w a (core_disconnected w.moment w.core);
-  close = accounts_call (closed w.core) [] [] (record w { is_shut = true }) a (core_closed w.core);
-  end = accounts_call (ended w.core).after [] (ended w.core).told w a (core_ended w.core a.home);
-  flush = accounts_call (flushed w.core) (flush_line w.core ∷ []) [] w a (core_flushed w.core);
+  lost = accounts_call (disconnect_step w.moment w.core) [] [] w a (core_disconnected w.moment w.core);
+  close = accounts_call (close_step w.core) [] [] (record w { is_shut = true }) a (core_closed w.core);
+  end = accounts_call (end_step w.core).after [] (end_step w.core).told w a (core_ended w.core a.home);
+  flush = accounts_call (flush_step w.core) (flush_line w.core ∷ []) [] w a (core_flushed w.core);
 }
 
 -- ---- any event
 
-abbrev delivered_to : Outgoing → Delivery → World → World
+abbrev delivered_to : Packet → Delivery → World → World
 delivered_to o d w = record w { logs = d.logs; ids = d.ids; replies = w.replies ++ (record { correlation = o.correlation; content = d.content }) ∷ [] }
 
 accounts_step : (n : ℕ) (w : World) → IsLawful n w → IsAccounted w → (e : Event) (v : World) → Steps w e v → IsAccounted v
@@ -159,14 +162,14 @@ accounts_opening : (c : Config) (partitions senders : ℕ) → IsAccounted (open
 unfolding opening new_core untold
 accounts_opening c partitions senders = record {
   taken_count = length-replicate senders 0 ∙ sym (length-replicate {A = List Item} senders []);
-  handed_count = length-replicate {A = List Batch} partitions [] ∙ sym (length-replicate partitions (new_partition FIRST_ID));
+  handed_count = length-replicate {A = List HandedBatch} partitions [] ∙ sym (length-replicate partitions (new_partition FIRST_ID));
   senders = λ s. subst (λ (items : List Item). Accepts (length (replicate partitions (new_partition FIRST_ID))) s items (slice_index (replicate senders 0) s)) (sym (all_alike {A = List Item} senders s [])) (subst (Accepts (length (replicate partitions (new_partition FIRST_ID))) s []) (sym (all_alike senders s 0)) (accepts_none (length (replicate partitions (new_partition FIRST_ID))) s));
   home = home_past (replicate partitions (new_partition FIRST_ID)) (λ p l. subst (λ (t : Partition). AllByRecursion (λ i. i.partition ≡ p) (untold t)) (sym (at p l)) tt);
   requests = tt;
   fates = λ s p l.
       subst (λ (n : ℕ). Fates (for_partition p (take n (slice_index_or (replicate senders []) s []))) (of_sender s (items_queued (partition_at p (replicate partitions (new_partition FIRST_ID))).queue)) (of_sender s (items_of (handed_at p (replicate partitions [])))) []) (sym (all_alike senders s 0))
       (subst (λ (t : Partition). Fates [] (of_sender s (items_queued t.queue)) (of_sender s (items_of (handed_at p (replicate partitions [])))) []) (sym (at p l))
-      (subst (λ (handed : List Batch). Fates [] [] (of_sender s (items_of handed)) []) (sym (all_alike {A = List Batch} partitions p [])) fates_none));
+      (subst (λ (handed : List HandedBatch). Fates [] [] (of_sender s (items_of handed)) []) (sym (all_alike {A = List HandedBatch} partitions p [])) fates_none));
   weights = λ f.
       let untold_none : weigh f (flat_map untold (replicate partitions (new_partition FIRST_ID))) ≡ 0 = no_items f partitions in
       let taken_none : weigh f (flat_map (taken_of (replicate senders []) (replicate senders 0)) (range_with_len 0 (length (replicate {A = List Item} senders [])))) ≡ 0 = none_taken f senders 0 (length (replicate {A = List Item} senders [])) in

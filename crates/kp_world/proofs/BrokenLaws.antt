@@ -18,12 +18,14 @@ use Rattle.kp_batch.specs.declared.record.Record.{Record}
 use Rattle.kp_log.specs.History.{stored_of, own, is_under, NO_ID}
 use Rattle.kp_log.specs.Log.{stored_as}
 use Rattle.kp_log.specs.declared.stored.Stored.{Stored}
+use Rattle.kp_core.specs.declared.attempt.Attempt.{Attempt}
+use Rattle.kp_core.specs.declared.attempt.Attempt.TheVariants.{InFlight, Waiting}
 use Rattle.kp_core.specs.declared.outcome.Outcome.{Outcome}
 use Rattle.kp_core.specs.declared.outcome.Outcome.TheVariants.{Delivered, DeliveredNoOffset, Unknown, Rejected, Unsent}
-use Rattle.kp_core.specs.Attempts.{is_waiting, is_waiting_attempt}
-use Rattle.kp_core.specs.OutcomeRule.{Call, Append, Tick, Reply as ToReply, End, MayTell}
+use Rattle.kp_core.specs.Attempts.{is_waiting}
+use Rattle.kp_core.specs.OutcomeRule.{Telling, Append, Tick, Reply as ToReply, End, MayTell}
 use Rattle.kp_core.specs.Partitions.{partition_at}
-use Rattle.kp_core.specs.Records.{Core, Partition, Batch, Told}
+use Rattle.kp_core.specs.Records.{Core, Partition, HandedBatch, Told}
 use Rattle.kp_core.proofs.ListLemmas.{contains_head, contains_tail}
 use Rattle.kp_world.specs.declared.event.Event.{Event}
 use Rattle.kp_world.specs.Accounts.{items_handed, is_among, is_same, told_unsent, IsNeverSent}
@@ -171,7 +173,7 @@ bodies_stored : (id : ℤ) (rs : List Record) → map (λ s. s.body) (stored_as 
 bodies_stored id [] = refl
 bodies_stored id (r ∷ rs) = ap (λ z. r ∷ z) (bodies_stored id rs)
 
-bodies_as_stored : (bs : List Batch) → map (λ s. s.body) (as_stored bs) ≡ map body_of (flat_map (λ b. b.items) bs)
+bodies_as_stored : (bs : List HandedBatch) → map (λ s. s.body) (as_stored bs) ≡ map body_of (flat_map (λ b. b.items) bs)
 bodies_as_stored [] = refl
 bodies_as_stored (b ∷ bs) =
     map-append (λ (s : Stored). s.body) (stored_of (sent_of b)) (as_stored bs)
@@ -187,7 +189,7 @@ pub log_is_unlike : (w : World) → is_unlike (map (λ s. s.body) (own_records 0
 log_is_unlike w e law =
     let mine : map (λ s. s.body) (own_records 0 w) ≡ map body_of (flat_map (λ b. b.items) law.stored) = ap (map (λ s. s.body)) law.records ∙ bodies_as_stored law.stored in
     let all : map body_of (items_handed 0 w) ≡ map body_of (flat_map (λ b. b.items) law.stored) ++ map body_of (flat_map (λ b. b.items) law.rest) =
-    ap (λ z. map body_of (flat_map (λ b. b.items) z)) law.handed ∙ ap (map body_of) (flat_map-append (λ (b : Batch). b.items) law.stored law.rest) ∙ map-append body_of (flat_map (λ b. b.items) law.stored) (flat_map (λ b. b.items) law.rest) in
+    ap (λ z. map body_of (flat_map (λ b. b.items) z)) law.handed ∙ ap (map body_of) (flat_map-append (λ (b : HandedBatch). b.items) law.stored law.rest) ∙ map-append body_of (flat_map (λ b. b.items) law.stored) (flat_map (λ b. b.items) law.rest) in
     absurd (true≢false (sym e ∙ ap (λ z. is_unlike z (map body_of (items_handed 0 w))) mine ∙ ap (is_unlike (map body_of (flat_map (λ b. b.items) law.stored))) all ∙ like_itself (map body_of (flat_map (λ b. b.items) law.stored)) (map body_of (flat_map (λ b. b.items) law.rest))))
 
 -- an item was told that it was delivered, where no batch was in flight before
@@ -211,11 +213,14 @@ wait_at [] p e = refl
 wait_at (t ∷ ts) zero e = (and_parts (all_wait t) (list_all all_wait ts) e).0
 wait_at (t ∷ ts) (suc p) e = wait_at ts p (and_parts (all_wait t) (list_all all_wait ts) e).1
 
+abbrev waits : Attempt → Bool
+waits a = elim a [ InFlight c ↦ false | Waiting since ↦ true ]
+
 none_delivered : (s : Core) (t : Told) (offset : ℤ) → list_all all_wait s.partitions ≡ true → t.outcome ≡ Delivered offset → MayBeTold s t → ⊥
 unfolding MayTell
 none_delivered s t offset still is h = at_call h.0 (subst (MayTell s h.0 t.item) is h.1)
   where
-    at_call : (call : Call) → MayTell s call t.item (Delivered offset) → ⊥
+    at_call : (call : Telling) → MayTell s call t.item (Delivered offset) → ⊥
     at_call (Append i) m = m
     at_call (Tick now) m = m
     at_call (ToReply now response) m =
@@ -223,7 +228,7 @@ none_delivered s t offset still is h = at_call h.0 (subst (MayTell s h.0 t.item)
         let place = m.0.answered.is_open in
         let batches = (partition_at m.0.partition s.partitions).open_batches in
         let waiting : is_waiting o ≡ true = sym (ap is_waiting place.2) ∙ AllPass-from_list_all is_waiting batches (wait_at s.partitions m.0.partition still) place.0 o place.1 in
-        absurd (true≢false (sym waiting ∙ ap is_waiting_attempt (awaits_is m.0.answered.correlation o m.0.answered.in_flight)))
+        absurd (true≢false (sym waiting ∙ ap waits (awaits_is m.0.answered.correlation o m.0.answered.in_flight)))
     at_call End m = m
 
 last_passes : {A : Type 0} (test : A → Bool) (xs : List A) (x : A) → list_any test xs ≡ false → list_any test (xs ++ x ∷ []) ≡ true → test x ≡ true

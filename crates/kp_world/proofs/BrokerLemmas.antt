@@ -17,8 +17,8 @@ use Rattle.kp_log.proofs.LogLemmas.{count_of-append, count_of_own}
 use Rattle.kp_log.proofs.PlaceLemmas.{In, In-nil, In-cons, In-head, In-tail, cut_cases, contains_from_In}
 use Rattle.kp_core.specs.Next.{Sending}
 use Rattle.kp_core.specs.Partitions.{partition_at}
-use Rattle.kp_core.specs.Records.{Batch, Partition, Core}
-use Rattle.kp_core.specs.Requesting.{Outgoing}
+use Rattle.kp_core.specs.Records.{HandedBatch, Partition, Core}
+use Rattle.kp_core.specs.Requesting.{Packet}
 use Rattle.kp_world.specs.Client.{handed_at}
 use Rattle.kp_world.specs.Delivering.{log_at, PartDelivers, PartsDeliver}
 use Rattle.kp_world.specs.Message.{sent_of}
@@ -26,7 +26,8 @@ use Rattle.kp_world.specs.World.{PartAnswer, Reply}
 use Rattle.kp_world.proofs.FlightLemmas.{Carried, PartHolds, Steady, part_grown, steady_grown}
 use Rattle.kp_world.proofs.PrefixLemmas.{Cut, Grown, lands, lands_at, grown_same, grown_appended}
 use Rattle.kp_world.proofs.SoundLemmas.{Sound, sents, sound_history}
-use Rattle.kp_world.proofs.ListLemmas.{at_set, In-map}
+use Rattle.kp_core.proofs.ListLemmas.{at_set}
+use Rattle.kp_world.proofs.ListLemmas.{In-map}
 
 -- ---- a batch that is old
 
@@ -53,7 +54,7 @@ not_before handed s b first first_later second second_later e f =
         omega (arith, split, parts, own, some, at_one, at_two)
 
 -- where five later batches were appended, its number is six below how many were handed over
-old_number : (ids : List ℕ) (t : Partition) (handed : List Batch) (h : History) → Sound ids t handed h → Cut t handed h → (b : Batch) → In b handed → IsOld h.batches (sent_of b) → b.number + 6 ≤ length handed
+old_number : (ids : List ℕ) (t : Partition) (handed : List HandedBatch) (h : History) → Sound ids t handed h → Cut t handed h → (b : HandedBatch) → In b handed → IsOld h.batches (sent_of b) → b.number + 6 ≤ length handed
 old_number ids t handed h s cut b i old =
     let all : sents handed ≡ h.batches ++ sents cut.rest = ap sents cut.split ∙ map-append sent_of cut.landed cut.rest ∙ ap (λ z. z ++ sents cut.rest) (sym cut.appended) in
     let split : sents handed ≡ old.earlier ++ sent_of b ∷ (old.later ++ sents cut.rest) = all ∙ ap (λ z. z ++ sents cut.rest) old.split ∙ append_assoc old.earlier (sent_of b ∷ old.later) (sents cut.rest) in
@@ -71,17 +72,17 @@ old_number ids t handed h s cut b i old =
 -- ---- one part of a packet
 
 -- A partition, what was handed over for it, its log, and all packets and replies.
-pub record PartAgrees (most p : ℕ) (ids : List ℕ) (ended : Bool) (next : ℕ) (t : Partition) (handed : List Batch) (h : History) (packets : List Outgoing) (replies : List Reply) : Type 0 where
+pub record PartAgrees (most p : ℕ) (ids : List ℕ) (ended : Bool) (next : ℕ) (t : Partition) (handed : List HandedBatch) (h : History) (packets : List Packet) (replies : List Reply) : Type 0 where
   pub sound : Sound ids t handed h
   pub steady : Steady most p ended next t handed h packets replies
 
-pub record Delivered (most p k : ℕ) (ids : List ℕ) (e : Bool) (next : ℕ) (t : Partition) (handed : List Batch) (h h' : History) (packets : List Outgoing) (replies : List Reply) (a : Answered) : Type 0 where
+pub record Delivered (most p k : ℕ) (ids : List ℕ) (e : Bool) (next : ℕ) (t : Partition) (handed : List HandedBatch) (h h' : History) (packets : List Packet) (replies : List Reply) (a : Answered) : Type 0 where
   pub agrees : PartAgrees most p ids e next t handed h' packets replies
   pub part : PartHolds p (length handed) k packets h'.records a
   pub more : List Stored
   pub records : h'.records ≡ h.records ++ more
 
-delivered : {most : ℕ} (p k : ℕ) (ids : List ℕ) (e : Bool) (next : ℕ) (t : Partition) (handed : List Batch) (h h' : History) (packets : List Outgoing) (replies : List Reply) (b : Batch) (a : Answered)
+delivered : {most : ℕ} (p k : ℕ) (ids : List ℕ) (e : Bool) (next : ℕ) (t : Partition) (handed : List HandedBatch) (h h' : History) (packets : List Packet) (replies : List Reply) (b : HandedBatch) (a : Answered)
     → PartAgrees most p ids e next t handed h packets replies → In b handed → Carried p k packets b → BrokerStep h (sent_of b) a h' → Delivered most p k ids e next t handed h h' packets replies a
 delivered {most = most} p k ids e next t handed h h' packets replies b a before i carried step =
     let g : (Sound ids t handed h') × Grown t handed h h' = grown in
@@ -95,7 +96,7 @@ delivered {most = most} p k ids e next t handed h h' packets replies b a before 
     kept : Sound ids t handed h' → IsOld h'.batches (sent_of b) → IsStored h'.records (sent_of b)
     kept after old = All-contains (IsStored h'.records) h'.batches (sent_of b) after.came.whole (contains_from_In h'.batches (sent_of b) (record { earlier = old.earlier; later = old.later; split = old.split }))
 
-    appended : (later : List Batch) → before.steady.cut.rest ≡ b ∷ later → (Sound ids t handed (with_batch (sent_of b) h)) × Grown t handed h (with_batch (sent_of b) h)
+    appended : (later : List HandedBatch) → before.steady.cut.rest ≡ b ∷ later → (Sound ids t handed (with_batch (sent_of b) h)) × Grown t handed h (with_batch (sent_of b) h)
     appended later is = (
       sound_history ids t handed h (with_batch (sent_of b) h) before.sound (came_appended (sents handed) h (sent_of b) before.sound.in_sequence before.sound.came (contains_from_In (sents handed) (sent_of b) (In-map sent_of b handed i)) (lands_at ids t handed h before.sound before.steady.cut b later is)),
       grown_appended ids t handed h before.sound before.steady.cut b later is i,
@@ -112,14 +113,14 @@ delivered {most = most} p k ids e next t handed h h' packets replies b a before 
 
 -- ---- all parts of a packet
 
-abbrev pub Agrees : ℕ → ℕ → List ℕ → Core → List (List Batch) → List History → List Outgoing → List Reply → ℕ → Type 0
+abbrev pub Agrees : ℕ → ℕ → List ℕ → Core → List (List HandedBatch) → List History → List Packet → List Reply → ℕ → Type 0
 Agrees most n ids core handed logs packets replies p = PartAgrees most p ids core.ended core.correlation (partition_at p core.partitions) (handed_at p handed) (log_at p logs) packets replies
 
-abbrev pub AllAgree : ℕ → ℕ → List ℕ → Core → List (List Batch) → List History → List Outgoing → List Reply → Type 0
+abbrev pub AllAgree : ℕ → ℕ → List ℕ → Core → List (List HandedBatch) → List History → List Packet → List Reply → Type 0
 AllAgree most n ids core handed logs packets replies = (p : ℕ) → p < n → Agrees most n ids core handed logs packets replies p
 
 -- one partition's log is another one now, and agrees
-pub agree_set : {most : ℕ} (n : ℕ) (ids : List ℕ) (core : Core) (handed : List (List Batch)) (logs : List History) (packets : List Outgoing) (replies : List Reply) (p : ℕ) (log : History)
+pub agree_set : {most : ℕ} (n : ℕ) (ids : List ℕ) (core : Core) (handed : List (List HandedBatch)) (logs : List History) (packets : List Packet) (replies : List Reply) (p : ℕ) (log : History)
     → p < length logs → AllAgree most n ids core handed logs packets replies → PartAgrees most p ids core.ended core.correlation (partition_at p core.partitions) (handed_at p handed) log packets replies
     → AllAgree most n ids core handed (slice_set logs p log) packets replies
 agree_set {most = most} n ids core handed logs packets replies p log within all agrees q h =
@@ -128,16 +129,16 @@ agree_set {most = most} n ids core handed logs packets replies p log within all 
     (all q h)
 
 -- each part is there, was handed over, and went out with this correlation id
-abbrev pub Known : ℕ → ℕ → List (List Batch) → List Outgoing → List Sending → Type 0
+abbrev pub Known : ℕ → ℕ → List (List HandedBatch) → List Packet → List Sending → Type 0
 Known n k handed packets xs = (x : Sending) → In x xs → (x.partition < n) × In x.batch (handed_at x.partition handed) × Carried x.partition k packets x.batch
 
-pub record PartsDelivered (most n k : ℕ) (ids : List ℕ) (core : Core) (handed : List (List Batch)) (logs logs' : List History) (packets : List Outgoing) (replies : List Reply) (answers : List PartAnswer) : Type 0 where
+pub record PartsDelivered (most n k : ℕ) (ids : List ℕ) (core : Core) (handed : List (List HandedBatch)) (logs logs' : List History) (packets : List Packet) (replies : List Reply) (answers : List PartAnswer) : Type 0 where
   pub count : length logs' ≡ length logs
   pub agree : AllAgree most n ids core handed logs' packets replies
   pub parts : (a : PartAnswer) → In a answers → (a.partition < n) × PartHolds a.partition (length (handed_at a.partition handed)) k packets (log_at a.partition logs').records a.answer
   pub grown : (p : ℕ) → (more : List Stored) × ((log_at p logs').records ≡ (log_at p logs).records ++ more)
 
-pub parts_delivered : {most : ℕ} (n k : ℕ) (ids : List ℕ) (core : Core) (handed : List (List Batch)) (logs logs' : List History) (packets : List Outgoing) (replies : List Reply) (xs : List Sending) (answers : List PartAnswer)
+pub parts_delivered : {most : ℕ} (n k : ℕ) (ids : List ℕ) (core : Core) (handed : List (List HandedBatch)) (logs logs' : List History) (packets : List Packet) (replies : List Reply) (xs : List Sending) (answers : List PartAnswer)
     → length logs ≡ n → AllAgree most n ids core handed logs packets replies → Known n k handed packets xs → PartsDeliver logs xs answers logs' → PartsDelivered most n k ids core handed logs logs' packets replies answers
 unfolding PartsDeliver
 parts_delivered {most = most} n k ids core handed logs logs' packets replies [] [] size all known d =

@@ -3,13 +3,14 @@
 use Rattle.std.proofs.Common.{◌≡◌, ℕ, suc, zero, ◌+◌, Bool, true, false, List, [], ◌∷◌, ◌++◌, length, pos, negsuc, Some, None, refl, sym, ap, ◌∙◌, inl, inr, arith, append-nil}
 use Rattle.std.specs.Prelude.{Option, is_some, unwrap_or, take, drop, slice_get, slice_set, nat_le, ◌&&◌, ◌||◌, ◌==◌}
 use Rattle.std.specs.List.{list_any}
-use Rattle.std.proofs.lemmas.Bool.{true≢false, eq-eqb, leb-true, and_parts}
+use Rattle.std.proofs.lemmas.Bool.{true≢false, eq-eqb, eqb-true, leb-true, and_parts}
 use Rattle.std.proofs.lemmas.Int.{ints}
 use Rattle.kp_log.specs.BrokerStep.{Answered, BrokerStep}
 use Rattle.kp_log.specs.History.{History, stored_of, of_id, with_batch}
 use Rattle.kp_log.specs.Log.{KEPT, count_of}
-use Rattle.kp_core.specs.Next.{Sending, Demand, Produce, InitProducerId}
-use Rattle.kp_core.specs.Requesting.{Outgoing}
+use Rattle.kp_core.specs.Next.{Sending}
+use Rattle.kp_core.specs.Records.{Demand, Produce, InitProducerId}
+use Rattle.kp_core.specs.Requesting.{Packet}
 use Rattle.kp_world.specs.declared.event.Event.{Event}
 use Rattle.kp_world.specs.declared.event.Event.TheVariants as event
 use Rattle.kp_world.specs.declared.event.Treatment.TheVariants.{Judged}
@@ -34,17 +35,29 @@ log_of w x = log_at x.partition w.logs
 abbrev part_came : World → Sending → Answered → History → Delivery
 part_came w x answer log = record { logs = slice_set w.logs x.partition log; ids = w.ids; content = Batches ((record { partition = x.partition; answer = answer }) ∷ []) }
 
-abbrev chosen : Choice → World → Demand → Delivery
+abbrev chosen : Choice → World → Demand Sending → Delivery
 chosen Append w (Produce (x ∷ [])) = part_came w x (record { code = pos 0; base = pos (length (log_of w x).records) }) (with_batch (sent_of x.batch) (log_of w x))
 chosen AppendLate w (Produce (x ∷ [])) = part_came w x (record { code = pos 7; base = negsuc 0 }) (with_batch (sent_of x.batch) (log_of w x))
 chosen (Repeat offset) w (Produce (x ∷ [])) = part_came w x (record { code = pos 0; base = pos offset }) (log_of w x)
 chosen (Forgotten place) w (Produce (x ∷ [])) = part_came w x (record { code = pos 46; base = negsuc 0 }) (log_of w x)
 chosen choice w d = id_delivered Judged w
 
+-- a test that passes, as a type that is computed and has no value to write out
+abbrev pub Holds : Bool → Type 0
+Holds true = Unit {0}
+Holds false = ⊥
+
+is_equal : (m n : ℕ) → Holds (m == n) → m ≡ n
+is_equal m n h = at_test (m == n) refl h
+  where
+    at_test : (b : Bool) → (m == n) ≡ b → Holds b → m ≡ n
+    at_test true is h' = eqb-true m n is
+    at_test false is h' = absurd h'
+
 -- it may do so
-abbrev pub MayChoose : Choice → World → Demand → Type 0
-MayChoose Append w (Produce (x ∷ [])) = count_of (pos x.batch.id) (log_of w x).records ≡ x.batch.sequence
-MayChoose AppendLate w (Produce (x ∷ [])) = count_of (pos x.batch.id) (log_of w x).records ≡ 0
+abbrev pub MayChoose : Choice → World → Demand Sending → Type 0
+MayChoose Append w (Produce (x ∷ [])) = Holds (count_of (pos x.batch.id) (log_of w x).records == x.batch.sequence)
+MayChoose AppendLate w (Produce (x ∷ [])) = Holds (count_of (pos x.batch.id) (log_of w x).records == 0)
 MayChoose (Repeat offset) w (Produce (x ∷ [])) =
     ((log_of w x).records ≡ take offset (log_of w x).records ++ (stored_of (sent_of x.batch) ++ drop (offset + length x.batch.items) (log_of w x).records))
     × (length (take offset (log_of w x).records) ≡ offset)
@@ -72,15 +85,15 @@ is_fresh (d ∷ ids) id e = at_test (d == id) refl e (λ e'. is_fresh ids id e')
     at_test true is e' later = absurd cc
     at_test false is e' later = (λ (same : d ≡ id). absurd (true≢false (sym (eq-eqb d id same) ∙ is)), later e')
 
-is_honest : (c : Choice) (w : World) (d : Demand) → MayChoose c w d → Delivers w d (chosen c w d)
+is_honest : (c : Choice) (w : World) (d : Demand Sending) → MayChoose c w d → Delivers w d (chosen c w d)
 unfolding Delivers
 is_honest Append w (Produce (x ∷ [])) e = part_delivers w x _ _ (record {
-  change = inr (inl e, refl);
-  stands = λ none. record { before = (log_of w x).records; after = []; split = ap (λ z. (log_of w x).records ++ z) (sym (append-nil (stored_of (sent_of x.batch)))); offset = refl; place = e };
+  change = inr (inl (is_equal _ _ e), refl);
+  stands = λ none. record { before = (log_of w x).records; after = []; split = ap (λ z. (log_of w x).records ++ z) (sym (append-nil (stored_of (sent_of x.batch)))); offset = refl; place = is_equal _ _ e };
   is_old = λ old. absurd (omega (arith, ints, old));
 })
 is_honest AppendLate w (Produce (x ∷ [])) e =
-    part_delivers w x _ _ (record { change = inr (inr e, refl); stands = λ none. absurd (omega (arith, ints, none)); is_old = λ old. absurd (omega (arith, ints, old)) })
+    part_delivers w x _ _ (record { change = inr (inr (is_equal _ _ e), refl); stands = λ none. absurd (omega (arith, ints, none)); is_old = λ old. absurd (omega (arith, ints, old)) })
 is_honest (Repeat offset) w (Produce (x ∷ [])) e = part_delivers w x _ _ (record {
   change = inl refl;
   stands = λ none. record { before = _; after = _; split = e.0; offset = ap pos (sym e.1); place = e.2 };
@@ -108,7 +121,7 @@ is_honest (Forgotten place) w (InitProducerId p) e = absurd e
 
 -- ---- a run, event by event, with these choices
 
-abbrev came : Choice → World → Option Outgoing → World
+abbrev came : Choice → World → Option Packet → World
 came c w (Some o) = with_delivery o (chosen c w o.demand) w
 came c w None = w
 
@@ -141,7 +154,7 @@ are_there producer cs [] w = true
 are_there producer cs (e ∷ es) w = is_there producer e w && are_there producer (others_of e cs) es (next producer (first_of cs) e w)
 
 -- each choice may be made
-abbrev MayCome : Choice → World → Option Outgoing → Type 0
+abbrev MayCome : Choice → World → Option Packet → Type 0
 MayCome c w (Some o) = MayChoose c w o.demand
 MayCome c w None = ⊥
 
@@ -154,7 +167,7 @@ goes_on : (o : Option World) (w : World) (later : Bool) → is_some o && later �
 goes_on (Some v) w later e = (refl, e)
 goes_on None w later e = absurd cc
 
-arrives : (c : Choice) (k : ℕ) (w : World) (o : Option Outgoing) → slice_get w.packets k ≡ o → MayCome c w o → Arrives w k (came c w o)
+arrives : (c : Choice) (k : ℕ) (w : World) (o : Option Packet) → slice_get w.packets k ≡ o → MayCome c w o → Arrives w k (came c w o)
 arrives c k w (Some o) is h = record { packet = o; went_out = is; delivery = chosen c w o.demand; honest = is_honest c w o.demand h; after_is = refl }
 arrives c k w None is h = absurd h
 

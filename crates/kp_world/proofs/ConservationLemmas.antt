@@ -10,20 +10,23 @@ use Rattle.kp_accum.specs.declared.item.Item.{Item}
 use Rattle.kp_accum.specs.Queue.{Pending, marked_by_flush}
 use Rattle.kp_accum.specs.Ready.{is_late}
 use Rattle.kp_frames.specs.declared.produce.PartitionProduceResponse.{PartitionProduceResponse}
+use Rattle.kp_core.proofs.OutcomeLemmas.{by_attempt}
+use Rattle.kp_core.specs.Fence.{fence, give_up}
+use Rattle.kp_core.specs.Tick.{heed_deadlines}
 use Rattle.kp_core.specs.declared.outcome.Outcome.{Outcome}
 use Rattle.kp_core.specs.declared.outcome.Outcome.TheVariants.{Unknown, DeliveredNoOffset, Delivered, Rejected, Unsent}
 use Rattle.kp_core.specs.declared.outcome.Reason.{Reason}
 use Rattle.kp_core.specs.declared.outcome.Reason.TheVariants as reason
-use Rattle.kp_core.specs.declared.verdict.Verdict.{Verdict}
-use Rattle.kp_core.specs.declared.verdict.Verdict.TheVariants.{Stored, Duplicate, Retry, Reject}
-use Rattle.kp_core.specs.Answered.{without_attempt, acknowledged, to_retry, waiting_since, settled, answered_if, answered, verdict_of}
-use Rattle.kp_core.specs.Attempts.{awaits, awaiting, dropped_batch, without_attempts}
-use Rattle.kp_core.specs.Fence.{told_given_up, fenced, given_up}
-use Rattle.kp_core.specs.Flush.{marked_open, with_marks}
+use Rattle.kp_core.specs.declared.meaning.Meaning.{Meaning}
+use Rattle.kp_core.specs.declared.meaning.Meaning.TheVariants.{Stored, Duplicate, Retry, Reject}
+use Rattle.kp_core.specs.Attempts.{awaits, awaiting}
+use Rattle.kp_core.specs.Dropping.{drop_attempt, drop_attempts}
+use Rattle.kp_core.specs.Flush.{mark_open, mark}
 use Rattle.kp_core.specs.Partitions.{items_open, items_queued, untold}
-use Rattle.kp_core.specs.Records.{Batch, Open, Partition, Told}
+use Rattle.kp_core.specs.Records.{HandedBatch, Open, Partition, Told}
+use Rattle.kp_core.specs.Settling.{without_attempt, retry_later, put_off, meaning_of, acknowledge, settle_by, settle_batch}
 use Rattle.kp_core.specs.Telling.{told_all, told_offsets}
-use Rattle.kp_core.specs.Tick.{late_front, behind_late, expired_front, is_open_late, passed}
+use Rattle.kp_core.specs.Tick.{late_front, behind_late, expire_front, is_open_late}
 use Rattle.kp_world.specs.Accounts.{is_unsent, unsent_among}
 use Rattle.std.proofs.lemmas.List.Concat.{flat_map-append}
 use Rattle.kp_world.proofs.KeepingLemmas.{same_waiting}
@@ -33,7 +36,7 @@ use Rattle.kp_log.proofs.PlaceLemmas.{In, In-from_contains}
 use Rattle.std.proofs.lemmas.Bool.{not_from_false}
 use Rattle.kp_world.proofs.WeightLemmas.{weigh, weigh-append, none_counted}
 use Rattle.kp_core.proofs.ListLemmas.{all_flat_map}
-use Rattle.kp_world.proofs.ListLemmas.{all_back, all_front, all_say, all_weaker}
+use Rattle.kp_core.proofs.ListLemmas.{all_back, all_front, all_say, all_weaker}
 use Rattle.kp_world.proofs.ListLemmas.{found_in, left_in}
 use Rattle.kp_wire.proofs.ListLemmas.{all_append}
 
@@ -85,7 +88,7 @@ attempt_count k os = weigh (attempts_of k) os
 
 open_map : (f : Open → Open) → ((o : Open) → (f o).batch ≡ o.batch) → (os : List Open) → items_open (map f os) ≡ items_open os
 open_map f same [] = refl
-open_map f same (o ∷ os) = ap (λ (b : Batch). b.items ++ items_open (map f os)) (same o) ∙ ap (λ r. o.batch.items ++ r) (open_map f same os)
+open_map f same (o ∷ os) = ap (λ (b : HandedBatch). b.items ++ items_open (map f os)) (same o) ∙ ap (λ r. o.batch.items ++ r) (open_map f same os)
 
 -- what holds of all items holds of those of each batch
 open_part : (P : Item → Type 0) (os : List Open) (o : Open) → In o os → AllByRecursion P (items_open os) → AllByRecursion P o.batch.items
@@ -144,54 +147,56 @@ tells_same t t' queue same = record {
 pub tells_nothing : (t : Partition) → Tells t [] t
 tells_nothing t = tells_same t t refl refl
 
-pub tells_dropped : (now : ℕ) (t : Partition) → Tells t [] (without_attempts now t)
+pub tells_dropped : (now : ℕ) (t : Partition) → Tells t [] (drop_attempts now t)
 unfolding untold
 tells_dropped now t =
-    tells_same t (without_attempts now t) refl (ap (λ r. r ++ items_queued t.queue) (open_map (dropped_batch now) (λ o. refl) t.open_batches))
+    tells_same t (drop_attempts now t) refl (ap (λ r. r ++ items_queued t.queue) (open_map (drop_attempt now) (λ o. refl) t.open_batches))
 
 queued_map : (q : List Pending) → items_queued (map marked_by_flush q) ≡ items_queued q
 queued_map [] = refl
 queued_map (b ∷ q) = ap (λ r. b.items ++ r) (queued_map q)
 
-pub tells_marked : (t : Partition) → Tells t [] (with_marks t)
+pub tells_marked : (t : Partition) → Tells t [] (mark t)
 unfolding untold
 tells_marked t =
-    tells_same t (with_marks t) (sym (queued_map t.queue))
-    (ap (λ r. r ++ items_queued (map marked_by_flush t.queue)) (open_map marked_open (λ o. refl) t.open_batches) ∙ ap (λ r. items_open t.open_batches ++ r) (queued_map t.queue))
+    tells_same t (mark t) (sym (queued_map t.queue))
+    (ap (λ r. r ++ items_queued (map marked_by_flush t.queue)) (open_map mark_open (λ o. refl) t.open_batches) ∙ ap (λ r. items_open t.open_batches ++ r) (queued_map t.queue))
 
 -- ---- giving up
 
-given_up_items : (why : Reason) (t : Partition) → items_told (told_given_up why t) ≡ items_open t.open_batches ++ items_queued t.queue
+given_up_items : (why : Reason) (t : Partition) → items_told (give_up why t).told ≡ items_open t.open_batches ++ items_queued t.queue
+unfolding give_up
 given_up_items why t =
     map-append (λ (x : Told). x.item) (told_all Unknown (items_open t.open_batches)) (told_all (Unsent why) (items_queued t.queue))
     ∙ ap (λ r. r ++ items_told (told_all (Unsent why) (items_queued t.queue))) (told_all_items Unknown (items_open t.open_batches))
     ∙ ap (λ r. items_open t.open_batches ++ r) (told_all_items (Unsent why) (items_queued t.queue))
 
-given_up_unsent : (why : Reason) (t : Partition) → unsent_among (told_given_up why t) ≡ items_queued t.queue
+given_up_unsent : (why : Reason) (t : Partition) → unsent_among (give_up why t).told ≡ items_queued t.queue
+unfolding give_up
 given_up_unsent why t =
     unsent-append (told_all Unknown (items_open t.open_batches)) (told_all (Unsent why) (items_queued t.queue))
     ∙ ap (λ r. r ++ unsent_among (told_all (Unsent why) (items_queued t.queue))) (unsent_none Unknown (items_open t.open_batches) refl)
     ∙ unsent_all (Unsent why) (items_queued t.queue) refl
 
-tells_emptied : (why : Reason) (t t' : Partition) → items_queued t'.queue ≡ [] → untold t' ≡ [] → Tells t (told_given_up why t) t'
+tells_emptied : (why : Reason) (t t' : Partition) → items_queued t'.queue ≡ [] → untold t' ≡ [] → Tells t (give_up why t).told t'
 unfolding untold
 tells_emptied why t t' queue none = record {
-  queue = sym (ap (λ r. unsent_among (told_given_up why t) ++ r) queue ∙ append-nil (unsent_among (told_given_up why t)) ∙ given_up_unsent why t);
+  queue = sym (ap (λ r. unsent_among (give_up why t).told ++ r) queue ∙ append-nil (unsent_among (give_up why t).told) ∙ given_up_unsent why t);
   told_from = λ P h. subst (AllByRecursion P) (sym (given_up_items why t)) h;
   left_from = λ P h. subst (AllByRecursion P) (sym none) tt;
   weighs = λ f.
-      let told : weigh f (items_told (told_given_up why t)) ≡ weigh f (items_open t.open_batches ++ items_queued t.queue) = ap (weigh f) (given_up_items why t) in
+      let told : weigh f (items_told (give_up why t).told) ≡ weigh f (items_open t.open_batches ++ items_queued t.queue) = ap (weigh f) (given_up_items why t) in
       let left : weigh f (items_open t'.open_batches ++ items_queued t'.queue) ≡ 0 = ap (weigh f) none in
       omega (arith, told, left);
 }
 
-tells_fenced : (t : Partition) → Tells t (fenced t).told (fenced t).after
-unfolding fenced untold
-tells_fenced t = tells_emptied reason.Fenced t (fenced t).after refl refl
+tells_fenced : (t : Partition) → Tells t (fence t).told (fence t).after
+unfolding fence give_up untold
+tells_fenced t = tells_emptied reason.Fenced t (fence t).after refl refl
 
-pub tells_given_up : (t : Partition) → Tells t (given_up t).told (given_up t).after
-unfolding given_up untold
-tells_given_up t = tells_emptied reason.Ended t (given_up t).after refl refl
+pub tells_given_up : (why : Reason) (t : Partition) → Tells t (give_up why t).told (give_up why t).after
+unfolding give_up untold
+tells_given_up why t = tells_emptied why t (give_up why t).after refl refl
 
 -- ---- expiry
 
@@ -205,7 +210,7 @@ late_and_behind c now (b ∷ q) = at_test (is_late c now b) (late_and_behind c n
     at_test true e = ap (λ r. b.items ++ r) e ∙ sym (append_assoc b.items (items_queued (late_front c now q)) (items_queued (behind_late c now q)))
     at_test false e = refl
 
-tells_expired : (c : Config) (now : ℕ) (t : Partition) → Tells t (expired_front c now t).told (expired_front c now t).after
+tells_expired : (c : Config) (now : ℕ) (t : Partition) → Tells t (expire_front c now t).told (expire_front c now t).after
 unfolding untold
 tells_expired c now t =
     let late = items_queued (late_front c now t.queue) in
@@ -223,20 +228,20 @@ tells_expired c now t =
           omega (arith, told, before, after, parts);
     }
 
-pub tells_passed : (c : Config) (now : ℕ) (t : Partition) → Tells t (passed c now t).told (passed c now t).after
-unfolding passed
+pub tells_passed : (c : Config) (now : ℕ) (t : Partition) → Tells t (heed_deadlines c now t).told (heed_deadlines c now t).after
+unfolding heed_deadlines
 tells_passed c now t = at_test (list_any (is_open_late c now) t.open_batches)
   where
-    at_test : (late : Bool) → Tells t (if late then fenced t else expired_front c now t).told (if late then fenced t else expired_front c now t).after
+    at_test : (late : Bool) → Tells t (if late then fence t else expire_front c now t).told (if late then fence t else expire_front c now t).after
     at_test true = tells_fenced t
     at_test false = tells_expired c now t
 
 -- ---- an answer
 
-tells_retry : (now k : ℕ) (t : Partition) → Tells t [] (to_retry now k t).after
+tells_retry : (now k : ℕ) (t : Partition) → Tells t [] (retry_later now k t).after
 unfolding untold
 tells_retry now k t =
-    tells_same t (to_retry now k t).after refl (ap (λ r. r ++ items_queued t.queue) (open_map (waiting_since now k) (same_waiting now k) t.open_batches))
+    tells_same t (retry_later now k t).after refl (ap (λ r. r ++ items_queued t.queue) (open_map (put_off now k) (same_waiting now k) t.open_batches))
 
 tells_without : (k : ℕ) (t : Partition) (o : Open) (told : List Told) → attempt_count k t.open_batches ≤ 1 → awaiting k t ≡ Some o → unsent_among told ≡ [] → items_told told ≡ o.batch.items
     → Tells t told (without_attempt k t)
@@ -276,28 +281,28 @@ acknowledged_as t told u v queue opens c = record {
   weighs = λ f. ap (λ (r : List Item). weigh f (items_told told) + weigh f r) (sym (ap (λ (os : List Open). items_open os ++ items_queued u.queue) opens ∙ ap (λ (q : List Pending). items_open v.open_batches ++ items_queued q) queue)) ∙ c.weighs f;
 }
 
-pub tells_answered : (now k : ℕ) (t : Partition) (a : PartitionProduceResponse) → ((o : Open) → awaiting k t ≡ Some o → attempt_count k t.open_batches ≤ 1) → Tells t (answered now k t a).told (answered now k t a).after
-unfolding answered
+pub tells_answered : (now k : ℕ) (t : Partition) (a : PartitionProduceResponse) → ((o : Open) → awaiting k t ≡ Some o → attempt_count k t.open_batches ≤ 1) → Tells t (settle_batch now k t a).told (settle_batch now k t a).after
+unfolding settle_batch
 tells_answered now k t a one = at_option (awaiting k t) refl
   where
-    at_verdict : (o : Open) → awaiting k t ≡ Some o → (v : Verdict) → Tells t (settled now k t o a v).told (settled now k t o a v).after
-    at_verdict o at Stored =
+    at_meaning : (o : Open) → awaiting k t ≡ Some o → (v : Meaning) → Tells t (settle_by now k t o a v).told (settle_by now k t o a v).after
+    at_meaning o at Stored =
         let told = told_offsets a.base_offset o.batch.items in
         let offset : ℕ → Outcome = λ n. Delivered (a.base_offset +ℤ pos n) in
-        acknowledged_as t told (without_attempt k t) (acknowledged k t o told).after refl refl
+        acknowledged_as t told (without_attempt k t) (acknowledge k t o told).after refl refl
         (tells_without k t o told (one o at) at (unsent_offsets offset (λ n. refl) 0 o.batch.items) (told_offsets_items offset 0 o.batch.items))
-    at_verdict o at Duplicate =
+    at_meaning o at Duplicate =
         let told = told_all DeliveredNoOffset o.batch.items in
-        acknowledged_as t told (without_attempt k t) (acknowledged k t o told).after refl refl
+        acknowledged_as t told (without_attempt k t) (acknowledge k t o told).after refl refl
         (tells_without k t o told (one o at) at (unsent_none DeliveredNoOffset o.batch.items refl) (told_all_items DeliveredNoOffset o.batch.items))
-    at_verdict o at Retry = tells_retry now k t
-    at_verdict o at Reject =
+    at_meaning o at Retry = tells_retry now k t
+    at_meaning o at Reject =
         let told = told_all (Rejected a.error_code) o.batch.items in
         let none = unsent_none (Rejected a.error_code) o.batch.items refl in
-        tells_both t (without_attempt k t) (fenced (without_attempt k t)).after told (fenced (without_attempt k t)).told
+        tells_both t (without_attempt k t) (fence (without_attempt k t)).after told (fence (without_attempt k t)).told
         (tells_without k t o told (one o at) at none (told_all_items (Rejected a.error_code) o.batch.items))
         (tells_fenced (without_attempt k t))
 
-    at_option : (o : Option Open) → awaiting k t ≡ o → Tells t (answered_if now k t a o).told (answered_if now k t a o).after
+    at_option : (o : Option Open) → awaiting k t ≡ o → Tells t (by_attempt now k t a o).told (by_attempt now k t a o).after
     at_option None at = tells_nothing t
-    at_option (Some o) at = at_verdict o at (verdict_of a.error_code)
+    at_option (Some o) at = at_meaning o at (meaning_of a.error_code)

@@ -11,14 +11,15 @@ use Rattle.kp_log.specs.BrokerStep.{Stands}
 use Rattle.kp_log.specs.History.{History}
 use Rattle.kp_log.proofs.OffsetLemmas.{stands_still}
 use Rattle.kp_log.proofs.PlaceLemmas.{In, In-nil, In-from_contains}
+use Rattle.kp_core.proofs.OutcomeLemmas.{entries_of_one}
 use Rattle.kp_core.specs.declared.attempt.Attempt.TheVariants.{InFlight}
 use Rattle.kp_core.specs.declared.outcome.Outcome.TheVariants.{Delivered, DeliveredNoOffset}
-use Rattle.kp_core.specs.Answered.{verdict_of}
 use Rattle.kp_core.specs.Causes.{IsAnswered}
-use Rattle.kp_core.specs.OutcomeRule.{Call, TellsBy, IsDelivered, IsDuplicate, MayTell}
-use Rattle.kp_core.specs.OutcomeRule as call
+use Rattle.kp_core.specs.OutcomeRule.{Telling, TellsBy, IsDelivered, IsDuplicate, MayTell}
 use Rattle.kp_core.specs.Partitions.{partition_at}
-use Rattle.kp_core.specs.Records.{Batch, Open, Partition, Core, Told}
+use Rattle.kp_core.specs.Records.{HandedBatch, Open, Partition, Core, Told}
+use Rattle.kp_core.specs.Settling.{meaning_of}
+use Rattle.kp_core.specs.OutcomeRule as call
 use Rattle.kp_world.specs.Accounts.{items_handed}
 use Rattle.kp_world.specs.Client.{handed_at}
 use Rattle.kp_world.specs.Delivering.{log_at}
@@ -37,9 +38,9 @@ use Rattle.kp_world.proofs.ListLemmas.{all_at}
 -- ---- what is told
 
 -- The item was handed over in a batch that stands in the log, and this is its record's offset.
-pub record DeliveredAt (n : ℕ) (handed : List (List Batch)) (logs : List History) (i : Item) (offset : ℤ) : Type 0 where
+pub record DeliveredAt (n : ℕ) (handed : List (List HandedBatch)) (logs : List History) (i : Item) (offset : ℤ) : Type 0 where
   pub within : i.partition < n
-  pub batch : Batch
+  pub batch : HandedBatch
   pub known : In batch (handed_at i.partition handed)
   pub front : List Item
   pub back : List Item
@@ -48,15 +49,15 @@ pub record DeliveredAt (n : ℕ) (handed : List (List Batch)) (logs : List Histo
   pub stands : Stands (log_at i.partition logs).records (sent_of batch) base
   pub offset_is : offset ≡ base +ℤ pos (length front)
 
-pub record Truly (n : ℕ) (handed : List (List Batch)) (logs : List History) (t : Told) : Type 0 where
+pub record Truly (n : ℕ) (handed : List (List HandedBatch)) (logs : List History) (t : Told) : Type 0 where
   pub delivered : (offset : ℤ) → t.outcome ≡ Delivered offset → DeliveredAt n handed logs t.item offset
   pub offset : t.outcome ≡ DeliveredNoOffset → ⊥
 
-abbrev pub AllTruly : ℕ → List (List Batch) → List History → List Told → Type 0
+abbrev pub AllTruly : ℕ → List (List HandedBatch) → List History → List Told → Type 0
 AllTruly n handed logs told = (t : Told) → In t told → Truly n handed logs t
 
 -- more was handed over, and the logs have grown
-pub truly_grown : (n : ℕ) (handed handed' : List (List Batch)) (logs logs' : List History) → ((p : ℕ) (b : Batch) → p < n → In b (handed_at p handed) → In b (handed_at p handed'))
+pub truly_grown : (n : ℕ) (handed handed' : List (List HandedBatch)) (logs logs' : List History) → ((p : ℕ) (b : HandedBatch) → p < n → In b (handed_at p handed) → In b (handed_at p handed'))
     → ((p : ℕ) → p < n → (more : List Record) × ((log_at p logs').records ≡ (log_at p logs).records ++ more)) → (t : Told) → Truly n handed logs t → Truly n handed' logs' t
 truly_grown n handed handed' logs logs' more grown t k = record {
   delivered = λ o e. let d : DeliveredAt n handed logs t.item o = k.delivered o e in let g = grown t.item.partition d.within in record {
@@ -76,10 +77,10 @@ truly_grown n handed handed' logs logs' more grown t k = record {
 -- ---- where an item is among those that were handed over
 
 -- the item's place among all that were handed over
-pub items_split : (handed : List Batch) (b : Batch) (i : Item) (front back : List Item) → (known : In b handed) → b.items ≡ front ++ i ∷ back
+pub items_split : (handed : List HandedBatch) (b : HandedBatch) (i : Item) (front back : List Item) → (known : In b handed) → b.items ≡ front ++ i ∷ back
     → items_of handed ≡ (items_of known.earlier ++ front) ++ i ∷ (back ++ items_of known.later)
 items_split handed b i front back known e =
-    ap items_of known.split ∙ flat_map-append (λ (x : Batch). x.items) known.earlier (b ∷ known.later) ∙ ap (λ z. items_of known.earlier ++ (z ++ items_of known.later)) e
+    ap items_of known.split ∙ flat_map-append (λ (x : HandedBatch). x.items) known.earlier (b ∷ known.later) ∙ ap (λ z. items_of known.earlier ++ (z ++ items_of known.later)) e
     ∙ ap (λ z. items_of known.earlier ++ z) (append_assoc front (i ∷ back) (items_of known.later)) ∙ sym (append_assoc (items_of known.earlier) front (i ∷ (back ++ items_of known.later)))
 
 -- ---- a reply that settles a batch
@@ -104,8 +105,9 @@ pub record Heard (n : ℕ) (w : World) (r : Reply) (p : ℕ) (o : Open) (answer 
 pub heard : (n : ℕ) (w : World) (r : Reply) (p : ℕ) (o : Open) (answer : PartitionProduceResponse) → IsLawful n w → IsAnswered w.core (response_of r) p o answer → Heard n w r p o answer
 heard n w r p o answer g x =
     let there : In o (partition_at p w.core.partitions).open_batches = In-from_contains (partition_at p w.core.partitions).open_batches o x.is_open in
-    let h = parts_heard w.core.names.topic r.content x.produce x.answers x.body_is x.topic in
-    let from = from_map part_response h.0 answer (subst (In answer) (sym h.2) (In-from_contains x.answers answer x.has)) in
+    let h = parts_heard r.content x.produce x.body_is in
+    let entries = h.2 ∙ entries_of_one x.produce x.topic x.topics in
+    let from = from_map part_response h.0 answer (subst (In answer) (sym entries) (In-from_contains x.topic.partitions answer x.has)) in
     record {
       within = subst (λ (m : ℕ). p < m) g.count (open_there w.core.partitions p o there);
       there = there;
@@ -128,7 +130,7 @@ delivered_at n w r i offset g a given d =
     let h = heard n w r p o s.answer g s.answered in
     let both = g.agree p h.within in
     let x = answered_batch p w.core.correlation r.correlation w.core.ended (partition_at p w.core.partitions) (handed_at p w.handed) (log_at p w.logs) w.packets w.replies r h.parts h.part both.steady given h.content refl h.known h.place o h.there h.flies in
-    let code = stored_code h.part.answer.code (sym (ap (λ (y : PartitionProduceResponse). verdict_of y.error_code) h.answer_is) ∙ s.means) in
+    let code = stored_code h.part.answer.code (sym (ap (λ (y : PartitionProduceResponse). meaning_of y.error_code) h.answer_is) ∙ s.means) in
     let known : In o.batch (handed_at p w.handed) = all_at (λ (y : Open). In y.batch (handed_at p w.handed)) (partition_at p w.core.partitions).open_batches o both.sound.opens h.there in
     let at = took o.batch.items s.place i s.item in
     let mine : i.partition ≡ p = all_at (λ (j : Item). j.partition ≡ p) (items_handed p w) i (handed_home p w a (subst (λ (m : ℕ). p < m) (sym g.count) h.within)) (record { earlier = items_of known.earlier ++ take s.place o.batch.items; later = at.0 ++ items_of known.later; split = items_split (handed_at p w.handed) o.batch i (take s.place o.batch.items) at.0 known at.2 }) in
@@ -140,7 +142,7 @@ delivered_at n w r i offset g a given d =
       back = at.0;
       items = at.2;
       base = h.part.answer.base;
-      stands = subst (λ (m : ℕ). Stands (log_at m w.logs).records (sent_of o.batch) h.part.answer.base) (sym mine) (subst (λ (b : Batch). Stands (log_at p w.logs).records (sent_of b) h.part.answer.base) x.1 (x.0.stored code));
+      stands = subst (λ (m : ℕ). Stands (log_at m w.logs).records (sent_of o.batch) h.part.answer.base) (sym mine) (subst (λ (b : HandedBatch). Stands (log_at p w.logs).records (sent_of b) h.part.answer.base) x.1 (x.0.stored code));
       offset_is = d.1 ∙ ap (λ (y : PartitionProduceResponse). y.base_offset +ℤ pos s.place) h.answer_is ∙ ap (λ (m : ℕ). h.part.answer.base +ℤ pos m) (sym (length-take-le s.place o.batch.items (omega (arith, at.1))));
     }
 
@@ -149,10 +151,10 @@ no_duplicate n w r i g given s =
     let p = s.partition in
     let h = heard n w r p s.batch s.answer g s.answered in
     old_not_in_flight p w.core.correlation r.correlation w.core.ended (partition_at p w.core.partitions) (handed_at p w.handed) (log_at p w.logs) w.packets w.replies r h.parts h.part (g.agree p h.within).steady given h.content refl h.known h.place
-    (duplicate_code h.part.answer.code (sym (ap (λ (y : PartitionProduceResponse). verdict_of y.error_code) h.answer_is) ∙ s.means)) s.batch h.there h.flies
+    (duplicate_code h.part.answer.code (sym (ap (λ (y : PartitionProduceResponse). meaning_of y.error_code) h.answer_is) ∙ s.means)) s.batch h.there h.flies
 
 -- what only a reply tells is told by one that was given
-by_reply : (P : Core → Response → Item → Type 0) (w : World) (i : Item) (c : Call) → IsMade w c → TellsBy P w.core c i → (r : Reply) × In r w.replies × P w.core (response_of r) i
+by_reply : (P : Core → Response → Item → Type 0) (w : World) (i : Item) (c : Telling) → IsMade w c → TellsBy P w.core c i → (r : Reply) × In r w.replies × P w.core (response_of r) i
 by_reply P w i (call.Reply now response) made k = (made.0, made.1, subst (λ (x : Response). P w.core x i) made.2 k)
 by_reply P w i (call.Append j) made k = absurd k
 by_reply P w i (call.Tick now) made k = absurd k

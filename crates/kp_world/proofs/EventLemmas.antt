@@ -4,14 +4,15 @@ use Rattle.std.specs.Prelude.{Result, Ok, Err, Option, if◌then◌else◌, ◌&
 use Rattle.std.proofs.lemmas.Bool.{and_parts, ltb-true}
 use Rattle.kp_accum.specs.declared.fault.AppendFault.{AppendFault}
 use Rattle.kp_accum.specs.declared.item.Item.{Item}
+use Rattle.kp_core.specs.Flush.{flush_step}
+use Rattle.kp_core.specs.Replies.{response_step}
+use Rattle.kp_core.specs.Requesting.{request_step}
 use Rattle.kp_core.specs.declared.fault.CoreFault.{CoreFault}
 use Rattle.kp_core.specs.declared.fault.CoreFault.TheVariants as fault
-use Rattle.kp_core.specs.Appending.{appended}
+use Rattle.kp_core.specs.Appending.{append_step}
+use Rattle.kp_core.specs.Dropping.{disconnect_step}
 use Rattle.kp_core.specs.Records.{Core}
-use Rattle.kp_core.specs.Flush.{flushed}
-use Rattle.kp_core.specs.Replies.{replied}
-use Rattle.kp_core.specs.Requesting.{Outgoing, requested}
-use Rattle.kp_core.specs.Tick.{disconnected}
+use Rattle.kp_core.specs.Requesting.{Packet}
 use Rattle.kp_world.specs.declared.event.Event.{Event}
 use Rattle.kp_world.specs.declared.event.Event.TheVariants as event
 use Rattle.kp_world.specs.Accepting.{with_taken, taking_of, accepted_by, taken_by, item_for, is_large, with_accepted, accepting, taking}
@@ -26,8 +27,8 @@ use Rattle.kp_world.specs.World.{Reply, World}
 
 -- ---- sending and taking
 
-pub at_sent : (P : World → Type 0) (w : World) (core : Core) (answer : Result (Option Outgoing) CoreFault) → ((line : Line) → P (noted core (line ∷ []) [] w))
-    → ((o : Outgoing) (line : Line) → P (noted core (line ∷ []) [] (with_packet o w))) → P (sending w core answer)
+pub at_sent : (P : World → Type 0) (w : World) (core : Core) (answer : Result (Option Packet) CoreFault) → ((line : Line) → P (noted core (line ∷ []) [] w))
+    → ((o : Packet) (line : Line) → P (noted core (line ∷ []) [] (with_packet o w))) → P (sending w core answer)
 at_sent P w core (Ok (Some o)) none out = out o (sent_line (length w.packets) o.demand)
 at_sent P w core (Ok None) none out = none Idle
 at_sent P w core (Err fault.Ended) none out = none Ended
@@ -35,11 +36,11 @@ at_sent P w core (Err fault.OutOfMemory) none out = none Idle
 at_sent P w core (Err fault.CorrelationSpent) none out = none Idle
 at_sent P w core (Err (fault.ReplyFault x)) none out = none Idle
 
-pub at_taken : (P : World → Type 0) (s : ℕ) (i : Item) (w : World) → (let step = appended i w.core in P (noted step.after [] step.told (with_taken s w)))
-    → (let step = appended i w.core in P (noted step.after (Full s ∷ []) step.told w)) → P (taking s (Some i) w)
-at_taken P s i w joined full = at_answer (appended i w.core).answer
+pub at_taken : (P : World → Type 0) (s : ℕ) (i : Item) (w : World) → (let step = append_step i w.core in P (noted step.after [] step.told (with_taken s w)))
+    → (let step = append_step i w.core in P (noted step.after (Full s ∷ []) step.told w)) → P (taking s (Some i) w)
+at_taken P s i w joined full = at_answer (append_step i w.core).answer
   where
-    at_answer : (x : Result (Unit {0}) AppendFault) → P (taking_of s (appended i w.core).after (appended i w.core).told x w)
+    at_answer : (x : Result (Unit {0}) AppendFault) → P (taking_of s (append_step i w.core).after (append_step i w.core).told x w)
     at_answer (Ok done) = joined
     at_answer (Err refusal) = full
 
@@ -53,13 +54,13 @@ pub record OfEvent (P : World → Type 0) (w : World) : Type 0 where
   pub taken : (s : ℕ) (i : Item) → s < length w.accepted → slice_get (accepted_by s w) (taken_by s w) ≡ Some i → P (taking s (Some i) w)
   pub now : (moment : ℕ) → P (only_noted [] (record w { moment = moment }))
   pub tick : P (ticking w)
-  pub send : let step = requested w.moment w.core in P (sending w step.after step.answer)
+  pub send : let step = request_step w.moment w.core in P (sending w step.after step.answer)
   pub reply : (j : ℕ) (r : Reply) → slice_get w.replies j ≡ Some r
-      → let step = replied w.moment (response_of r) w.core in P (noted step.after (reply_line j step.answer) step.told w)
-  pub lost : P (noted (disconnected w.moment w.core) [] [] w)
+      → let step = response_step w.moment (response_of r) w.core in P (noted step.after (reply_line j step.answer) step.told w)
+  pub lost : P (noted (disconnect_step w.moment w.core) [] [] w)
   pub close : P (closing w)
   pub end : P (ending w)
-  pub flush : P (noted (flushed w.core) (flush_line w.core ∷ []) [] w)
+  pub flush : P (noted (flush_step w.core) (flush_line w.core ∷ []) [] w)
 
 at_some : (P : World → Type 0) (x v : World) → Some x ≡ Some v → P x → P v
 at_some P x v e h = let same : x ≡ v = cc in subst P same h
@@ -110,7 +111,7 @@ at_client P w c (event.Other p n) v e = absurd cc
 
 pub record OfStep (P : World → Type 0) (w : World) : Type 0 where
   pub client : OfEvent P w
-  pub arrives : (k : ℕ) (o : Outgoing) (d : Delivery) → slice_get w.packets k ≡ Some o → Delivers w o.demand d → P (with_delivery o d w)
+  pub arrives : (k : ℕ) (o : Packet) (d : Delivery) → slice_get w.packets k ≡ Some o → Delivers w o.demand d → P (with_delivery o d w)
   pub others : (p n : ℕ) → p < length w.logs → P (only_noted [] (record w { logs = logs_with_others p n w.logs }))
 
 pub at_step : (P : World → Type 0) (w : World) → OfStep P w → (e : Event) (v : World) → Steps w e v → P v

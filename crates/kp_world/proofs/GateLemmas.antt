@@ -1,7 +1,7 @@
 -- Once the gate is shut nothing is accepted.
 use Rattle.std.proofs.Common.{◌≡◌, true, List, ◌∷◌, refl, sym, ap, ◌∙◌}
+use Rattle.kp_core.specs.Requesting.{request_step}
 use Rattle.kp_core.specs.Records.{Core, Told}
-use Rattle.kp_core.specs.Requesting.{requested}
 use Rattle.kp_world.specs.declared.event.Event.{Event}
 use Rattle.kp_world.specs.declared.event.Event.TheVariants as event
 use Rattle.kp_world.specs.Client.{client, closing}
@@ -35,7 +35,7 @@ follows_event w = record {
   taken = λ s i here there. at_taken (Follows w) s i w (record { shut = λ h. h; accepted = λ h. refl }) (follows_noted _ _ _ w);
   now = λ moment. record { shut = λ h. h; accepted = λ h. refl };
   tick = follows_noted _ _ _ w;
-  send = let step = requested w.moment w.core in at_sent (Follows w) w step.after step.answer (λ line. follows_noted _ _ _ w) (λ o line. record { shut = λ h. h; accepted = λ h. refl });
+  send = let step = request_step w.moment w.core in at_sent (Follows w) w step.after step.answer (λ line. follows_noted _ _ _ w) (λ o line. record { shut = λ h. h; accepted = λ h. refl });
   reply = λ j r there. follows_noted _ _ _ w;
   lost = follows_noted _ _ _ w;
   close = record { shut = λ h. refl; accepted = λ h. refl };

@@ -10,31 +10,33 @@ use Rattle.kp_accum.specs.declared.flags.Flags.{Flags}
 use Rattle.kp_accum.specs.declared.item.Item.{Item}
 use Rattle.kp_accum.specs.Queue.{Pending}
 use Rattle.kp_log.proofs.PlaceLemmas.{In}
+use Rattle.kp_core.proofs.CallLemmas.{at_request}
+use Rattle.kp_core.proofs.SendingLemmas.{demand_is_sent, demand_is_distinct}
+use Rattle.kp_core.specs.Requesting.{request_step}
 use Rattle.kp_core.specs.Attempts.{is_waiting}
-use Rattle.kp_core.specs.HandingOver.{again_in, opened_in, handed_over_in, sent_again_in, sent_in}
+use Rattle.kp_core.specs.HandingOver.{again_in, opened_in, hand_over_in, send_again_in, send_in}
 use Rattle.kp_core.specs.MaySend.{sends}
-use Rattle.kp_core.specs.Next.{Sending, Demand, Produce, InitProducerId, flags_of, next_demand}
+use Rattle.kp_core.specs.Next.{Sending, flags_of, next_demand}
 use Rattle.kp_core.specs.Partitions.{new_partition, partition_at, items_open, items_queued, untold}
-use Rattle.kp_core.specs.Records.{Batch, Open, Partition, Request, Core, Told}
-use Rattle.kp_core.specs.Requesting.{Requested, partitions_in, request_of, requested, sent_out}
+use Rattle.kp_core.specs.Records.{Demand, Produce, InitProducerId, HandedBatch, Open, Partition, Core, Told}
+use Rattle.kp_core.specs.Requesting.{Requested, partitions_in, sent_out}
 use Rattle.kp_world.specs.Accepting.{for_partition}
 use Rattle.kp_world.specs.Accounts.{of_sender, told_in, unsent_among}
 use Rattle.kp_world.specs.Client.{grown_by, handed_at, with_sendings, with_packet, sent_line, sending}
 use Rattle.kp_world.specs.Line.{Idle, Ended}
 use Rattle.kp_world.specs.World.{World}
+use Rattle.kp_world.proofs.TellingLemmas.{HasDistinct}
 use Rattle.kp_world.proofs.AccountLemmas.{items_of, taken_for, all_taken, Accepts, Accounts, IsAccounted, sender-append, accounts_only}
 use Rattle.kp_world.proofs.ConservationLemmas.{items_told}
 use Rattle.kp_world.proofs.TakingLemmas.{weigh_same}
 use Rattle.kp_world.proofs.WeightLemmas.{weigh}
-use Rattle.kp_world.proofs.DistinctLemmas.{demand_is_distinct}
 use Rattle.kp_world.proofs.FateLemmas.{Fates, fates_handed_over}
 use Rattle.kp_world.proofs.RequestLemmas.{length-with_sendings, at_sent_out}
-use Rattle.kp_world.proofs.KeepingLemmas.{length-changed_at}
+use Rattle.kp_core.proofs.PartitionLemmas.{length-changed_at}
 use Rattle.kp_world.proofs.RequestLemmas.{grown_known, grown_new}
-use Rattle.kp_world.proofs.SendingLemmas.{find_open, demand_is_sent}
+use Rattle.kp_world.proofs.SendingLemmas.{find_open}
 use Rattle.kp_world.proofs.SoundLemmas.{Sound}
-use Rattle.kp_world.proofs.TellingLemmas.{Distinct, home_past}
-use Rattle.kp_core.proofs.CallLemmas.{at_requested}
+use Rattle.kp_world.proofs.TellingLemmas.{home_past}
 use Rattle.kp_log.specs.History.{History}
 use Rattle.kp_world.specs.Delivering.{log_at}
 use Rattle.kp_world.proofs.LawfulLemmas.{IsLawful, GoesAgain, GoesFirst, sends_cases}
@@ -43,30 +45,30 @@ use Rattle.kp_wire.proofs.ListLemmas.{all_append}
 -- ---- one partition
 
 -- The front of the queue, which may be nothing, has gone to what was handed over.
-pub record Goes (t : Partition) (handed : List Batch) (t' : Partition) (handed' : List Batch) : Type 0 where
+pub record Goes (t : Partition) (handed : List HandedBatch) (t' : Partition) (handed' : List HandedBatch) : Type 0 where
   pub front : List Item
   pub queue : items_queued t.queue ≡ front ++ items_queued t'.queue
   pub handed_items : items_of handed' ≡ items_of handed ++ front
   pub same : untold t' ≡ untold t
 
-goes_nowhere : (t : Partition) (handed : List Batch) → Goes t handed t handed
+goes_nowhere : (t : Partition) (handed : List HandedBatch) → Goes t handed t handed
 goes_nowhere t handed = record { front = []; queue = refl; handed_items = sym (append-nil (items_of handed)); same = refl }
 
-open_again : (k : ℕ) (os : List Open) → items_open (sent_again_in k os) ≡ items_open os
-unfolding sent_again_in
+open_again : (k : ℕ) (os : List Open) → items_open (send_again_in k os) ≡ items_open os
+unfolding send_again_in
 open_again k [] = refl
 open_again k (o ∷ os) = at_test (is_waiting o) (open_again k os)
   where
-    at_test : (b : Bool) → items_open (sent_again_in k os) ≡ items_open os → items_open (if b then again_in k o ∷ os else o ∷ sent_again_in k os) ≡ items_open (o ∷ os)
+    at_test : (b : Bool) → items_open (send_again_in k os) ≡ items_open os → items_open (if b then again_in k o ∷ os else o ∷ send_again_in k os) ≡ items_open (o ∷ os)
     at_test true e = refl
     at_test false e = ap (λ r. o.batch.items ++ r) e
 
 -- a batch goes out again
-goes_again : (k : ℕ) (ids : List ℕ) (t : Partition) (handed : List Batch) (h : History) (b : Batch) → Sound ids t handed h → GoesAgain k t b → Goes t handed (sent_in k t) (grown_by b handed)
+goes_again : (k : ℕ) (ids : List ℕ) (t : Partition) (handed : List HandedBatch) (h : History) (b : HandedBatch) → Sound ids t handed h → GoesAgain k t b → Goes t handed (send_in k t) (grown_by b handed)
 unfolding untold
 goes_again k ids t handed h b sound a =
-    let known : In b handed = subst (λ (x : Batch). In x handed) a.batch (find_open handed t.open_batches a.lowest a.waits sound.opens) in
-    subst (Goes t handed (sent_in k t)) (sym (grown_known b handed (sound.numbers b known))) (subst (λ (u : Partition). Goes t handed u handed) (sym a.after_is) (record {
+    let known : In b handed = subst (λ (x : HandedBatch). In x handed) a.batch (find_open handed t.open_batches a.lowest a.waits sound.opens) in
+    subst (Goes t handed (send_in k t)) (sym (grown_known b handed (sound.numbers b known))) (subst (λ (u : Partition). Goes t handed u handed) (sym a.after_is) (record {
       front = [];
       queue = refl;
       handed_items = sym (append-nil (items_of handed));
@@ -77,33 +79,33 @@ open_one_more : (os : List Open) (o : Open) → items_open (os ++ o ∷ []) ≡ 
 open_one_more os o = flat_map-append (λ (x : Open). x.batch.items) os (o ∷ []) ∙ ap (λ r. items_open os ++ r) (append-nil o.batch.items)
 
 -- the front batch is handed over
-goes_first : (k : ℕ) (ids : List ℕ) (c : Config) (t : Partition) (handed : List Batch) (h : History) (b : Batch) → Sound ids t handed h → GoesFirst k c t b → Goes t handed (sent_in k t) (grown_by b handed)
-unfolding handed_over_in untold
+goes_first : (k : ℕ) (ids : List ℕ) (c : Config) (t : Partition) (handed : List HandedBatch) (h : History) (b : HandedBatch) → Sound ids t handed h → GoesFirst k c t b → Goes t handed (send_in k t) (grown_by b handed)
+unfolding hand_over_in untold
 goes_first k ids c t handed h b sound a =
-    subst (Goes t handed (sent_in k t)) (sym (grown_new b handed (ap (λ (x : Batch). x.number) a.batch ∙ sound.number))) (subst (λ (u : Partition). Goes t handed u (handed ++ b ∷ [])) (sym a.after_is) (record {
+    subst (Goes t handed (send_in k t)) (sym (grown_new b handed (ap (λ (x : HandedBatch). x.number) a.batch ∙ sound.number))) (subst (λ (u : Partition). Goes t handed u (handed ++ b ∷ [])) (sym a.after_is) (record {
       front = a.front.items;
       queue = ap items_queued a.queue_is;
-      handed_items = flat_map-append (λ (x : Batch). x.items) handed (b ∷ []) ∙ ap (λ r. items_of handed ++ r) (append-nil b.items ∙ ap (λ (x : Batch). x.items) a.batch);
+      handed_items = flat_map-append (λ (x : HandedBatch). x.items) handed (b ∷ []) ∙ ap (λ r. items_of handed ++ r) (append-nil b.items ∙ ap (λ (x : HandedBatch). x.items) a.batch);
       same =
           ap (λ r. r ++ items_queued a.queue) (open_one_more t.open_batches (opened_in k t a.front))
           ∙ append_assoc (items_open t.open_batches) a.front.items (items_queued a.queue)
           ∙ ap (λ (q : List Pending). items_open t.open_batches ++ items_queued q) (sym a.queue_is);
     }))
 
-goes_out : (c : Config) (f : Flags) (now k : ℕ) (ids : List ℕ) (t : Partition) (handed : List Batch) (h : History) (b : Batch) → Sound ids t handed h → sends c f now t ≡ Some b → Goes t handed (sent_in k t) (grown_by b handed)
+goes_out : (c : Config) (f : Flags) (now k : ℕ) (ids : List ℕ) (t : Partition) (handed : List HandedBatch) (h : History) (b : HandedBatch) → Sound ids t handed h → sends c f now t ≡ Some b → Goes t handed (send_in k t) (grown_by b handed)
 goes_out c f now k ids t handed h b sound e = ⊎_elim (goes_again k ids t handed h b sound) (goes_first k ids c t handed h b sound) (sends_cases c f now k t b e)
 
 -- ---- all partitions
 
-accounts_sent : (now : ℕ) (s : Core) (accepted : List (List Item)) (taken : List ℕ) (handed : List (List Batch)) (told : List Told) (xs : List Sending)
+accounts_sent : (now : ℕ) (s : Core) (accepted : List (List Item)) (taken : List ℕ) (handed : List (List HandedBatch)) (told : List Told) (xs : List Sending)
     → Accounts s accepted taken handed told → (ids : List ℕ) (logs : List History) → ((p : ℕ) → p < length s.partitions → Sound ids (partition_at p s.partitions) (handed_at p handed) (log_at p logs)) → next_demand now s ≡ Some (Produce xs)
     → Accounts (sent_out now s (Produce xs)) accepted taken (with_sendings xs handed) told
 accounts_sent now s accepted taken handed told xs a ids logs sound e = record {
   taken_count = a.taken_count;
-  handed_count = length-with_sendings xs handed ∙ a.handed_count ∙ sym (length-changed_at (partitions_in xs) (λ q u. sent_in s.correlation u) s.partitions);
-  senders = λ s'. subst (λ (n : ℕ). Accepts n s' (slice_index_or accepted s' []) (slice_index taken s')) (sym (length-changed_at (partitions_in xs) (λ q u. sent_in s.correlation u) s.partitions)) (a.senders s');
+  handed_count = length-with_sendings xs handed ∙ a.handed_count ∙ sym (length-changed_at (partitions_in xs) (λ q u. send_in s.correlation u) s.partitions);
+  senders = λ s'. subst (λ (n : ℕ). Accepts n s' (slice_index_or accepted s' []) (slice_index taken s')) (sym (length-changed_at (partitions_in xs) (λ q u. send_in s.correlation u) s.partitions)) (a.senders s');
   home = home_past (sent_out now s (Produce xs)).partitions (λ p l. subst (AllByRecursion (λ i. i.partition ≡ p)) (sym (goes p (within p l)).same) (a.home p));
-  requests = all_append (λ (r : Request). Distinct r.partitions) s.requests (request_of now s xs ∷ []) a.requests (demand_is_distinct now s xs e, tt);
+  requests = all_append HasDistinct s.requests _ a.requests (demand_is_distinct now s xs e, tt);
   fates = λ s' p l.
       let g = goes p (within p l) in
       let back = items_queued (partition_at p (sent_out now s (Produce xs)).partitions).queue in
@@ -115,12 +117,12 @@ accounts_sent now s accepted taken handed told xs a ids logs sound e = record {
   weights = λ f.
       let before : weigh f (items_told told) + weigh f (flat_map untold s.partitions) ≡ weigh f (all_taken accepted taken) = a.weights f in
       let same : weigh f (flat_map untold (sent_out now s (Produce xs)).partitions) ≡ weigh f (flat_map untold s.partitions) =
-      weigh_same f (new_partition 0) s.partitions (sent_out now s (Produce xs)).partitions (length-changed_at (partitions_in xs) (λ q u. sent_in s.correlation u) s.partitions) (λ p l. ap (weigh f) (goes p l).same) in
+      weigh_same f (new_partition 0) s.partitions (sent_out now s (Produce xs)).partitions (length-changed_at (partitions_in xs) (λ q u. send_in s.correlation u) s.partitions) (λ p l. ap (weigh f) (goes p l).same) in
       omega (arith, before, same);
 }
   where
     within : (p : ℕ) → p < length (sent_out now s (Produce xs)).partitions → p < length s.partitions
-    within p l = subst (λ (n : ℕ). p < n) (length-changed_at (partitions_in xs) (λ q u. sent_in s.correlation u) s.partitions) l
+    within p l = subst (λ (n : ℕ). p < n) (length-changed_at (partitions_in xs) (λ q u. send_in s.correlation u) s.partitions) l
 
     goes : (p : ℕ) → p < length s.partitions
         → Goes (partition_at p s.partitions) (handed_at p handed) (partition_at p (sent_out now s (Produce xs)).partitions) (handed_at p (with_sendings xs handed))
@@ -131,27 +133,27 @@ accounts_sent now s accepted taken handed told xs a ids logs sound e = record {
 
 -- ---- the event
 
-accounts_asked : (now : ℕ) (s : Core) (accepted : List (List Item)) (taken : List ℕ) (handed : List (List Batch)) (told : List Told) (p : ℕ)
+accounts_asked : (now : ℕ) (s : Core) (accepted : List (List Item)) (taken : List ℕ) (handed : List (List HandedBatch)) (told : List Told) (p : ℕ)
     → Accounts s accepted taken handed told → Accounts (sent_out now s (InitProducerId p)) accepted taken handed told
 accounts_asked now s accepted taken handed told p a = record {
   taken_count = a.taken_count;
   handed_count = a.handed_count;
   senders = a.senders;
   home = a.home;
-  requests = a.requests;
+  requests = all_append HasDistinct s.requests _ a.requests (tt, tt);
   fates = a.fates;
   weights = a.weights;
 }
 
-pub accounts_sending : (n : ℕ) (w : World) → IsLawful n w → IsAccounted w → IsAccounted (sending w (requested w.moment w.core).after (requested w.moment w.core).answer)
-accounts_sending n w g a = at_requested (λ (x : Requested). IsAccounted (sending w x.after x.answer)) w.moment w.core (record {
+pub accounts_sending : (n : ℕ) (w : World) → IsLawful n w → IsAccounted w → IsAccounted (sending w (request_step w.moment w.core).after (request_step w.moment w.core).answer)
+accounts_sending n w g a = at_request (λ (x : Requested). IsAccounted (sending w x.after x.answer)) w.moment w.core (record {
   ended = accounts_only w.core (Ended ∷ []) w a;
   idle = accounts_only w.core (Idle ∷ []) w a;
   spent = accounts_only w.core (Idle ∷ []) w a;
-  out = goes;
+  out = λ going d e unspent. goes d e;
 })
   where
-    goes : (d : Demand) → next_demand w.moment w.core ≡ Some d → IsAccounted (sending w (sent_out w.moment w.core d) (Ok (Some (record { correlation = w.core.correlation; demand = d }))))
+    goes : (d : Demand Sending) → next_demand w.moment w.core ≡ Some d → IsAccounted (sending w (sent_out w.moment w.core d) (Ok (Some (record { correlation = w.core.correlation; demand = d }))))
     goes (Produce xs) e = accounts_only (sent_out w.moment w.core (Produce xs)) (sent_line (length w.packets) (Produce xs) ∷ []) (with_packet (record { correlation = w.core.correlation; demand = Produce xs }) w)
         (accounts_sent w.moment w.core w.accepted w.taken w.handed (told_in w.past) xs a w.ids w.logs (λ p l. (g.agree p (subst (λ (m : ℕ). p < m) g.count l)).sound) e)
     goes (InitProducerId p) e = accounts_only (sent_out w.moment w.core (InitProducerId p)) (sent_line (length w.packets) (InitProducerId p) ∷ []) (with_packet (record { correlation = w.core.correlation; demand = InitProducerId p }) w)

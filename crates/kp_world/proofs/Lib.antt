@@ -23,7 +23,6 @@ pub mod WeightLemmas
 pub mod FateLemmas
 pub mod ConservationLemmas
 pub mod TellingLemmas
-pub mod DistinctLemmas
 pub mod AccountLemmas
 pub mod TakingLemmas
 pub mod HandingLemmas

@@ -18,11 +18,11 @@ use Rattle.kp_log.specs.History.{History, stored_of, records_of, with_batch, wit
 use Rattle.kp_log.specs.Log.{count_of, stored_as}
 use Rattle.kp_log.proofs.LogLemmas.{count_of-append, count_of_own, int_eq_same}
 use Rattle.kp_log.proofs.PlaceLemmas.{In, In-nil, In-cons, In-append_right, cut_cases}
+use Rattle.kp_core.specs.Replies.{go_on_under}
+use Rattle.kp_core.specs.HandingOver.{hand_over_in}
 use Rattle.kp_core.specs.MaySend.{is_confirmed, new_batch}
-use Rattle.kp_core.specs.HandingOver.{handed_over_in}
 use Rattle.kp_core.specs.Partitions.{new_partition, present_id}
-use Rattle.kp_core.specs.Records.{Batch, Open, Partition}
-use Rattle.kp_core.specs.Replies.{under}
+use Rattle.kp_core.specs.Records.{HandedBatch, Open, Partition}
 use Rattle.kp_world.specs.Message.{sent_of}
 use Rattle.kp_world.proofs.LeavingLemmas.{Leaves}
 use Rattle.kp_world.proofs.SoundLemmas.{Sound, sents, last_is}
@@ -86,16 +86,16 @@ own_fresh id ids (x ∷ xs) e = at_test (int_eq x.producer_id (pos id)) refl (λ
 
 -- ---- how many records of these batches are under an id
 
-abbrev pub records_under : ℕ → List Batch → ℕ
+abbrev pub records_under : ℕ → List HandedBatch → ℕ
 records_under id bs = count_of (pos id) (records_of (sents bs))
 
-abbrev pub size : Batch → ℕ
+abbrev pub size : HandedBatch → ℕ
 size b = length (sent_of b).bodies
 
-under-append : (id : ℕ) (xs ys : List Batch) → records_under id (xs ++ ys) ≡ records_under id xs + records_under id ys
+under-append : (id : ℕ) (xs ys : List HandedBatch) → records_under id (xs ++ ys) ≡ records_under id xs + records_under id ys
 under-append id xs ys = ap (λ z. count_of (pos id) (records_of z)) (map-append sent_of xs ys) ∙ ap (count_of (pos id)) (flat_map-append stored_of (sents xs) (sents ys)) ∙ count_of-append (pos id) (records_of (sents xs)) (records_of (sents ys))
 
-under_more : (id : ℕ) (xs ys : List Batch) (b : Batch) → b.id ≡ id → records_under id (xs ++ b ∷ ys) ≡ records_under id xs + (size b + records_under id ys)
+under_more : (id : ℕ) (xs ys : List HandedBatch) (b : HandedBatch) → b.id ≡ id → records_under id (xs ++ b ∷ ys) ≡ records_under id xs + (size b + records_under id ys)
 under_more id xs ys b same =
     let first : count_of (pos id) (stored_of (sent_of b)) ≡ size b = ap (λ (n : ℕ). count_of (pos n) (stored_of (sent_of b))) (sym same) ∙ count_of_own (pos b.id) (sent_of b).bodies in
     let later : records_under id (b ∷ ys) ≡ count_of (pos id) (stored_of (sent_of b)) + records_under id ys = count_of-append (pos id) (stored_of (sent_of b)) (records_of (sents ys)) in
@@ -105,27 +105,27 @@ under_more id xs ys b same =
 
 -- What was handed over is what is in the log, and then the rest, all under the present id. The rest has two batches only
 -- where a record under that id is in the log.
-pub record Cut (t : Partition) (handed : List Batch) (h : History) : Type 0 where
-  pub landed : List Batch
-  pub rest : List Batch
+pub record Cut (t : Partition) (handed : List HandedBatch) (h : History) : Type 0 where
+  pub landed : List HandedBatch
+  pub rest : List HandedBatch
   pub split : handed ≡ landed ++ rest
   pub appended : h.batches ≡ sents landed
   pub owned : own t.ids h.records ≡ records_of h.batches
-  pub places : (earlier later : List Batch) (b : Batch) → handed ≡ earlier ++ b ∷ later → b.number ≡ length earlier
-  pub current : (b : Batch) → In b rest → b.id ≡ present_id t
+  pub places : (earlier later : List HandedBatch) (b : HandedBatch) → handed ≡ earlier ++ b ∷ later → b.number ≡ length earlier
+  pub current : (b : HandedBatch) → In b rest → b.id ≡ present_id t
   pub first : 1 < length rest → 0 < count_of (pos (present_id t)) h.records
   pub heard : t.acknowledged ≡ true → 0 < count_of (pos (present_id t)) h.records
 
-pub follows : (ids : List ℕ) (t : Partition) (handed : List Batch) (h : History) → Sound ids t handed h → (earlier later : List Batch) (b : Batch) → handed ≡ earlier ++ b ∷ later → Follows (sents earlier) (sent_of b)
+pub follows : (ids : List ℕ) (t : Partition) (handed : List HandedBatch) (h : History) → Sound ids t handed h → (earlier later : List HandedBatch) (b : HandedBatch) → handed ≡ earlier ++ b ∷ later → Follows (sents earlier) (sent_of b)
 follows ids t handed h s earlier later b e = s.in_sequence.each (sents earlier) (sents later) (sent_of b) (ap sents e ∙ map-append sent_of earlier (b ∷ later))
 
 -- the count of an id's records in the log
-counted : (ids : List ℕ) (t : Partition) (handed : List Batch) (h : History) → Sound ids t handed h → (cut : Cut t handed h) → (id : ℕ) → count_of (pos id) h.records ≡ records_under id cut.landed
+counted : (ids : List ℕ) (t : Partition) (handed : List HandedBatch) (h : History) → Sound ids t handed h → (cut : Cut t handed h) → (id : ℕ) → count_of (pos id) h.records ≡ records_under id cut.landed
 counted ids t handed h s cut id =
     s.came.counted id ∙ ap (λ z. count_of (pos id) (records_of z)) cut.appended
 
 -- a batch that is stored isn't among the rest
-pub stored_landed : (ids : List ℕ) (t : Partition) (handed : List Batch) (h : History) → Sound ids t handed h → (cut : Cut t handed h) → (b : Batch) → IsStored h.records (sent_of b) → In b cut.rest → ⊥
+pub stored_landed : (ids : List ℕ) (t : Partition) (handed : List HandedBatch) (h : History) → Sound ids t handed h → (cut : Cut t handed h) → (b : HandedBatch) → IsStored h.records (sent_of b) → In b cut.rest → ⊥
 stored_landed ids t handed h s cut b stored i =
     let split : handed ≡ (cut.landed ++ i.earlier) ++ b ∷ i.later = cut.split ∙ ap (λ z. cut.landed ++ z) i.split ∙ sym (append_assoc cut.landed i.earlier (b ∷ i.later)) in
     let place : Follows (sents (cut.landed ++ i.earlier)) (sent_of b) = follows ids t handed h s (cut.landed ++ i.earlier) i.later b split in
@@ -140,8 +140,8 @@ stored_landed ids t handed h s cut b stored i =
     omega (arith, before, all, parts, own_part, sequence, at, some)
 
 -- Of what was handed over only the first batch of the rest may be appended.
-pub lands : (ids : List ℕ) (t : Partition) (handed : List Batch) (h : History) → Sound ids t handed h → (cut : Cut t handed h) → (b : Batch) → In b handed → MayAppend h (sent_of b)
-    → (later : List Batch) × (cut.rest ≡ b ∷ later)
+pub lands : (ids : List ℕ) (t : Partition) (handed : List HandedBatch) (h : History) → Sound ids t handed h → (cut : Cut t handed h) → (b : HandedBatch) → In b handed → MayAppend h (sent_of b)
+    → (later : List HandedBatch) × (cut.rest ≡ b ∷ later)
 lands ids t handed h s cut b i may =
     ⊎_elim
     (λ (k : (more : _) × (cut.landed ≡ i.earlier ++ b ∷ more)). absurd (there k.0 k.1))
@@ -154,7 +154,7 @@ lands ids t handed h s cut b i may =
     all : count_of (pos b.id) h.records ≡ records_under b.id cut.landed
     all = counted ids t handed h s cut b.id
 
-    there : (more : List Batch) → cut.landed ≡ i.earlier ++ b ∷ more → ⊥
+    there : (more : List HandedBatch) → cut.landed ≡ i.earlier ++ b ∷ more → ⊥
     there more e =
         let sum : records_under b.id cut.landed ≡ records_under b.id i.earlier + (size b + records_under b.id more) = ap (records_under b.id) e ∙ under_more b.id i.earlier more b refl in
         let sequence : b.sequence ≡ records_under b.id i.earlier = place.sequence in
@@ -164,7 +164,7 @@ lands ids t handed h s cut b i may =
         (λ (k : count_of (pos b.id) h.records ≡ 0). omega (arith, k, sum, some, all))
         may
 
-    ahead : (more : List Batch) → cut.rest ≡ more ++ b ∷ i.later → i.earlier ≡ cut.landed ++ more → (later : List Batch) × (cut.rest ≡ b ∷ later)
+    ahead : (more : List HandedBatch) → cut.rest ≡ more ++ b ∷ i.later → i.earlier ≡ cut.landed ++ more → (later : List HandedBatch) × (cut.rest ≡ b ∷ later)
     ahead [] e f = (i.later, e)
     ahead (u ∷ us) e f =
         let its : b.id ≡ present_id t = cut.current b (record { earlier = u ∷ us; later = i.later; split = e }) in
@@ -182,7 +182,7 @@ lands ids t handed h s cut b i may =
         may)
 
 -- it begins at the count of its id's records
-pub lands_at : (ids : List ℕ) (t : Partition) (handed : List Batch) (h : History) → Sound ids t handed h → (cut : Cut t handed h) → (b : Batch) (later : List Batch) → cut.rest ≡ b ∷ later → count_of (pos b.id) h.records ≡ b.sequence
+pub lands_at : (ids : List ℕ) (t : Partition) (handed : List HandedBatch) (h : History) → Sound ids t handed h → (cut : Cut t handed h) → (b : HandedBatch) (later : List HandedBatch) → cut.rest ≡ b ∷ later → count_of (pos b.id) h.records ≡ b.sequence
 lands_at ids t handed h s cut b later e =
     counted ids t handed h s cut b.id ∙ sym (follows ids t handed h s cut.landed later b (cut.split ∙ ap (λ z. cut.landed ++ z) e)).sequence
 
@@ -203,7 +203,7 @@ cut_empty id = record {
 }
 
 -- a call of the core that acknowledges only what is stored
-pub cut_kept : (ids : List ℕ) (t t' : Partition) (handed : List Batch) (h : History) (e : Bool) → Sound ids t handed h → Cut t handed h
+pub cut_kept : (ids : List ℕ) (t t' : Partition) (handed : List HandedBatch) (h : History) (e : Bool) → Sound ids t handed h → Cut t handed h
     → Leaves (λ b. IsStored h.records (sent_of b)) e t t' → Cut t' handed h
 cut_kept ids t t' handed h e s cut l = record {
   landed = cut.landed;
@@ -234,7 +234,7 @@ cut_kept ids t t' handed h e s cut l = record {
 -- ---- the log grows
 
 -- a log with some records more
-pub record Grown (t : Partition) (handed : List Batch) (h h' : History) : Type 0 where
+pub record Grown (t : Partition) (handed : List HandedBatch) (h h' : History) : Type 0 where
   pub cut : Cut t handed h'
   pub more : List Stored
   pub records : h'.records ≡ h.records ++ more
@@ -242,10 +242,10 @@ pub record Grown (t : Partition) (handed : List Batch) (h h' : History) : Type 0
 more_counted : (id : ℕ) (xs ys : List Stored) → 0 < count_of (pos id) xs → 0 < count_of (pos id) (xs ++ ys)
 more_counted id xs ys n = omega (arith, count_of-append (pos id) xs ys)
 
-pub grown_same : (t : Partition) (handed : List Batch) (h : History) → Cut t handed h → Grown t handed h h
+pub grown_same : (t : Partition) (handed : List HandedBatch) (h : History) → Cut t handed h → Grown t handed h h
 grown_same t handed h cut = record { cut = cut; more = []; records = sym (append-nil h.records) }
 
-pub grown_others : (t : Partition) (handed : List Batch) (h : History) (n : ℕ) (body : Record) → Cut t handed h → Grown t handed h (with_others n body h)
+pub grown_others : (t : Partition) (handed : List HandedBatch) (h : History) (n : ℕ) (body : Record) → Cut t handed h → Grown t handed h (with_others n body h)
 grown_others t handed h n body cut = record {
   cut = record {
     landed = cut.landed;
@@ -262,7 +262,7 @@ grown_others t handed h n body cut = record {
   records = refl;
 }
 
-pub grown_appended : (ids : List ℕ) (t : Partition) (handed : List Batch) (h : History) → Sound ids t handed h → (cut : Cut t handed h) (b : Batch) (later : List Batch) → cut.rest ≡ b ∷ later → In b handed
+pub grown_appended : (ids : List ℕ) (t : Partition) (handed : List HandedBatch) (h : History) → Sound ids t handed h → (cut : Cut t handed h) (b : HandedBatch) (later : List HandedBatch) → cut.rest ≡ b ∷ later → In b handed
     → Grown t handed h (with_batch (sent_of b) h)
 grown_appended ids t handed h s cut b later e i = record {
   cut = record {
@@ -281,8 +281,8 @@ grown_appended ids t handed h s cut b later e i = record {
   records = refl;
 }
   where
-    behind : (c : Batch) → In c later → In c cut.rest
-    behind c j = subst (λ (z : List Batch). In c z) (sym e) (In-append_right c (b ∷ []) later j)
+    behind : (c : HandedBatch) → In c later → In c cut.rest
+    behind c j = subst (λ (z : List HandedBatch). In c z) (sym e) (In-append_right c (b ∷ []) later j)
 
     longer : 1 < length later → 1 < length cut.rest
     longer l = let long : length cut.rest ≡ suc (length later) = ap length e in omega (arith, l, long)
@@ -297,9 +297,9 @@ confirmed n false e = at_test (n == 0) refl e
     at_test true is e' = inl (eqb-true n 0 is)
     at_test false is e' = absurd cc
 
-pub cut_handed : (ids : List ℕ) (t : Partition) (handed : List Batch) (h : History) (k : ℕ) (front : Pending) (queue : List Pending) → Sound ids t handed h → Cut t handed h → is_confirmed t ≡ true
-    → Cut (handed_over_in k t (front ∷ queue)) (handed ++ new_batch t front ∷ []) h
-unfolding handed_over_in is_confirmed
+pub cut_handed : (ids : List ℕ) (t : Partition) (handed : List HandedBatch) (h : History) (k : ℕ) (front : Pending) (queue : List Pending) → Sound ids t handed h → Cut t handed h → is_confirmed t ≡ true
+    → Cut (hand_over_in k t (front ∷ queue)) (handed ++ new_batch t front ∷ []) h
+unfolding hand_over_in is_confirmed
 cut_handed ids t handed h k front queue s cut may = record {
   landed = cut.landed;
   rest = cut.rest ++ new_batch t front ∷ [];
@@ -307,28 +307,28 @@ cut_handed ids t handed h k front queue s cut may = record {
   appended = cut.appended;
   owned = cut.owned;
   places = λ earlier later b e. place earlier later b (cut_cases earlier b later handed (new_batch t front ∷ []) (sym e));
-  current = λ b i. ⊎_elim (λ (j : In b cut.rest). cut.current b j) (λ (same : b ≡ new_batch t front). ap (λ (c : Batch). c.id) same) (one_more cut.rest (new_batch t front) b i);
+  current = λ b i. ⊎_elim (λ (j : In b cut.rest). cut.current b j) (λ (same : b ≡ new_batch t front). ap (λ (c : HandedBatch). c.id) same) (one_more cut.rest (new_batch t front) b i);
   first = first cut.rest refl;
   heard = cut.heard;
 }
   where
-    at_end : (earlier more later : List Batch) (b : Batch) → new_batch t front ∷ [] ≡ more ++ b ∷ later → earlier ≡ handed ++ more → b.number ≡ length earlier
+    at_end : (earlier more later : List HandedBatch) (b : HandedBatch) → new_batch t front ∷ [] ≡ more ++ b ∷ later → earlier ≡ handed ++ more → b.number ≡ length earlier
     at_end earlier [] later b e is =
         let same : new_batch t front ≡ b = cc in
-        let number : t.next_number ≡ b.number = ap (λ (c : Batch). c.number) same in
+        let number : t.next_number ≡ b.number = ap (λ (c : HandedBatch). c.number) same in
         let long : length earlier ≡ length handed + 0 = ap length is ∙ length-append handed [] in
         let all : t.next_number ≡ length handed = s.number in
         omega (arith, number, long, all)
     at_end earlier (c ∷ more) later b e is = let none : [] ≡ more ++ b ∷ later = cc in absurd (In-nil b (record { earlier = more; later = later; split = none }))
 
-    place : (earlier later : List Batch) (b : Batch) → ((more : List Batch) × (handed ≡ earlier ++ b ∷ more)) ⊎ ((more : List Batch) × (new_batch t front ∷ [] ≡ more ++ b ∷ later) × (earlier ≡ handed ++ more)) → b.number ≡ length earlier
+    place : (earlier later : List HandedBatch) (b : HandedBatch) → ((more : List HandedBatch) × (handed ≡ earlier ++ b ∷ more)) ⊎ ((more : List HandedBatch) × (new_batch t front ∷ [] ≡ more ++ b ∷ later) × (earlier ≡ handed ++ more)) → b.number ≡ length earlier
     place earlier later b x =
         ⊎_elim
         (λ (y : (more : _) × (handed ≡ earlier ++ b ∷ more)). cut.places earlier y.0 b y.1)
         (λ (y : (more : _) × (new_batch t front ∷ [] ≡ more ++ b ∷ later) × (earlier ≡ handed ++ more)). at_end earlier y.0 later b y.1 y.2)
         x
 
-    first : (rest : List Batch) → cut.rest ≡ rest → 1 < length (rest ++ new_batch t front ∷ []) → 0 < count_of (pos (present_id t)) h.records
+    first : (rest : List HandedBatch) → cut.rest ≡ rest → 1 < length (rest ++ new_batch t front ∷ []) → 0 < count_of (pos (present_id t)) h.records
     first [] e l = absurd (omega (arith, l))
     first (u ∷ us) e l =
         let split : handed ≡ cut.landed ++ u ∷ us = cut.split ∙ ap (λ z. cut.landed ++ z) e in
@@ -341,7 +341,7 @@ cut_handed ids t handed h k front queue s cut may = record {
 -- ---- a fresh id
 
 -- Where nothing is left of what was handed over, the partition may go on under an id under which nothing was.
-pub cut_fresh : (ids : List ℕ) (t : Partition) (handed : List Batch) (h : History) (id : ℕ) → Sound ids (under id t) handed h → (cut : Cut t handed h) → cut.rest ≡ [] → Cut (under id t) handed h
+pub cut_fresh : (ids : List ℕ) (t : Partition) (handed : List HandedBatch) (h : History) (id : ℕ) → Sound ids (go_on_under id t) handed h → (cut : Cut t handed h) → cut.rest ≡ [] → Cut (go_on_under id t) handed h
 cut_fresh ids t handed h id s cut none = record {
   landed = cut.landed;
   rest = [];

@@ -8,15 +8,15 @@ use Rattle.kp_log.specs.BrokerStep.{BrokerStep}
 use Rattle.kp_log.specs.History.{History}
 use Rattle.kp_log.proofs.LoopbackLemmas.{loopback_step, late_step}
 use Rattle.kp_log.proofs.PlaceLemmas.{In, In-head, In-tail, contains_from_In, In-append_left}
-use Rattle.kp_core.specs.Next.{Sending, Demand, Produce, InitProducerId}
+use Rattle.kp_core.specs.Requesting.{request_step}
+use Rattle.kp_core.specs.Next.{Sending}
 use Rattle.kp_core.specs.Partitions.{partition_at}
-use Rattle.kp_core.specs.Records.{Batch, Partition, Core}
-use Rattle.kp_core.specs.Requesting.{Outgoing}
+use Rattle.kp_core.specs.Records.{Demand, Produce, InitProducerId, HandedBatch, Partition, Core}
+use Rattle.kp_core.specs.Requesting.{Packet}
 use Rattle.kp_world.specs.declared.event.Event.{Event}
 use Rattle.kp_world.specs.declared.event.Event.TheVariants as event
 use Rattle.kp_world.specs.declared.event.Treatment.{Treatment}
 use Rattle.kp_world.specs.declared.event.Treatment.TheVariants.{Judged, Refused, Late}
-use Rattle.kp_core.specs.Requesting.{requested}
 use Rattle.kp_world.specs.Client.{handed_at, has_partition, client}
 use Rattle.kp_world.specs.Delivering.{log_at, PartDelivers, PartsDeliver, IsFresh, Delivers}
 use Rattle.kp_world.specs.Loopback.{treated, with_part, answer_to, logs_with, answers_to, next_id, with_id, delivered}
@@ -31,12 +31,13 @@ use Rattle.kp_world.proofs.FlightLemmas.{Carried}
 use Rattle.kp_world.proofs.LawfulLemmas.{IsLawfulWithin}
 use Rattle.kp_world.proofs.RunLemmas.{parts_known, lawful_step, lawful_opening_within}
 use Rattle.kp_world.proofs.SoundLemmas.{Sound, sents}
-use Rattle.kp_world.proofs.ListLemmas.{In-map, all_weaker, in_at}
+use Rattle.kp_core.proofs.ListLemmas.{all_weaker}
+use Rattle.kp_world.proofs.ListLemmas.{In-map, in_at}
 use Rattle.kp_wire.proofs.ListLemmas.{all_append}
 
 -- ---- batches
 
-honest : (how : Treatment) (handed : List Batch) (ids : List ℕ) (t : Partition) (h : History) (b : Batch) → MayTreat how → Sound ids t handed h → In b handed
+honest : (how : Treatment) (handed : List HandedBatch) (ids : List ℕ) (t : Partition) (h : History) (b : HandedBatch) → MayTreat how → Sound ids t handed h → In b handed
     → BrokerStep h (sent_of b) (treated how h (sent_of b)).answer (treated how h (sent_of b)).history
 honest Judged handed ids t h b may s i =
     loopback_step (sents handed) h (sent_of b) s.in_sequence s.came (contains_from_In (sents handed) (sent_of b) (In-map sent_of b handed i))
@@ -44,7 +45,7 @@ honest (Refused code) handed ids t h b may s i =
     record { change = inl refl; stands = λ e. absurd (may.0 e); is_old = λ e. absurd (may.1 e) }
 honest (Late code) handed ids t h b may s i = late_step h (sent_of b) code may.0 may.1
 
-honest_parts : {most : ℕ} (how : Treatment) (n k : ℕ) (ids : List ℕ) (core : Core) (handed : List (List Batch)) (packets : List Outgoing) (replies : List Reply) → MayTreat how → (xs : List Sending) (logs : List History)
+honest_parts : {most : ℕ} (how : Treatment) (n k : ℕ) (ids : List ℕ) (core : Core) (handed : List (List HandedBatch)) (packets : List Packet) (replies : List Reply) → MayTreat how → (xs : List Sending) (logs : List History)
     → length logs ≡ n → AllAgree most n ids core handed logs packets replies → Known n k handed packets xs → PartsDeliver logs xs (answers_to how logs xs) (logs_with how logs xs)
 unfolding PartsDeliver answers_to logs_with
 honest_parts how n k ids core handed packets replies may [] logs size all known = refl
@@ -78,7 +79,7 @@ drawn_next ids drawn =
     let size : length (with_id ids) ≡ length ids + 1 = length-append ids (next_id ids ∷ []) in
     all_append (λ (id : ℕ). id < next_id (with_id ids)) ids (next_id ids ∷ []) (all_weaker (λ (id : ℕ). id < next_id ids) (λ (id : ℕ). id < next_id (with_id ids)) (λ id below. omega (arith, below, size)) ids drawn) (omega (arith, size), tt)
 
-drawn_delivered : (how : Treatment) (w : World) (d : Demand) → AreDrawn w.ids → AreDrawn (delivered how w d).ids
+drawn_delivered : (how : Treatment) (w : World) (d : Demand Sending) → AreDrawn w.ids → AreDrawn (delivered how w d).ids
 unfolding delivered
 drawn_delivered how w (Produce xs) drawn = drawn
 drawn_delivered Judged w (InitProducerId p) drawn = drawn_next w.ids drawn
@@ -93,11 +94,11 @@ honest_id Judged w p may drawn = (inr (next_id w.ids, next_is_fresh w.ids drawn,
 honest_id (Refused code) w p may drawn = (inl (may.0, refl), refl)
 honest_id (Late code) w p may drawn = (inr (next_id w.ids, next_is_fresh w.ids drawn, refl, inl may.0), refl)
 
-honest_packet : {most : ℕ} (n : ℕ) (how : Treatment) (w : World) (o : Outgoing) → MayTreat how → IsLawfulWithin most n w → AreDrawn w.ids → In o w.packets → Delivers w o.demand (delivered how w o.demand)
+honest_packet : {most : ℕ} (n : ℕ) (how : Treatment) (w : World) (o : Packet) → MayTreat how → IsLawfulWithin most n w → AreDrawn w.ids → In o w.packets → Delivers w o.demand (delivered how w o.demand)
 unfolding Delivers delivered
 honest_packet n how w o may g drawn i = at_demand o.demand refl
   where
-    at_demand : (d : Demand) → o.demand ≡ d → Delivers w d (delivered how w d)
+    at_demand : (d : Demand Sending) → o.demand ≡ d → Delivers w d (delivered how w d)
     at_demand (Produce xs) is = (answers_to how w.logs xs, honest_parts how n o.correlation w.ids w.core w.handed w.packets w.replies may xs w.logs g.logs_count g.agree (parts_known n w o xs g i is), refl, refl)
     at_demand (InitProducerId p) is = honest_id how w p may drawn
 
@@ -112,7 +113,7 @@ drawn_client w drawn = record {
   taken = λ s i there is. at_taken (λ v. AreDrawn v.ids) s i w drawn drawn;
   now = λ moment. drawn;
   tick = drawn;
-  send = let step = requested w.moment w.core in at_sent (λ v. AreDrawn v.ids) w step.after step.answer (λ line. drawn) (λ o line. drawn);
+  send = let step = request_step w.moment w.core in at_sent (λ v. AreDrawn v.ids) w step.after step.answer (λ line. drawn) (λ o line. drawn);
   reply = λ j r is. drawn;
   lost = drawn;
   close = drawn;
@@ -124,7 +125,7 @@ arrives : {most : ℕ} (n k : ℕ) (how : Treatment) (w v : World) → MayTreat 
 unfolding with_delivery noted
 arrives n k how w v may g drawn e = at_packet (slice_get w.packets k) refl e
   where
-    at_packet : (o : Option Outgoing) → slice_get w.packets k ≡ o → arrived k how o w ≡ Some v → Arrives w k v × AreDrawn v.ids
+    at_packet : (o : Option Packet) → slice_get w.packets k ≡ o → arrived k how o w ≡ Some v → Arrives w k v × AreDrawn v.ids
     at_packet None is e' = absurd cc
     at_packet (Some o) is e' =
         let same : with_delivery o (delivered how w o.demand) w ≡ v = cc in (

@@ -5,16 +5,17 @@ use Rattle.std.specs.List.{AllByRecursion}
 use Rattle.std.proofs.lemmas.Bool.{eqb-true, eq-eqb, eqb-false}
 use Rattle.std.proofs.lemmas.List.{length-set, get_or-set_same, get_or-set_other}
 use Rattle.kp_log.proofs.PlaceLemmas.{In, In-nil, In-cons, In-head, In-tail}
-use Rattle.kp_core.specs.HandingOver.{sent_in}
+use Rattle.kp_core.proofs.SendingLemmas.{IsSent}
+use Rattle.kp_core.specs.HandingOver.{send_in}
 use Rattle.kp_core.specs.MaySend.{sends}
-use Rattle.kp_core.specs.Next.{Sending, Produce, flags_of}
+use Rattle.kp_core.specs.Next.{Sending, flags_of}
 use Rattle.kp_core.specs.Partitions.{partition_at, is_in}
-use Rattle.kp_core.specs.Records.{Batch, Partition, Core}
+use Rattle.kp_core.specs.Records.{Produce, HandedBatch, Partition, Core}
 use Rattle.kp_core.specs.Requesting.{partitions_in, sent_out}
 use Rattle.kp_world.specs.Client.{grown_by, handed_at, with_sending, with_sendings}
-use Rattle.kp_world.proofs.KeepingLemmas.{at-changed_at}
-use Rattle.kp_world.proofs.SendingLemmas.{IsSent}
-use Rattle.kp_world.proofs.ListLemmas.{all_at, all_in, all_weaker}
+use Rattle.kp_core.proofs.PartitionLemmas.{at-changed_at}
+use Rattle.kp_core.proofs.ListLemmas.{all_weaker}
+use Rattle.kp_world.proofs.ListLemmas.{all_at, all_in}
 
 -- ---- which partitions are in a request
 
@@ -51,7 +52,7 @@ not_in_request xs p is x i same =
 
 -- ---- all parts of a partition have one batch
 
-abbrev pub Only : ℕ → Batch → List Sending → Type 0
+abbrev pub Only : ℕ → HandedBatch → List Sending → Type 0
 Only p b xs = AllByRecursion (λ (x : Sending). x.partition ≡ p → x.batch ≡ b) xs
 
 only_this : (now : ℕ) (s : Core) (xs : List Sending) (x : Sending) → AllByRecursion (IsSent now s) xs → IsSent now s x → Only x.partition x.batch xs
@@ -63,23 +64,23 @@ only_this now s xs x all is = all_weaker (IsSent now s) (λ (y : Sending). y.par
         let both : Some y.batch ≡ Some x.batch = sym mine ∙ is.sends in
         cc
 
-none_here : (now : ℕ) (s : Core) (p : ℕ) (b : Batch) (xs : List Sending) → is_in p (partitions_in xs) ≡ false → Only p b xs
+none_here : (now : ℕ) (s : Core) (p : ℕ) (b : HandedBatch) (xs : List Sending) → is_in p (partitions_in xs) ≡ false → Only p b xs
 none_here now s p b xs is = all_in (λ (x : Sending). x.partition ≡ p → x.batch ≡ b) xs (λ x i same. absurd (not_in_request xs p is x i same))
 
 -- ---- a partition's batches, with one that has gone out
 
-pub grown_known : (b : Batch) (handed : List Batch) → b.number < length handed → grown_by b handed ≡ handed
+pub grown_known : (b : HandedBatch) (handed : List HandedBatch) → b.number < length handed → grown_by b handed ≡ handed
 grown_known b handed below = at_test (b.number == length handed) refl
   where
     at_test : (t : Bool) → (b.number == length handed) ≡ t → (if t then handed ++ b ∷ [] else handed) ≡ handed
     at_test true is = let same : b.number ≡ length handed = eqb-true b.number (length handed) is in absurd (omega arith)
     at_test false is = refl
 
-pub grown_new : (b : Batch) (handed : List Batch) → b.number ≡ length handed → grown_by b handed ≡ handed ++ b ∷ []
+pub grown_new : (b : HandedBatch) (handed : List HandedBatch) → b.number ≡ length handed → grown_by b handed ≡ handed ++ b ∷ []
 grown_new b handed same =
     ap (λ (t : Bool). if t then handed ++ b ∷ [] else handed) (eq-eqb b.number (length handed) same)
 
-grown_again : (b : Batch) (handed : List Batch) → grown_by b (grown_by b handed) ≡ grown_by b handed
+grown_again : (b : HandedBatch) (handed : List HandedBatch) → grown_by b (grown_by b handed) ≡ grown_by b handed
 grown_again b handed = at_test (b.number == length handed) refl
   where
     at_test : (t : Bool) → (b.number == length handed) ≡ t → grown_by b (if t then handed ++ b ∷ [] else handed) ≡ (if t then handed ++ b ∷ [] else handed)
@@ -88,17 +89,17 @@ grown_again b handed = at_test (b.number == length handed) refl
 
 -- ---- the batches of all partitions
 
-pub length-with_sendings : (xs : List Sending) (handed : List (List Batch))
+pub length-with_sendings : (xs : List Sending) (handed : List (List HandedBatch))
     → length (with_sendings xs handed) ≡ length handed
 unfolding with_sendings
 length-with_sendings [] handed = refl
 length-with_sendings (x ∷ xs) handed = length-with_sendings xs (with_sending x handed)
     ∙ length-set handed x.partition (grown_by x.batch (handed_at x.partition handed))
 
-abbrev Within : List (List Batch) → List Sending → Type 0
+abbrev Within : List (List HandedBatch) → List Sending → Type 0
 Within handed xs = AllByRecursion (λ (x : Sending). x.partition < length handed) xs
 
-pub at-with_sendings : (xs : List Sending) (handed : List (List Batch)) (p : ℕ) (b : Batch)
+pub at-with_sendings : (xs : List Sending) (handed : List (List HandedBatch)) (p : ℕ) (b : HandedBatch)
     → Only p b xs → Within handed xs
     → handed_at p (with_sendings xs handed)
     ≡ (if is_in p (partitions_in xs) then grown_by b (handed_at p handed) else handed_at p
@@ -125,7 +126,7 @@ at-with_sendings (x ∷ xs) handed p b only within =
         ≡ grown_by x.batch (handed_at p handed) = subst
         (λ (n : ℕ). handed_at n (with_sending x handed) ≡ grown_by x.batch (handed_at n handed))
         e here in
-        moved ∙ ap (λ (c : Batch). grown_by c (handed_at p handed)) (only.0 e)
+        moved ∙ ap (λ (c : HandedBatch). grown_by c (handed_at p handed)) (only.0 e)
 
     other : (x.partition ≡ p → ⊥) → handed_at p (with_sending x handed) ≡ handed_at p handed
     other ne = get_or-set_other handed x.partition p
@@ -146,25 +147,25 @@ at-with_sendings (x ∷ xs) handed p b only within =
 -- ---- a partition when a request goes out
 
 -- It is not in the request, or a batch of it goes out.
-pub record OfPart (Q : Partition → List Batch → Type 0) (now : ℕ) (s : Core) (xs : List Sending) (handed : List (List Batch)) (p : ℕ) : Type 0 where
+pub record OfPart (Q : Partition → List HandedBatch → Type 0) (now : ℕ) (s : Core) (xs : List Sending) (handed : List (List HandedBatch)) (p : ℕ) : Type 0 where
   pub passed_by : is_in p (partitions_in xs) ≡ false → Q (partition_at p s.partitions) (handed_at p handed)
-  pub sent : (b : Batch) → sends s.config (flags_of s) now (partition_at p s.partitions) ≡ Some b → Only p b xs → Q (sent_in s.correlation (partition_at p s.partitions)) (grown_by b (handed_at p handed))
+  pub sent : (b : HandedBatch) → sends s.config (flags_of s) now (partition_at p s.partitions) ≡ Some b → Only p b xs → Q (send_in s.correlation (partition_at p s.partitions)) (grown_by b (handed_at p handed))
 
-pub at_sent_out : (Q : Partition → List Batch → Type 0) (now : ℕ) (s : Core) (xs : List Sending) (handed : List (List Batch)) (p : ℕ) → AllByRecursion (IsSent now s) xs → length s.partitions ≡ length handed → p < length s.partitions → OfPart Q now s xs handed p
+pub at_sent_out : (Q : Partition → List HandedBatch → Type 0) (now : ℕ) (s : Core) (xs : List Sending) (handed : List (List HandedBatch)) (p : ℕ) → AllByRecursion (IsSent now s) xs → length s.partitions ≡ length handed → p < length s.partitions → OfPart Q now s xs handed p
     → Q (partition_at p (sent_out now s (Produce xs)).partitions) (handed_at p (with_sendings xs handed))
 at_sent_out Q now s xs handed p all size within c = at_test (is_in p (partitions_in xs)) refl
   where
     inside : Within handed xs
     inside = all_weaker (IsSent now s) (λ (x : Sending). x.partition < length handed) (λ x k. subst (λ (n : ℕ). x.partition < n) size k.there) xs all
 
-    changed : partition_at p (sent_out now s (Produce xs)).partitions ≡ (if is_in p (partitions_in xs) then sent_in s.correlation (partition_at p s.partitions) else partition_at p s.partitions)
-    changed = at-changed_at (partitions_in xs) (λ q t. sent_in s.correlation t) s.partitions p within
+    changed : partition_at p (sent_out now s (Produce xs)).partitions ≡ (if is_in p (partitions_in xs) then send_in s.correlation (partition_at p s.partitions) else partition_at p s.partitions)
+    changed = at-changed_at (partitions_in xs) (λ q t. send_in s.correlation t) s.partitions p within
 
-    both : (t : Bool) (b : Batch) → is_in p (partitions_in xs) ≡ t → Only p b xs → Q (if t then sent_in s.correlation (partition_at p s.partitions) else partition_at p s.partitions) (if t then grown_by b (handed_at p handed) else handed_at p handed)
+    both : (t : Bool) (b : HandedBatch) → is_in p (partitions_in xs) ≡ t → Only p b xs → Q (if t then send_in s.correlation (partition_at p s.partitions) else partition_at p s.partitions) (if t then grown_by b (handed_at p handed) else handed_at p handed)
         → Q (partition_at p (sent_out now s (Produce xs)).partitions) (handed_at p (with_sendings xs handed))
     both t b is only q =
-        subst (λ (u : Partition). Q u (handed_at p (with_sendings xs handed))) (sym (changed ∙ ap (λ (i : Bool). if i then sent_in s.correlation (partition_at p s.partitions) else partition_at p s.partitions) is))
-        (subst (Q (if t then sent_in s.correlation (partition_at p s.partitions) else partition_at p s.partitions)) (sym (at-with_sendings xs handed p b only inside ∙ ap (λ (i : Bool). if i then grown_by b (handed_at p handed) else handed_at p handed) is)) q)
+        subst (λ (u : Partition). Q u (handed_at p (with_sendings xs handed))) (sym (changed ∙ ap (λ (i : Bool). if i then send_in s.correlation (partition_at p s.partitions) else partition_at p s.partitions) is))
+        (subst (Q (if t then send_in s.correlation (partition_at p s.partitions) else partition_at p s.partitions)) (sym (at-with_sendings xs handed p b only inside ∙ ap (λ (i : Bool). if i then grown_by b (handed_at p handed) else handed_at p handed) is)) q)
 
     at_test : (t : Bool) → is_in p (partitions_in xs) ≡ t → Q (partition_at p (sent_out now s (Produce xs)).partitions) (handed_at p (with_sendings xs handed))
     at_test true is =
@@ -173,5 +174,5 @@ at_sent_out Q now s xs handed p all size within c = at_test (is_in p (partitions
         let only : Only p x.0.batch xs = subst (λ (n : ℕ). Only n x.0.batch xs) x.2 (only_this now s xs x.0 all x.1) in
         both true x.0.batch is only (c.sent x.0.batch goes only)
     at_test false is =
-        let none : Batch = record { number = 0; id = 0; sequence = 0; items = [] } in
+        let none : HandedBatch = record { number = 0; id = 0; sequence = 0; items = [] } in
         both false none is (none_here now s p none xs is) (c.passed_by is)

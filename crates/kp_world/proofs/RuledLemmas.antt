@@ -1,9 +1,10 @@
 -- Whatever an event tells is told by a call on the core, and so a case of the outcome rule.
 use Rattle.std.proofs.Common.{◌≡◌, true, List, [], ◌∷◌, refl, ap, ◌++◌}
-use Rattle.kp_core.specs.Flush.{flushed}
+use Rattle.kp_core.specs.Requesting.{request_step}
+use Rattle.kp_core.specs.Dropping.{disconnect_step}
+use Rattle.kp_core.specs.Flush.{flush_step}
+use Rattle.kp_core.specs.OutcomeRule.{Telling, MayTell, told_in}
 use Rattle.kp_core.specs.Records.{Core, Told}
-use Rattle.kp_core.specs.Requesting.{requested}
-use Rattle.kp_core.specs.Tick.{disconnected}
 use Rattle.kp_world.specs.declared.event.Event.{Event}
 use Rattle.kp_world.specs.Accepting.{item_for, with_accepted, with_taken}
 use Rattle.kp_world.specs.Client.{with_packet, flush_line}
@@ -13,12 +14,11 @@ use Rattle.kp_world.specs.Noting.{noted, ends_flush}
 use Rattle.kp_world.specs.Run.{with_delivery, Steps}
 use Rattle.kp_world.specs.World.{Reply, World, Happened}
 use Rattle.std.specs.List.{AllByRecursion}
-use Rattle.kp_core.specs.OutcomeRule.{Call, MayTell, told_by}
 use Rattle.kp_core.specs.OutcomeRule as call
 use Rattle.kp_core.proofs.OutcomeLemmas.{each_outcome}
 use Rattle.kp_world.specs.Causes.{MayBeTold, TellsByRule}
 use Rattle.kp_world.specs.Message.{response_of}
-use Rattle.kp_world.proofs.ListLemmas.{all_weaker}
+use Rattle.kp_core.proofs.ListLemmas.{all_weaker}
 use Rattle.kp_world.proofs.EventLemmas.{at_sent, at_taken, OfEvent, at_step}
 use Rattle.kp_world.proofs.ListLemmas.{in_at}
 use Rattle.kp_log.proofs.PlaceLemmas.{In}
@@ -26,12 +26,12 @@ use Rattle.kp_log.proofs.PlaceLemmas.{In}
 -- ---- what is told
 
 -- a call that is made in this world: a reply is one that was given
-abbrev pub IsMade : World → Call → Type 0
+abbrev pub IsMade : World → Telling → Type 0
 IsMade w (call.Reply now response) = (r : Reply) × In r w.replies × (response ≡ response_of r)
 IsMade w c = Unit {0}
 
 abbrev pub MayBeToldIn : World → Told → Type 0
-MayBeToldIn w t = (c : Call) × IsMade w c × MayTell w.core c t.item t.outcome
+MayBeToldIn w t = (c : Telling) × IsMade w c × MayTell w.core c t.item t.outcome
 
 -- the event between these worlds, and what it told
 pub record TellsIn (before after : World) : Type 0 where
@@ -39,8 +39,8 @@ pub record TellsIn (before after : World) : Type 0 where
   pub noted : after.past ≡ before.past ++ event ∷ []
   pub ruled : AllByRecursion (MayBeToldIn before) event.told
 
-by_call : (w : World) (c : Call) → IsMade w c → AllByRecursion (MayBeToldIn w) (told_by w.core c)
-by_call w c made = all_weaker (λ (t : Told). MayTell w.core c t.item t.outcome) (MayBeToldIn w) (λ t m. (c, made, m)) (told_by w.core c) (each_outcome w.core c)
+by_call : (w : World) (c : Telling) → IsMade w c → AllByRecursion (MayBeToldIn w) (told_in w.core c)
+by_call w c made = all_weaker (λ (t : Told). MayTell w.core c t.item t.outcome) (MayBeToldIn w) (λ t m. (c, made, m)) (told_in w.core c) (each_outcome w.core c)
 
 -- ---- what is noted
 
@@ -67,12 +67,12 @@ ruled_event w = record {
       at_taken (TellsIn w) s i w (ruled_on w (with_taken s w) _ [] _ refl told) (ruled_on w w _ (Full s ∷ []) _ refl told);
   now = λ moment. quiet w (record w { moment = moment }) w.core [] refl;
   tick = ruled_on w w _ _ _ refl (by_call w (call.Tick w.moment) tt);
-  send = let step = requested w.moment w.core in at_sent (TellsIn w) w step.after step.answer (λ line. quiet w w _ _ refl) (λ o line. quiet w (with_packet o w) _ _ refl);
+  send = let step = request_step w.moment w.core in at_sent (TellsIn w) w step.after step.answer (λ line. quiet w w _ _ refl) (λ o line. quiet w (with_packet o w) _ _ refl);
   reply = λ j r there. ruled_on w w _ _ _ refl (by_call w (call.Reply w.moment (response_of r)) (r, in_at w.replies j r there, refl));
-  lost = quiet w w (disconnected w.moment w.core) [] refl;
+  lost = quiet w w (disconnect_step w.moment w.core) [] refl;
   close = quiet w (record w { is_shut = true }) _ [] refl;
   end = ruled_on w w _ _ _ refl (by_call w call.End tt);
-  flush = quiet w w (flushed w.core) (flush_line w.core ∷ []) refl;
+  flush = quiet w w (flush_step w.core) (flush_line w.core ∷ []) refl;
 }
 
 pub told_step : (w : World) (e : Event) (v : World) → Steps w e v → TellsIn w v

@@ -12,15 +12,16 @@ use Rattle.kp_accum.specs.Config.{is_outside, checked}
 use Rattle.kp_log.specs.History.{History, empty_history, with_others}
 use Rattle.kp_log.proofs.KeepingLemmas.{came_others}
 use Rattle.kp_log.proofs.PlaceLemmas.{In, In-nil, In-head, In-append_left, In-append_right}
-use Rattle.kp_core.specs.Appending.{appended}
-use Rattle.kp_core.specs.Fence.{ended}
-use Rattle.kp_core.specs.Flush.{flushed}
-use Rattle.kp_core.specs.Next.{Sending, Demand, Produce, InitProducerId}
+use Rattle.kp_core.specs.Closing.{close_step, end_step}
+use Rattle.kp_core.specs.Flush.{flush_step}
+use Rattle.kp_core.specs.Tick.{tick_step}
+use Rattle.kp_core.specs.Appending.{append_step}
+use Rattle.kp_core.specs.Dropping.{disconnect_step}
+use Rattle.kp_core.specs.Next.{Sending}
 use Rattle.kp_core.specs.Opening.{new_core}
 use Rattle.kp_core.specs.Partitions.{partition_at, new_partition}
-use Rattle.kp_core.specs.Records.{Batch, Partition, Core}
-use Rattle.kp_core.specs.Requesting.{Outgoing}
-use Rattle.kp_core.specs.Tick.{ticked, disconnected, closed}
+use Rattle.kp_core.specs.Records.{Demand, Produce, InitProducerId, HandedBatch, Partition, Core}
+use Rattle.kp_core.specs.Requesting.{Packet}
 use Rattle.kp_world.specs.declared.event.Event.{Event}
 use Rattle.kp_world.specs.Accepting.{taking}
 use Rattle.kp_world.specs.Client.{handed_at}
@@ -42,7 +43,7 @@ use Rattle.kp_world.proofs.ListLemmas.{all_at, in_at, one_more}
 -- ---- a packet comes
 
 -- what was given before is as it was, and the newest reply is this one
-lawful_answered : {most : ℕ} (n : ℕ) (core : Core) (logs logs' : List History) (handed : List (List Batch)) (packets : List Outgoing) (replies : List Reply) (ids ids' : List ℕ) (r : Reply)
+lawful_answered : {most : ℕ} (n : ℕ) (core : Core) (logs logs' : List History) (handed : List (List HandedBatch)) (packets : List Packet) (replies : List Reply) (ids ids' : List ℕ) (r : Reply)
     → Lawful most n core logs handed packets replies ids → length logs' ≡ n → AllAgree most n ids' core handed logs' packets replies → ((id : ℕ) → In id ids → In id ids') → Given n ids' core r
     → ((p : ℕ) → p < n → ContentHolds p (length (handed_at p handed)) r.correlation packets (log_at p logs').records r.content)
     → Lawful most n core logs' handed packets (replies ++ r ∷ []) ids'
@@ -63,26 +64,26 @@ lawful_answered n core logs logs' handed packets replies ids ids' r g size agree
 
 -- a reply that gives no id
 gives_none : (n : ℕ) (ids : List ℕ) (core : Core) (r : Reply) → r.correlation < core.correlation → ((id : ℕ) → r.content ≡ given id → ⊥) → Given n ids core r
-gives_none n ids core r b none = record { before = b; drawn = λ id e. absurd (none id e); spare = λ id q e a c p h at. none id e }
+gives_none n ids core r b none = record { before = b; drawn = λ id e. absurd (none id e); spare = λ id q e a x c p h at. none id e }
 
-abbrev reply : Outgoing → ReplyContent → Reply
+abbrev reply : Packet → ReplyContent → Reply
 reply o content = record { correlation = o.correlation; content = content }
 
 -- ---- batches
 
 -- each of a packet's batches was handed over, and went out with it
-pub parts_known : {most : ℕ} (n : ℕ) (w : World) (o : Outgoing) (xs : List Sending) → IsLawfulWithin most n w → In o w.packets → o.demand ≡ Produce xs → Known n o.correlation w.handed w.packets xs
+pub parts_known : {most : ℕ} (n : ℕ) (w : World) (o : Packet) (xs : List Sending) → IsLawfulWithin most n w → In o w.packets → o.demand ≡ Produce xs → Known n o.correlation w.handed w.packets xs
 parts_known n w o xs g i is x j =
     let parts : PartsIn n w.handed (Produce xs) = subst (PartsIn n w.handed) is (g.went o i).parts in
     let one = all_at (λ (y : Sending). (y.partition < n) × In y.batch (handed_at y.partition w.handed)) xs x parts j in
-    (one.0, one.1, record { packet = o; sent = i; named = refl; carries = subst (λ (e : Demand). Carries x.partition x.batch e) (sym is) (x, j, refl, refl) })
+    (one.0, one.1, record { packet = o; sent = i; named = refl; carries = subst (λ (e : Demand Sending). Carries x.partition x.batch e) (sym is) (x, j, refl, refl) })
 
-pub parts_came : {most : ℕ} (n : ℕ) (w : World) (o : Outgoing) (xs : List Sending) (logs : List History) (answers : List PartAnswer) → IsLawfulWithin most n w → In o w.packets → o.demand ≡ Produce xs → PartsDeliver w.logs xs answers logs
+pub parts_came : {most : ℕ} (n : ℕ) (w : World) (o : Packet) (xs : List Sending) (logs : List History) (answers : List PartAnswer) → IsLawfulWithin most n w → In o w.packets → o.demand ≡ Produce xs → PartsDeliver w.logs xs answers logs
     → PartsDelivered most n o.correlation w.ids w.core w.handed w.logs logs w.packets w.replies answers
 parts_came n w o xs logs answers g i is deliver =
     parts_delivered n o.correlation w.ids w.core w.handed w.logs logs w.packets w.replies xs answers g.logs_count g.agree (parts_known n w o xs g i is) deliver
 
-came_parts : {most : ℕ} (n : ℕ) (w : World) (o : Outgoing) (xs : List Sending) (d : Delivery) → IsLawfulWithin most n w → In o w.packets → o.demand ≡ Produce xs → Delivers w (Produce xs) d
+came_parts : {most : ℕ} (n : ℕ) (w : World) (o : Packet) (xs : List Sending) (d : Delivery) → IsLawfulWithin most n w → In o w.packets → o.demand ≡ Produce xs → Delivers w (Produce xs) d
     → Lawful most n w.core d.logs w.handed w.packets (w.replies ++ reply o d.content ∷ []) d.ids
 unfolding Delivers
 came_parts {most = most} n w o xs d g i is honest =
@@ -99,7 +100,7 @@ came_parts {most = most} n w o xs d g i is honest =
 
 -- ---- an id
 
-no_parts : (p count k : ℕ) (packets : List Outgoing) (h : History) (c : ReplyContent) → IsError c → ContentHolds p count k packets h.records c
+no_parts : (p count k : ℕ) (packets : List Packet) (h : History) (c : ReplyContent) → IsError c → ContentHolds p count k packets h.records c
 no_parts p count k packets h (Batches parts) e = absurd e
 no_parts p count k packets h (Id code id) e = tt
 
@@ -110,12 +111,12 @@ not_given (Id code z) e id is = let zero : code ≡ pos 0 = cc in e zero
 fresh_apart : (ids : List ℕ) (id : ℕ) → IsFresh ids id → In id ids → ⊥
 fresh_apart ids id f i = all_at (λ (x : ℕ). x ≡ id → ⊥) ids id f i refl
 
-came_error : {most : ℕ} (n : ℕ) (w : World) (o : Outgoing) (c : ReplyContent) → IsLawfulWithin most n w → In o w.packets → IsError c → Lawful most n w.core w.logs w.handed w.packets (w.replies ++ reply o c ∷ []) w.ids
+came_error : {most : ℕ} (n : ℕ) (w : World) (o : Packet) (c : ReplyContent) → IsLawfulWithin most n w → In o w.packets → IsError c → Lawful most n w.core w.logs w.handed w.packets (w.replies ++ reply o c ∷ []) w.ids
 came_error n w o c g i e =
     lawful_answered n w.core w.logs w.logs w.handed w.packets w.replies w.ids w.ids (reply o c) g g.logs_count g.agree (λ id j. j)
     (gives_none n w.ids w.core (reply o c) (g.went o i).before (not_given c e)) (λ p h. no_parts p (length (handed_at p w.handed)) o.correlation w.packets (log_at p w.logs) c e)
 
-came_drawn : {most : ℕ} (n : ℕ) (w : World) (o : Outgoing) (c : ReplyContent) (id : ℕ) → IsLawfulWithin most n w → In o w.packets → IsFresh w.ids id → IsError c ⊎ (c ≡ given id)
+came_drawn : {most : ℕ} (n : ℕ) (w : World) (o : Packet) (c : ReplyContent) (id : ℕ) → IsLawfulWithin most n w → In o w.packets → IsFresh w.ids id → IsError c ⊎ (c ≡ given id)
     → Lawful most n w.core w.logs w.handed w.packets (w.replies ++ reply o c ∷ []) (w.ids ++ id ∷ [])
 came_drawn {most = most} n w o c id g i fresh what =
     lawful_answered n w.core w.logs w.logs w.handed w.packets w.replies w.ids (w.ids ++ id ∷ []) (reply o c) g g.logs_count agree (λ m j. In-append_left m w.ids (id ∷ []) j) (newest what) (λ p h. content p what)
@@ -131,14 +132,14 @@ came_drawn {most = most} n w o c id g i fresh what =
     newest (inr is) = record {
       before = (g.went o i).before;
       drawn = λ m e. subst (λ (x : ℕ). In x (w.ids ++ id ∷ [])) (same_id m (sym is ∙ e)) (In-append_right id w.ids (id ∷ []) (In-head id []));
-      spare = λ m q e a b p h at. fresh_apart w.ids id fresh ((g.agree p h).sound.drawn_all id (subst (λ (x : ℕ). In x (partition_at p w.core.partitions).ids) (sym (same_id m (sym is ∙ e))) at));
+      spare = λ m q e a x b p h at. fresh_apart w.ids id fresh ((g.agree p h).sound.drawn_all id (subst (λ (x : ℕ). In x (partition_at p w.core.partitions).ids) (sym (same_id m (sym is ∙ e))) at));
     }
 
     content : (p : ℕ) → IsError c ⊎ (c ≡ given id) → ContentHolds p (length (handed_at p w.handed)) o.correlation w.packets (log_at p w.logs).records c
     content p (inl e) = no_parts p (length (handed_at p w.handed)) o.correlation w.packets (log_at p w.logs) c e
     content p (inr is) = subst (ContentHolds p (length (handed_at p w.handed)) o.correlation w.packets (log_at p w.logs).records) (sym is) tt
 
-came_id : {most : ℕ} (n p : ℕ) (w : World) (o : Outgoing) (d : Delivery) → IsLawfulWithin most n w → In o w.packets → Delivers w (InitProducerId p) d
+came_id : {most : ℕ} (n p : ℕ) (w : World) (o : Packet) (d : Delivery) → IsLawfulWithin most n w → In o w.packets → Delivers w (InitProducerId p) d
     → Lawful most n w.core d.logs w.handed w.packets (w.replies ++ reply o d.content ∷ []) d.ids
 unfolding Delivers
 came_id {most = most} n p w o d g i honest =
@@ -151,15 +152,15 @@ came_id {most = most} n p w o d g i honest =
 
 -- ---- the broker's events
 
-lawful_arrives : {most : ℕ} (n : ℕ) (w : World) (o : Outgoing) (d : Delivery) → IsLawfulWithin most n w → In o w.packets → Delivers w o.demand d → IsLawfulWithin most n (with_delivery o d w)
+lawful_arrives : {most : ℕ} (n : ℕ) (w : World) (o : Packet) (d : Delivery) → IsLawfulWithin most n w → In o w.packets → Delivers w o.demand d → IsLawfulWithin most n (with_delivery o d w)
 unfolding with_delivery noted
 lawful_arrives {most = most} n w o d g i honest = at_demand o.demand refl honest
   where
-    at_demand : (e : Demand) → o.demand ≡ e → Delivers w e d → Lawful most n w.core d.logs w.handed w.packets (w.replies ++ reply o d.content ∷ []) d.ids
+    at_demand : (e : Demand Sending) → o.demand ≡ e → Delivers w e d → Lawful most n w.core d.logs w.handed w.packets (w.replies ++ reply o d.content ∷ []) d.ids
     at_demand (Produce xs) is honest' = came_parts n w o xs d g i is honest'
     at_demand (InitProducerId p) is honest' = came_id n p w o d g i honest'
 
-lawful_others : {most : ℕ} (n p m : ℕ) (core : Core) (logs : List History) (handed : List (List Batch)) (packets : List Outgoing) (replies : List Reply) (ids : List ℕ)
+lawful_others : {most : ℕ} (n p m : ℕ) (core : Core) (logs : List History) (handed : List (List HandedBatch)) (packets : List Packet) (replies : List Reply) (ids : List ℕ)
     → p < length logs → Lawful most n core logs handed packets replies ids → Lawful most n core (logs_with_others p m logs) handed packets replies ids
 lawful_others {most = most} n p m core logs handed packets replies ids within g = record {
   count = g.count;
@@ -187,7 +188,7 @@ lawful_called n w s g l = lawful_core n w.core s w.logs w.handed w.packets w.rep
 lawful_taken : {most : ℕ} (n s : ℕ) (i : Item) (w : World) → IsLawfulWithin most n w → IsLawfulWithin most n (taking s (Some i) w)
 unfolding noted
 lawful_taken {most = most} n s i w g =
-    let after : Lawful most n (appended i w.core).after w.logs w.handed w.packets w.replies w.ids = lawful_called n w (appended i w.core).after g (left_appended (StoredAt w.logs) i w.core) in
+    let after : Lawful most n (append_step i w.core).after w.logs w.handed w.packets w.replies w.ids = lawful_called n w (append_step i w.core).after g (left_appended (StoredAt w.logs) i w.core) in
     at_taken (IsLawfulWithin most n) s i w after after
 
 lawful_client : {most : ℕ} (n : ℕ) (w : World) → IsLawfulWithin most n w → OfEvent (IsLawfulWithin most n) w
@@ -198,13 +199,13 @@ lawful_client n w g = record {
   none_taken = λ s. g;
   taken = λ s i there is. lawful_taken n s i w g;
   now = λ moment. g;
-  tick = lawful_called n w (ticked w.moment w.core).after g (left_ticked (StoredAt w.logs) w.moment w.core);
+  tick = lawful_called n w (tick_step w.moment w.core).after g (left_ticked (StoredAt w.logs) w.moment w.core);
   send = lawful_sending n w g;
   reply = λ j r is. lawful_reply n w.moment w.core w.logs w.handed w.packets w.replies w.ids r g (in_at w.replies j r is);
-  lost = lawful_called n w (disconnected w.moment w.core) g (left_disconnected (StoredAt w.logs) w.moment w.core);
-  close = lawful_called n w (closed w.core) g (left_closed (StoredAt w.logs) w.core);
-  end = lawful_called n w (ended w.core).after g (left_ended (StoredAt w.logs) w.core);
-  flush = lawful_called n w (flushed w.core) g (left_flushed (StoredAt w.logs) w.core);
+  lost = lawful_called n w (disconnect_step w.moment w.core) g (left_disconnected (StoredAt w.logs) w.moment w.core);
+  close = lawful_called n w (close_step w.core) g (left_closed (StoredAt w.logs) w.core);
+  end = lawful_called n w (end_step w.core).after g (left_ended (StoredAt w.logs) w.core);
+  flush = lawful_called n w (flush_step w.core) g (left_flushed (StoredAt w.logs) w.core);
 }
 
 -- ---- runs
@@ -252,20 +253,20 @@ pub lawful_opening_within : {most : ℕ} (c : Config) (partitions senders : ℕ)
 unfolding opening new_core
 lawful_opening_within {most = most} c partitions senders few some = record {
   count = length-replicate partitions (new_partition FIRST_ID);
-  handed_count = let none : List Batch = [] in length-replicate partitions none;
+  handed_count = let none : List HandedBatch = [] in length-replicate partitions none;
   logs_count = length-replicate partitions empty_history;
   window = few;
   some = some;
   agree = each;
   went = λ o i. absurd (In-nil o i);
   gave = λ r i. absurd (In-nil r i);
-  asked = λ q e. absurd cc;
+  asked = λ q i. absurd (In-nil q i);
 }
   where
     each : (p : ℕ) → p < partitions → PartAgrees most p (FIRST_ID ∷ []) false FIRST_CORRELATION (partition_at p (replicate partitions (new_partition FIRST_ID))) (handed_at p (replicate partitions [])) (log_at p (replicate partitions empty_history)) [] []
     each p h =
         subst (λ (u : Partition). PartAgrees most p (FIRST_ID ∷ []) false FIRST_CORRELATION u (handed_at p (replicate partitions [])) (log_at p (replicate partitions empty_history)) [] []) (sym (get_or-replicate partitions p (new_partition FIRST_ID) (new_partition 0) h))
-        (subst (λ (hs : List Batch). PartAgrees most p (FIRST_ID ∷ []) false FIRST_CORRELATION (new_partition FIRST_ID) hs (log_at p (replicate partitions empty_history)) [] []) (sym (get_or-replicate {A = List Batch} partitions p [] [] h))
+        (subst (λ (hs : List HandedBatch). PartAgrees most p (FIRST_ID ∷ []) false FIRST_CORRELATION (new_partition FIRST_ID) hs (log_at p (replicate partitions empty_history)) [] []) (sym (get_or-replicate {A = List HandedBatch} partitions p [] [] h))
         (subst (λ (l : History). PartAgrees most p (FIRST_ID ∷ []) false FIRST_CORRELATION (new_partition FIRST_ID) [] l [] []) (sym (get_or-replicate partitions p empty_history empty_history h)) (record { sound = sound_new FIRST_ID; steady = steady_new p FIRST_CORRELATION FIRST_ID })))
 
 pub lawful_opening : (c : Config) (partitions senders : ℕ) → c.max_in_flight_requests_per_connection ≤ 5 → IsLawful partitions (opening c partitions senders)

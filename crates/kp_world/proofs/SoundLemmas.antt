@@ -13,32 +13,33 @@ use Rattle.kp_log.proofs.KeepingLemmas.{nothing_handed, one_more_handed, came_em
 use Rattle.kp_log.proofs.LogLemmas.{count_of-append, count_of_own, count_of_others}
 use Rattle.kp_log.proofs.PlaceLemmas.{In, In-nil, In-head, In-tail, In-append_left, In-append_right}
 use Rattle.kp_log.proofs.SequenceLemmas.{ids_apart}
-use Rattle.kp_core.specs.HandingOver.{opened_in, handed_over_in}
+use Rattle.kp_core.specs.Replies.{go_on_under}
+use Rattle.kp_core.specs.HandingOver.{opened_in, hand_over_in}
 use Rattle.kp_core.specs.MaySend.{new_batch}
 use Rattle.kp_core.specs.Partitions.{new_partition, present_id}
-use Rattle.kp_core.specs.Records.{Batch, Open, Partition}
-use Rattle.kp_core.specs.Replies.{under}
+use Rattle.kp_core.specs.Records.{HandedBatch, Open, Partition}
 use Rattle.kp_world.specs.Message.{sent_of}
 use Rattle.kp_world.proofs.KeepingLemmas.{HasItems, OpenIn, Keeps}
-use Rattle.kp_world.proofs.ListLemmas.{all_weaker, one_more}
+use Rattle.kp_core.proofs.ListLemmas.{all_weaker}
+use Rattle.kp_world.proofs.ListLemmas.{one_more}
 use Rattle.kp_wire.proofs.ListLemmas.{all_append}
 
 -- the batches as a broker sees them
-abbrev pub sents : List Batch → List Sent
+abbrev pub sents : List HandedBatch → List Sent
 sents handed = map sent_of handed
 
 -- how many records of these batches are under the last of these ids
-abbrev pub count_under : List ℕ → List Batch → ℕ
+abbrev pub count_under : List ℕ → List HandedBatch → ℕ
 count_under ids handed = count_of (pos (unwrap_or (last_or None ids) 0)) (records_of (sents handed))
 
 -- A partition, of all ids that were drawn, with what was handed over for it, and its history.
-pub record Sound (drawn : List ℕ) (t : Partition) (handed : List Batch) (h : History) : Type 0 where
+pub record Sound (drawn : List ℕ) (t : Partition) (handed : List HandedBatch) (h : History) : Type 0 where
   pub number : t.next_number ≡ length handed
   pub sequence : t.next_sequence ≡ count_under t.ids handed
   pub in_sequence : AreInSequence (sents handed)
   pub came : CameBy (sents handed) h
-  pub numbers : (b : Batch) → In b handed → b.number < length handed
-  pub under : (b : Batch) → In b handed → In b.id t.ids
+  pub numbers : (b : HandedBatch) → In b handed → b.number < length handed
+  pub under : (b : HandedBatch) → In b handed → In b.id t.ids
   pub present : In (present_id t) t.ids
   pub drawn_all : (id : ℕ) → In id t.ids → In id drawn
   pub opens : OpenIn handed t.open_batches
@@ -46,7 +47,7 @@ pub record Sound (drawn : List ℕ) (t : Partition) (handed : List Batch) (h : H
 
 -- ---- what keeps it
 
-pub sound_kept : (drawn : List ℕ) (t t' : Partition) (handed : List Batch) (h : History)
+pub sound_kept : (drawn : List ℕ) (t t' : Partition) (handed : List HandedBatch) (h : History)
     → Sound drawn t handed h → Keeps t t' → Sound drawn t' handed h
 sound_kept drawn t t' handed h s k = record {
   number = k.number ∙ s.number;
@@ -61,7 +62,7 @@ sound_kept drawn t t' handed h s k = record {
   queue = k.queue s.queue;
 }
 
-pub sound_history : (drawn : List ℕ) (t : Partition) (handed : List Batch) (h h' : History)
+pub sound_history : (drawn : List ℕ) (t : Partition) (handed : List HandedBatch) (h h' : History)
     → Sound drawn t handed h → CameBy (sents handed) h' → Sound drawn t handed h'
 sound_history drawn t handed h h' s c = record {
   number = s.number;
@@ -76,7 +77,7 @@ sound_history drawn t handed h h' s c = record {
   queue = s.queue;
 }
 
-pub sound_drawn : (drawn : List ℕ) (id : ℕ) (t : Partition) (handed : List Batch) (h : History)
+pub sound_drawn : (drawn : List ℕ) (id : ℕ) (t : Partition) (handed : List HandedBatch) (h : History)
     → Sound drawn t handed h → Sound (drawn ++ id ∷ []) t handed h
 sound_drawn drawn id t handed h s = record {
   number = s.number;
@@ -112,10 +113,10 @@ sound_new id = record {
 abbrev new : Partition → Pending → Sent
 new t front = sent_of (new_batch t front)
 
-sents_more : (handed : List Batch) (b : Batch) → sents (handed ++ b ∷ []) ≡ sents handed ++ sent_of b ∷ []
+sents_more : (handed : List HandedBatch) (b : HandedBatch) → sents (handed ++ b ∷ []) ≡ sents handed ++ sent_of b ∷ []
 sents_more handed b = map-append sent_of handed (b ∷ [])
 
-count_one_more : (id : ℕ) (handed : List Batch) (b : Batch) → b.id ≡ id
+count_one_more : (id : ℕ) (handed : List HandedBatch) (b : HandedBatch) → b.id ≡ id
     → count_of (pos id) (records_of (sents (handed ++ b ∷ [])))
     ≡ count_of (pos id) (records_of (sents handed)) + length b.items
 count_one_more id handed b same =
@@ -135,25 +136,25 @@ count_one_more id handed b same =
     let size : length (map body_of b.items) ≡ length b.items = length-map b.items body_of in
     omega (arith, parts, last, own, size)
 
-pub opens_more : (handed : List Batch) (b : Batch) (os : List Open) → OpenIn handed os → OpenIn (handed ++ b ∷ []) os
+pub opens_more : (handed : List HandedBatch) (b : HandedBatch) (os : List Open) → OpenIn handed os → OpenIn (handed ++ b ∷ []) os
 opens_more handed b os h = all_weaker (λ (o : Open). In o.batch handed)
     (λ (o : Open). In o.batch (handed ++ b ∷ [])) (λ o i. In-append_left o.batch handed (b ∷ []) i)
     os h
 
-pub opens_last : (handed : List Batch) (o : Open) (os : List Open) → In o.batch handed
+pub opens_last : (handed : List HandedBatch) (o : Open) (os : List Open) → In o.batch handed
     → OpenIn handed os → OpenIn handed (os ++ o ∷ [])
 opens_last handed o os i h = all_append (λ (x : Open). In x.batch handed) os (o ∷ []) h (i, tt)
 
-pub sound_handed : (drawn : List ℕ) (t : Partition) (handed : List Batch) (h : History) (request : ℕ) (front : Pending) (rest : List Pending)
-    → Sound drawn t handed h → t.queue ≡ front ∷ rest → Sound drawn (handed_over_in request t (front ∷ rest)) (handed ++ new_batch t front ∷ []) h
-unfolding handed_over_in
+pub sound_handed : (drawn : List ℕ) (t : Partition) (handed : List HandedBatch) (h : History) (request : ℕ) (front : Pending) (rest : List Pending)
+    → Sound drawn t handed h → t.queue ≡ front ∷ rest → Sound drawn (hand_over_in request t (front ∷ rest)) (handed ++ new_batch t front ∷ []) h
+unfolding hand_over_in
 sound_handed drawn t handed h request front rest s queue = record {
   number = omega (arith, all, s.number);
   sequence = let m : count_under t.ids (handed ++ new_batch t front ∷ []) ≡ count_under t.ids handed + length front.items = count_one_more (present_id t) handed (new_batch t front) refl in omega (arith, s.sequence, m);
   in_sequence = subst AreInSequence (sym (sents_more handed (new_batch t front))) (one_more_handed (sents handed) (new t front) s.in_sequence follows);
   came = subst (λ (ss : List Sent). CameBy ss h) (sym (sents_more handed (new_batch t front))) (came_of_more (sents handed) (new t front) h s.came);
-  numbers = λ x i. ⊎_elim (λ (j : In x handed). omega (arith, all, s.numbers x j)) (λ (same : x ≡ new_batch t front). let m : x.number ≡ t.next_number = ap (λ (y : Batch). y.number) same in omega (arith, all, s.number, m)) (one_more handed (new_batch t front) x i);
-  under = λ x i. ⊎_elim (λ (j : In x handed). s.under x j) (λ (same : x ≡ new_batch t front). subst (λ (y : Batch). In y.id t.ids) (sym same) s.present) (one_more handed (new_batch t front) x i);
+  numbers = λ x i. ⊎_elim (λ (j : In x handed). omega (arith, all, s.numbers x j)) (λ (same : x ≡ new_batch t front). let m : x.number ≡ t.next_number = ap (λ (y : HandedBatch). y.number) same in omega (arith, all, s.number, m)) (one_more handed (new_batch t front) x i);
+  under = λ x i. ⊎_elim (λ (j : In x handed). s.under x j) (λ (same : x ≡ new_batch t front). subst (λ (y : HandedBatch). In y.id t.ids) (sym same) s.present) (one_more handed (new_batch t front) x i);
   present = s.present;
   drawn_all = s.drawn_all;
   opens = opens_last (handed ++ new_batch t front ∷ []) (opened_in request t front) t.open_batches (In-append_right (new_batch t front) handed (new_batch t front ∷ []) (In-head (new_batch t front) [])) (opens_more handed (new_batch t front) t.open_batches s.opens);
@@ -174,7 +175,7 @@ sound_handed drawn t handed h request front rest s queue = record {
 
 -- ---- a fresh id
 
-count_none : (id : ℕ) (handed : List Batch) → ((b : Batch) → In b handed → b.id ≡ id → ⊥)
+count_none : (id : ℕ) (handed : List HandedBatch) → ((b : HandedBatch) → In b handed → b.id ≡ id → ⊥)
     → count_of (pos id) (records_of (sents handed)) ≡ 0
 count_none id [] h = refl
 count_none id (b ∷ handed) h =
@@ -193,8 +194,8 @@ pub last_is : (o : Option ℕ) (ids : List ℕ) (id : ℕ) → last_or o (ids ++
 last_is o [] id = refl
 last_is o (x ∷ ids) id = last_is (Some x) ids id
 
-pub sound_fresh : (drawn : List ℕ) (id : ℕ) (t : Partition) (handed : List Batch) (h : History)
-    → Sound drawn t handed h → In id drawn → (In id t.ids → ⊥) → Sound drawn (under id t) handed h
+pub sound_fresh : (drawn : List ℕ) (id : ℕ) (t : Partition) (handed : List HandedBatch) (h : History)
+    → Sound drawn t handed h → In id drawn → (In id t.ids → ⊥) → Sound drawn (go_on_under id t) handed h
 sound_fresh drawn id t handed h s known fresh = record {
   number = s.number;
   sequence = sym (ap (λ (o : Option ℕ). count_of (pos (unwrap_or o 0)) (records_of (sents handed)))

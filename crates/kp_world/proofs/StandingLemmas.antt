@@ -16,7 +16,7 @@ use Rattle.kp_log.specs.History.{History, stored_of, records_of, own, is_under}
 use Rattle.kp_log.specs.Log.{count_of, stored_as}
 use Rattle.kp_log.proofs.LogLemmas.{length-stored_as, int_eq_same}
 use Rattle.kp_log.proofs.PlaceLemmas.{In, In-from_contains, contains_from_In, cut_cases}
-use Rattle.kp_core.specs.Records.{Batch, Partition, Told}
+use Rattle.kp_core.specs.Records.{HandedBatch, Partition, Told}
 use Rattle.kp_world.specs.declared.event.Event.{Event}
 use Rattle.kp_world.specs.Client.{handed_at}
 use Rattle.kp_world.specs.Delivering.{log_at}
@@ -86,16 +86,16 @@ count_own id ids (x ∷ xs) i = at_test (int_eq x.producer_id (pos id)) refl (co
         other (is_under (map pos ids) x) true is e ∙ sym (ap (λ (t : Bool). cond t (suc (count_of (pos id) xs)) (count_of (pos id) xs)) is)
 
 -- as many records as items
-length_records : (bs : List Batch) → length (records_of (sents bs)) ≡ length (flat_map (λ (b : Batch). b.items) bs)
+length_records : (bs : List HandedBatch) → length (records_of (sents bs)) ≡ length (flat_map (λ (b : HandedBatch). b.items) bs)
 length_records [] = refl
 length_records (b ∷ bs) =
     let first : length (stored_of (sent_of b)) ≡ length b.items = length-stored_as (pos b.id) (map body_of b.items) ∙ length-map b.items body_of in
-    omega (arith, length-append (stored_of (sent_of b)) (records_of (sents bs)), length-append b.items (flat_map (λ (c : Batch). c.items) bs), first, length_records bs)
+    omega (arith, length-append (stored_of (sent_of b)) (records_of (sents bs)), length-append b.items (flat_map (λ (c : HandedBatch). c.items) bs), first, length_records bs)
 
 -- ---- the own records before a stored batch are those of the batches that were handed over before it
 
-own_before : (ids : List ℕ) (t : Partition) (handed : List Batch) (h : History) → Sound ids t handed h → (cut : Cut t handed h) → (b : Batch) (i : In b handed) (base : ℤ) (s : Stands h.records (sent_of b) base)
-    → length (own t.ids s.before) ≡ length (flat_map (λ (c : Batch). c.items) i.earlier)
+own_before : (ids : List ℕ) (t : Partition) (handed : List HandedBatch) (h : History) → Sound ids t handed h → (cut : Cut t handed h) → (b : HandedBatch) (i : In b handed) (base : ℤ) (s : Stands h.records (sent_of b) base)
+    → length (own t.ids s.before) ≡ length (flat_map (λ (c : HandedBatch). c.items) i.earlier)
 own_before ids t handed h sound cut b i base s =
     ⊎_elim
     (λ (k : (more : _) × (cut.landed ≡ i.earlier ++ b ∷ more)). there k.0 k.1)
@@ -105,7 +105,7 @@ own_before ids t handed h sound cut b i base s =
     place : Follows (sents i.earlier) (sent_of b)
     place = follows ids t handed h sound i.earlier i.later b i.split
 
-    there : (more : List Batch) → cut.landed ≡ i.earlier ++ b ∷ more → length (own t.ids s.before) ≡ length (flat_map (λ (c : Batch). c.items) i.earlier)
+    there : (more : List HandedBatch) → cut.landed ≡ i.earlier ++ b ∷ more → length (own t.ids s.before) ≡ length (flat_map (λ (c : HandedBatch). c.items) i.earlier)
     there more e = by_first (sent_of b).bodies refl ∙ length_records i.earlier
       where
         left : own t.ids h.records ≡ own t.ids s.before ++ (stored_of (sent_of b) ++ own t.ids s.after)

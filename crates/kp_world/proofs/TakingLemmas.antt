@@ -1,4 +1,6 @@
 -- What was taken is accounted for still when an item is accepted, and when one is taken.
+use Rattle.kp_world.proofs.TellingLemmas.{HasDistinct}
+use Rattle.kp_core.proofs.PartitionLemmas.{one_changed}
 use Rattle.std.proofs.Common.{◌≡◌, ℕ, zero, suc, ◌+◌, ◌<◌, ◌≤◌, Bool, true, false, cond, List, [], ◌∷◌, ◌++◌, length, get_or, take, Some, refl, sym, ap, ◌∙◌, subst, arith, append_assoc, length-append}
 use Rattle.std.specs.Prelude.{flat_map, if◌then◌else◌, slice_get, slice_set, slice_index, slice_index_or, ◌==◌, ◌||◌}
 use Rattle.std.specs.List.{AllByRecursion, range_with_len}
@@ -9,9 +11,9 @@ use Rattle.kp_accum.specs.declared.item.Item.{Item}
 use Rattle.kp_accum.specs.Queue.{Pending, joins, joined_by, begun_by, with_item}
 use Rattle.kp_core.specs.declared.outcome.Outcome.TheVariants.{Unsent}
 use Rattle.kp_core.specs.declared.outcome.Reason.{Reason}
-use Rattle.kp_core.specs.Appending.{with_queued, in_queue}
+use Rattle.kp_core.specs.Appending.{enqueue, with_queued}
 use Rattle.kp_core.specs.Partitions.{new_partition, partition_at, changed_at, is_in, items_open, items_queued, untold}
-use Rattle.kp_core.specs.Records.{Batch, Partition, Request, Core, Told}
+use Rattle.kp_core.specs.Records.{HandedBatch, Partition, Core, Told}
 use Rattle.kp_core.specs.Telling.{told_all}
 use Rattle.kp_world.specs.Accepting.{for_partition}
 use Rattle.kp_world.specs.Accounts.{of_sender, unsent_among}
@@ -20,10 +22,11 @@ use Rattle.kp_world.proofs.AccountLemmas.{items_of, taken_for, taken_of, all_tak
 use Rattle.kp_world.proofs.ConservationLemmas.{items_told, unsent-append}
 use Rattle.kp_world.proofs.WeightLemmas.{weigh, weigh-append, weigh_at, weigh_flat, weigh_none}
 use Rattle.kp_world.proofs.FateLemmas.{filter_same, AreNumbered, numbered_more, numbered_back, Fates, fates_queued, fates_turned_away}
-use Rattle.kp_world.proofs.KeepingLemmas.{length-changed_at, at-changed_at}
-use Rattle.kp_world.proofs.TellingLemmas.{Distinct, home_past, weigh_places}
+use Rattle.kp_core.proofs.PartitionLemmas.{length-changed_at, at-changed_at}
+use Rattle.kp_world.proofs.TellingLemmas.{home_past, weigh_places}
 use Rattle.kp_log.proofs.PlaceLemmas.{In}
-use Rattle.kp_world.proofs.ListLemmas.{all_at, all_filter, all_say}
+use Rattle.kp_core.proofs.ListLemmas.{all_filter, all_say}
+use Rattle.kp_world.proofs.ListLemmas.{all_at}
 use Rattle.kp_wire.proofs.ListLemmas.{all_append}
 
 -- ---- lists
@@ -92,7 +95,7 @@ accepts_more count s items n i a own there number = record {
         subst (λ r. AreNumbered 0 (for_partition p items ++ r)) (sym (for_one p i true is)) (numbered_more 0 (for_partition p items) i (a.numbered p) (omega (arith, at)))
     at_test p false is = subst (λ r. AreNumbered 0 (for_partition p items ++ r)) (sym (for_one p i false is)) (subst (AreNumbered 0) (sym (append-nil (for_partition p items))) (a.numbered p))
 
-pub accounts_accepted : (core : Core) (accepted : List (List Item)) (taken : List ℕ) (handed : List (List Batch)) (told : List Told) (i : Item)
+pub accounts_accepted : (core : Core) (accepted : List (List Item)) (taken : List ℕ) (handed : List (List HandedBatch)) (told : List Told) (i : Item)
     → Accounts core accepted taken handed told → i.sender < length accepted → i.partition < length core.partitions → i.number ≡ length (for_partition i.partition (slice_index_or accepted i.sender []))
     → Accounts core (slice_set accepted i.sender (slice_index_or accepted i.sender [] ++ i ∷ [])) taken handed told
 accounts_accepted core accepted taken handed told i a there known number = record {
@@ -269,7 +272,7 @@ accepts_taken count s accepted taken i l next a s' = subst (Accepts count s' (sl
         subst (λ (n : ℕ). Accepts count n (slice_index_or accepted n []) (slice_index taken s + 1)) (sym e) here
     at_test false is = a s'
 
-pub accounts_turned_away : (why : Reason) (core core' : Core) (accepted : List (List Item)) (taken : List ℕ) (handed : List (List Batch)) (told : List Told) (s : ℕ) (i : Item)
+pub accounts_turned_away : (why : Reason) (core core' : Core) (accepted : List (List Item)) (taken : List ℕ) (handed : List (List HandedBatch)) (told : List Told) (s : ℕ) (i : Item)
     → Accounts core accepted taken handed told → s < length taken → IsNext (length core.partitions) s accepted taken i
     → core'.partitions ≡ core.partitions → core'.requests ≡ core.requests → Accounts core' accepted (with_one s taken) handed (told ++ told_all (Unsent why) (i ∷ []))
 accounts_turned_away why core core' accepted taken handed told s i a l next same_partitions same_requests = record {
@@ -277,7 +280,7 @@ accounts_turned_away why core core' accepted taken handed told s i a l next same
   handed_count = a.handed_count ∙ ap length (sym same_partitions);
   senders = λ s'. subst (λ (ts : List Partition). Accepts (length ts) s' (slice_index_or accepted s' []) (slice_index (with_one s taken) s')) (sym same_partitions) (accepts_taken (length core.partitions) s accepted taken i l next a.senders s');
   home = λ p. subst (λ (ts : List Partition). AllByRecursion (λ x. x.partition ≡ p) (untold (partition_at p ts))) (sym same_partitions) (a.home p);
-  requests = subst (AllByRecursion (λ (r : Request). Distinct r.partitions)) (sym same_requests) a.requests;
+  requests = subst (AllByRecursion HasDistinct) (sym same_requests) a.requests;
   fates = λ s' q h.
       subst (λ (ts : List Partition). Fates (taken_for s' q accepted (with_one s taken)) (of_sender s' (items_queued (partition_at q ts).queue)) (of_sender s' (items_of (handed_at q handed))) (of_sender s' (for_partition q (unsent_among (told ++ told_all (Unsent why) (i ∷ [])))))) (sym same_partitions)
       (subst (λ t. Fates t (of_sender s' (items_queued (partition_at q core.partitions).queue)) (of_sender s' (items_of (handed_at q handed))) (of_sender s' (for_partition q (unsent_among (told ++ told_all (Unsent why) (i ∷ [])))))) (sym (taken_more (length core.partitions) s accepted taken i l next s' q))
@@ -307,13 +310,13 @@ queued_with c i (b ∷ []) = at_test (joins c i b)
     at_test false = ap (λ r. r ++ i ∷ []) (sym (append-nil b.items))
 queued_with c i (b ∷ b' ∷ q) = ap (λ r. b.items ++ r) (queued_with c i (b' ∷ q)) ∙ sym (append_assoc b.items (items_queued (b' ∷ q)) (i ∷ []))
 
-home_queued : (c : Config) (i : Item) (t : Partition) (p : ℕ) → i.partition ≡ p → AllByRecursion (λ x. x.partition ≡ p) (untold t) → AllByRecursion (λ x. x.partition ≡ p) (untold (with_queued c i t))
+home_queued : (c : Config) (i : Item) (t : Partition) (p : ℕ) → i.partition ≡ p → AllByRecursion (λ x. x.partition ≡ p) (untold t) → AllByRecursion (λ x. x.partition ≡ p) (untold (enqueue c i t))
 unfolding untold
 home_queued c i t p e h =
     subst (AllByRecursion (λ (x : Item). x.partition ≡ p)) (append_assoc (items_open t.open_batches) (items_queued t.queue) (i ∷ []) ∙ ap (λ r. items_open t.open_batches ++ r) (sym (queued_with c i t.queue)))
     (all_append (λ (x : Item). x.partition ≡ p) (items_open t.open_batches ++ items_queued t.queue) (i ∷ []) h (e, tt))
 
-weigh_queued : (f : Item → ℕ) (c : Config) (i : Item) (t : Partition) → weigh f (untold (with_queued c i t)) ≡ weigh f (untold t) + f i
+weigh_queued : (f : Item → ℕ) (c : Config) (i : Item) (t : Partition) → weigh f (untold (enqueue c i t)) ≡ weigh f (untold t) + f i
 unfolding untold
 weigh_queued f c i t =
     let queue : weigh f (items_queued (with_item c i t.queue)) ≡ weigh f (items_queued t.queue) + (f i + 0) = ap (weigh f) (queued_with c i t.queue) ∙ weigh-append f (items_queued t.queue) (i ∷ []) in
@@ -321,51 +324,61 @@ weigh_queued f c i t =
     let b : weigh f (items_open t.open_batches ++ items_queued t.queue) ≡ weigh f (items_open t.open_batches) + weigh f (items_queued t.queue) = weigh-append f (items_open t.open_batches) (items_queued t.queue) in
     omega (arith, queue, a, b)
 
-pub accounts_queued : (core : Core) (accepted : List (List Item)) (taken : List ℕ) (handed : List (List Batch)) (told : List Told) (s : ℕ) (i : Item)
-    → Accounts core accepted taken handed told → s < length taken → IsNext (length core.partitions) s accepted taken i → Accounts (in_queue i core) accepted (with_one s taken) handed told
-accounts_queued core accepted taken handed told s i a l next = record {
+-- its core with the item in its partition's queue, as a change of several partitions
+abbrev changed_by : Item → Core → Core
+changed_by i core = record core { partitions = changed_at (i.partition ∷ []) (λ p t. enqueue core.config i t) core.partitions }
+
+accounts_changed : (core : Core) (accepted : List (List Item)) (taken : List ℕ) (handed : List (List HandedBatch)) (told : List Told) (s : ℕ) (i : Item)
+    → Accounts core accepted taken handed told → s < length taken → IsNext (length core.partitions) s accepted taken i → Accounts (changed_by i core) accepted (with_one s taken) handed told
+accounts_changed core accepted taken handed told s i a l next = record {
   taken_count = length-set taken s (slice_index taken s + 1) ∙ a.taken_count;
   handed_count = a.handed_count ∙ sym count;
   senders = λ s'. subst (λ (n : ℕ). Accepts n s' (slice_index_or accepted s' []) (slice_index (with_one s taken) s')) (sym count) (accepts_taken (length core.partitions) s accepted taken i l next a.senders s');
-  home = home_past (in_queue i core).partitions (λ p h. subst (λ (t : Partition). AllByRecursion (λ x. x.partition ≡ p) (untold t)) (sym (changed p (within p h))) (at_home p (i.partition == p) refl));
+  home = home_past (changed_by i core).partitions (λ p h. subst (λ (t : Partition). AllByRecursion (λ x. x.partition ≡ p) (untold t)) (sym (changed p (within p h))) (at_home p (i.partition == p) refl));
   requests = a.requests;
   fates = λ s' q h.
-      subst (λ t. Fates t (of_sender s' (items_queued (partition_at q (in_queue i core).partitions).queue)) (of_sender s' (items_of (handed_at q handed))) (of_sender s' (for_partition q (unsent_among told)))) (sym (taken_more (length core.partitions) s accepted taken i l next s' q))
+      subst (λ t. Fates t (of_sender s' (items_queued (partition_at q (changed_by i core).partitions).queue)) (of_sender s' (items_of (handed_at q handed))) (of_sender s' (for_partition q (unsent_among told)))) (sym (taken_more (length core.partitions) s accepted taken i l next s' q))
       (subst (λ w. Fates (taken_for s' q accepted taken ++ picked s' q i) w (of_sender s' (items_of (handed_at q handed))) (of_sender s' (for_partition q (unsent_among told)))) (sym (queue s' q (within q h)))
       (more_queued s' q i (taken_for s' q accepted taken) (of_sender s' (items_queued (partition_at q core.partitions).queue)) (of_sender s' (items_of (handed_at q handed))) (of_sender s' (for_partition q (unsent_among told)))
       (number_for (length core.partitions) s accepted taken i next s' q) (a.fates s' q (within q h))));
   weights = λ f.
       let before : weigh f (items_told told) + weigh f (flat_map untold core.partitions) ≡ weigh f (all_taken accepted taken) = a.weights f in
       let more : weigh f (all_taken accepted (with_one s taken)) ≡ weigh f (all_taken accepted taken) + f i = weigh_taken f (length core.partitions) s accepted taken i l a.taken_count next in
-      let queue_more : weigh f (flat_map untold (in_queue i core).partitions) ≡ weigh f (flat_map untold core.partitions) + f i =
-      weigh_more f (f i) (new_partition 0) core.partitions (in_queue i core).partitions i.partition count next.known (one_more f) (λ p h ne. ap (weigh f) (ap untold (changed p h ∙ ap (λ (b : Bool). if b || false then with_queued core.config i (partition_at p core.partitions) else partition_at p core.partitions) (ne_eqb i.partition p (λ (e : i.partition ≡ p). ne (sym e)))))) in
+      let queue_more : weigh f (flat_map untold (changed_by i core).partitions) ≡ weigh f (flat_map untold core.partitions) + f i =
+      weigh_more f (f i) (new_partition 0) core.partitions (changed_by i core).partitions i.partition count next.known (one_more f) (λ p h ne. ap (weigh f) (ap untold (changed p h ∙ ap (λ (b : Bool). if b || false then enqueue core.config i (partition_at p core.partitions) else partition_at p core.partitions) (ne_eqb i.partition p (λ (e : i.partition ≡ p). ne (sym e)))))) in
       omega (arith, before, more, queue_more);
 }
   where
-    count : length (changed_at (i.partition ∷ []) (λ p t. with_queued core.config i t) core.partitions) ≡ length core.partitions
-    count = length-changed_at (i.partition ∷ []) (λ p t. with_queued core.config i t) core.partitions
+    count : length (changed_at (i.partition ∷ []) (λ p t. enqueue core.config i t) core.partitions) ≡ length core.partitions
+    count = length-changed_at (i.partition ∷ []) (λ p t. enqueue core.config i t) core.partitions
 
-    within : (p : ℕ) → p < length (changed_at (i.partition ∷ []) (λ p t. with_queued core.config i t) core.partitions) → p < length core.partitions
-    within p h = subst (λ (n : ℕ). p < n) (length-changed_at (i.partition ∷ []) (λ p t. with_queued core.config i t) core.partitions) h
+    within : (p : ℕ) → p < length (changed_at (i.partition ∷ []) (λ p t. enqueue core.config i t) core.partitions) → p < length core.partitions
+    within p h = subst (λ (n : ℕ). p < n) (length-changed_at (i.partition ∷ []) (λ p t. enqueue core.config i t) core.partitions) h
 
-    changed : (p : ℕ) → p < length core.partitions → partition_at p (changed_at (i.partition ∷ []) (λ p t. with_queued core.config i t) core.partitions)
-        ≡ (if is_in p (i.partition ∷ []) then with_queued core.config i (partition_at p core.partitions) else partition_at p core.partitions)
-    changed p h = at-changed_at (i.partition ∷ []) (λ p t. with_queued core.config i t) core.partitions p h
+    changed : (p : ℕ) → p < length core.partitions → partition_at p (changed_at (i.partition ∷ []) (λ p t. enqueue core.config i t) core.partitions)
+        ≡ (if is_in p (i.partition ∷ []) then enqueue core.config i (partition_at p core.partitions) else partition_at p core.partitions)
+    changed p h = at-changed_at (i.partition ∷ []) (λ p t. enqueue core.config i t) core.partitions p h
 
-    one_more : (f : Item → ℕ) → weigh f (untold (partition_at i.partition (changed_at (i.partition ∷ []) (λ p t. with_queued core.config i t) core.partitions))) ≡ weigh f (untold (partition_at i.partition core.partitions)) + f i
-    one_more f = ap (weigh f) (ap untold (changed i.partition next.known ∙ ap (λ (b : Bool). if b || false then with_queued core.config i (partition_at i.partition core.partitions) else partition_at i.partition core.partitions) (eq-eqb i.partition i.partition refl))) ∙ weigh_queued f core.config i (partition_at i.partition core.partitions)
+    one_more : (f : Item → ℕ) → weigh f (untold (partition_at i.partition (changed_at (i.partition ∷ []) (λ p t. enqueue core.config i t) core.partitions))) ≡ weigh f (untold (partition_at i.partition core.partitions)) + f i
+    one_more f = ap (weigh f) (ap untold (changed i.partition next.known ∙ ap (λ (b : Bool). if b || false then enqueue core.config i (partition_at i.partition core.partitions) else partition_at i.partition core.partitions) (eq-eqb i.partition i.partition refl))) ∙ weigh_queued f core.config i (partition_at i.partition core.partitions)
 
-    at_home : (p : ℕ) (b : Bool) → (i.partition == p) ≡ b → AllByRecursion (λ x. x.partition ≡ p) (untold (if b || false then with_queued core.config i (partition_at p core.partitions) else partition_at p core.partitions))
+    at_home : (p : ℕ) (b : Bool) → (i.partition == p) ≡ b → AllByRecursion (λ x. x.partition ≡ p) (untold (if b || false then enqueue core.config i (partition_at p core.partitions) else partition_at p core.partitions))
     at_home p true is = home_queued core.config i (partition_at p core.partitions) p (eqb-true i.partition p is) (a.home p)
     at_home p false is = a.home p
 
     queue_of : (s' q : ℕ) (b : Bool) → (i.partition == q) ≡ b
-        → of_sender s' (items_queued (if b || false then with_queued core.config i (partition_at q core.partitions) else partition_at q core.partitions).queue) ≡ of_sender s' (items_queued (partition_at q core.partitions).queue) ++ picked s' q i
+        → of_sender s' (items_queued (if b || false then enqueue core.config i (partition_at q core.partitions) else partition_at q core.partitions).queue) ≡ of_sender s' (items_queued (partition_at q core.partitions).queue) ++ picked s' q i
     queue_of s' q true is =
         ap (of_sender s') (queued_with core.config i (partition_at q core.partitions).queue) ∙ sender-append s' (items_queued (partition_at q core.partitions).queue) (i ∷ [])
         ∙ ap (λ r. of_sender s' (items_queued (partition_at q core.partitions).queue) ++ of_sender s' r) (sym (for_one q i true is))
     queue_of s' q false is = sym (ap (λ r. of_sender s' (items_queued (partition_at q core.partitions).queue) ++ r) (picked_other s' q i is) ∙ append-nil (of_sender s' (items_queued (partition_at q core.partitions).queue)))
 
-    queue : (s' q : ℕ) → q < length core.partitions → of_sender s' (items_queued (partition_at q (changed_at (i.partition ∷ []) (λ p t. with_queued core.config i t) core.partitions)).queue)
+    queue : (s' q : ℕ) → q < length core.partitions → of_sender s' (items_queued (partition_at q (changed_at (i.partition ∷ []) (λ p t. enqueue core.config i t) core.partitions)).queue)
         ≡ of_sender s' (items_queued (partition_at q core.partitions).queue) ++ picked s' q i
-    queue s' q h = ap (λ (t : Partition). of_sender s' (items_queued t.queue)) (at-changed_at (i.partition ∷ []) (λ p t. with_queued core.config i t) core.partitions q h) ∙ queue_of s' q (i.partition == q) refl
+    queue s' q h = ap (λ (t : Partition). of_sender s' (items_queued t.queue)) (at-changed_at (i.partition ∷ []) (λ p t. enqueue core.config i t) core.partitions q h) ∙ queue_of s' q (i.partition == q) refl
+
+pub accounts_queued : (core : Core) (accepted : List (List Item)) (taken : List ℕ) (handed : List (List HandedBatch)) (told : List Told) (s : ℕ) (i : Item)
+    → Accounts core accepted taken handed told → s < length taken → IsNext (length core.partitions) s accepted taken i → Accounts (with_queued i core) accepted (with_one s taken) handed told
+accounts_queued core accepted taken handed told s i a l next =
+    subst (λ (ts : List Partition). Accounts (record core { partitions = ts }) accepted (with_one s taken) handed told) (sym (one_changed i.partition (enqueue core.config i) core.partitions))
+    (accounts_changed core accepted taken handed told s i a l next)

@@ -1,4 +1,17 @@
 -- What a call on the core tells of each partition's items, and what it keeps.
+use Rattle.kp_core.proofs.ListLemmas.{at_set}
+use Rattle.kp_core.specs.Attempts.{asks_for_id}
+use Rattle.kp_core.specs.Attempts.{partitions_of}
+use Rattle.kp_core.specs.Records.{Called}
+use Rattle.kp_core.specs.Records.{Demand}
+use Rattle.std.proofs.Common.{length-set}
+use Rattle.kp_core.specs.Fence.{give_up}
+use Rattle.kp_core.specs.InOrder.{AreDistinct}
+use Rattle.kp_core.specs.Mismatch.{entries_for}
+use Rattle.kp_core.specs.Partitions.{with_partition}
+use Rattle.kp_core.specs.Replies.{give_id}
+use Rattle.kp_core.specs.Replies.{settle_id}
+use Rattle.std.proofs.Common.{not}
 use Rattle.std.proofs.Common.{◌≡◌, ℕ, zero, suc, ◌+◌, ◌<◌, ◌≤◌, Bool, true, false, cond, List, [], ◌∷◌, ◌++◌, length, get_or, map, pos, Some, refl, sym, ap, ◌∙◌, subst, arith}
 use Rattle.std.specs.Prelude.{if◌then◌else◌, flat_map, nat_abs, ◌==◌, ◌||◌}
 use Rattle.std.specs.List.{AllByRecursion, filter, range_with_len}
@@ -7,27 +20,35 @@ use Rattle.std.proofs.lemmas.List.{append-nil, get_or-map, length-map}
 use Rattle.std.proofs.lemmas.List.Elements.{filter-append}
 use Rattle.kp_accum.specs.declared.item.Item.{Item}
 use Rattle.kp_frames.specs.declared.producer_id.InitProducerIdResponse.{InitProducerIdResponse}
+use Rattle.kp_frames.specs.declared.produce.ProduceResponse.{ProduceResponse}
 use Rattle.kp_frames.specs.declared.response.Response.{Response}
-use Rattle.kp_core.specs.Attempts.{awaiting, without_attempts, dropped, is_live}
-use Rattle.kp_core.specs.Fence.{given_up, ended}
-use Rattle.kp_core.specs.Flush.{with_marks, flushed}
+use Rattle.kp_core.proofs.CallLemmas.{at_close, at_disconnect, at_end_step, at_response, at_tick}
+use Rattle.kp_core.proofs.OutcomeLemmas.{by_entries, answered_so, in_flight}
+use Rattle.kp_core.specs.declared.outcome.Reason.TheVariants as reason
+use Rattle.kp_core.specs.Closing.{close_step, end_step}
+use Rattle.kp_core.specs.Flush.{flush_step}
+use Rattle.kp_core.specs.Replies.{response_step, go_on_under}
+use Rattle.kp_core.specs.Tick.{tick_step, heed_deadlines}
+use Rattle.kp_core.specs.Attempts.{awaiting, is_live}
+use Rattle.kp_core.specs.Causes.{IsAnswered}
+use Rattle.kp_core.specs.Dropping.{drop_attempts, disconnect_step, drop_requests}
+use Rattle.kp_core.specs.Flush.{mark}
 use Rattle.kp_core.specs.MaySend.{wants_id}
-use Rattle.kp_core.specs.Mismatch.{Answers, answers_for, is_given}
+use Rattle.kp_core.specs.Mismatch.{is_given}
 use Rattle.kp_core.specs.Partitions.{partition_at, changed_at, new_partition, is_in, untold}
-use Rattle.kp_core.specs.Records.{Open, Partition, Request, IdRequest, Core, Told, Effect, Step}
-use Rattle.kp_core.specs.Replies.{first_answered, answering, under, under_if_wanted, id_given, id_refused, id_answered, replied, Replies}
-use Rattle.kp_core.specs.Telling.{with_partitions, at_each, told_at_each, at_these, told_at}
-use Rattle.kp_core.specs.Tick.{passed, Ticks, ticked, disconnected, closed}
+use Rattle.kp_core.specs.Records.{Open, Partition, Request, Core, Told, Effect}
+use Rattle.kp_core.specs.Replies.{Replies}
+use Rattle.kp_core.specs.Telling.{with_partitions, at_each, at_these}
+use Rattle.kp_core.specs.Tick.{Ticks}
 use Rattle.kp_world.proofs.ConservationLemmas.{items_told, attempt_count, Tells, tells_same, tells_both, tells_nothing, tells_dropped, tells_marked, tells_given_up, tells_passed, tells_answered}
 use Rattle.kp_world.proofs.FateLemmas.{filter_other, filter_same}
 use Rattle.kp_world.proofs.WeightLemmas.{weigh, weigh-append, weigh_at, weigh_none}
-use Rattle.kp_world.proofs.KeepingLemmas.{at-changed_at, length-changed_at}
-use Rattle.kp_core.specs.Causes.{IsAnswered}
+use Rattle.kp_core.proofs.PartitionLemmas.{at-changed_at, length-changed_at}
 use Rattle.kp_frames.specs.declared.produce.PartitionProduceResponse.{PartitionProduceResponse}
-use Rattle.kp_core.proofs.OutcomeLemmas.{answered_so, in_flight, all_places}
-use Rattle.kp_core.proofs.CallLemmas.{at_closed, at_disconnected, at_ended, at_replied, at_ticked}
+use Rattle.kp_core.proofs.OutcomeLemmas.{all_places}
 use Rattle.kp_core.proofs.ListLemmas.{all_flat_map}
-use Rattle.kp_world.proofs.ListLemmas.{all_at, all_filter, all_say, all_weaker}
+use Rattle.kp_core.proofs.ListLemmas.{all_filter, all_say, all_weaker}
+use Rattle.kp_world.proofs.ListLemmas.{all_at}
 use Rattle.kp_log.proofs.PlaceLemmas.{In-from_contains}
 
 -- ---- what is told, by partition
@@ -84,12 +105,7 @@ told_each f (t ∷ ts) d k (suc p) l h =
     ∙ ap (λ r. r ++ told_for (k + 1 + p) (flat_map f ts)) (filter_other partition_told k (k + 1 + p) (f t) (λ e. omega (arith, e)) (by_place_first k f t ts d h))
     ∙ told_each f ts d (k + 1) p (omega (arith, l)) (by_place_rest k f t ts d h)
 
--- no two are one
-abbrev pub Distinct : List ℕ → Type 0
-Distinct [] = Unit {0}
-Distinct (q ∷ qs) = (is_in q qs ≡ false) × Distinct qs
-
-told_these : (g : ℕ → List Told) → ((q : ℕ) → AllFor q (g q)) → (ps : List ℕ) (p : ℕ) → Distinct ps
+told_these : (g : ℕ → List Told) → ((q : ℕ) → AllFor q (g q)) → (ps : List ℕ) (p : ℕ) → AreDistinct ps
     → told_for p (flat_map g ps) ≡ (if is_in p ps then g p else [])
 told_these g home [] p h = refl
 told_these g home (q ∷ qs) p h = for_append p (g q) (flat_map g qs) ∙ at_test (told_these g home qs p h.1) (q == p) refl
@@ -165,23 +181,23 @@ core_map f k s s' e requests = record {
   there = tt;
 }
 
-pub core_dropped : (now : ℕ) (s : Core) → CoreTells s [] (dropped now s)
-unfolding dropped
-core_dropped now s = core_map (without_attempts now) (tells_dropped now) s (dropped now s) refl (λ P h. tt)
+pub core_dropped : (now : ℕ) (s : Core) → CoreTells s [] (drop_requests now s)
+unfolding drop_requests
+core_dropped now s = core_map (drop_attempts now) (tells_dropped now) s (drop_requests now s) refl (λ P h. tt)
 
-pub core_flushed : (s : Core) → CoreTells s [] (flushed s)
-unfolding flushed
-core_flushed s = core_map with_marks tells_marked s (flushed s) refl (λ P h. h)
+pub core_flushed : (s : Core) → CoreTells s [] (flush_step s)
+unfolding flush_step
+core_flushed s = core_map mark tells_marked s (flush_step s) refl (λ P h. h)
 
-pub core_disconnected : (now : ℕ) (s : Core) → CoreTells s [] (disconnected now s)
-core_disconnected now s = at_disconnected (CoreTells s []) now s (core_nothing s) (core_dropped now s)
+pub core_disconnected : (now : ℕ) (s : Core) → CoreTells s [] (disconnect_step now s)
+core_disconnected now s = at_disconnect (CoreTells s []) now s (core_nothing s) (core_dropped now s)
 
-pub core_closed : (s : Core) → CoreTells s [] (closed s)
-core_closed s = at_closed (CoreTells s []) s (core_nothing s) (core_alike s (record s { closing = true }) refl (λ P h. h))
+pub core_closed : (s : Core) → CoreTells s [] (close_step s)
+core_closed s = at_close (CoreTells s []) s (core_nothing s) (core_alike s (record s { closing = true }) refl (λ P h. h))
 
 core_at_each : (rule : Partition → Effect) → ((t : Partition) → Tells t (rule t).told (rule t).after)
-    → (s : Core) → AtHome s.partitions → CoreTells s (told_at_each rule s) (at_each rule s)
-unfolding at_each told_at_each with_partitions
+    → (s : Core) → AtHome s.partitions → CoreTells s (at_each rule s).told (at_each rule s).after
+unfolding at_each with_partitions
 core_at_each rule tells s home = record {
   count = length-map s.partitions (λ t. (rule t).after);
   each = λ p h.
@@ -201,8 +217,8 @@ core_at_each rule tells s home = record {
 }
 
 core_at_these : (ps : List ℕ) (rule : ℕ → Partition → Effect) → (s : Core)
-    → ((p : ℕ) → Tells (partition_at p s.partitions) (rule p (partition_at p s.partitions)).told (rule p (partition_at p s.partitions)).after) → Distinct ps → AtHome s.partitions → CoreTells s (told_at ps rule s) (at_these ps rule s)
-unfolding at_these told_at with_partitions
+    → ((p : ℕ) → Tells (partition_at p s.partitions) (rule p (partition_at p s.partitions)).told (rule p (partition_at p s.partitions)).after) → AreDistinct ps → AtHome s.partitions → CoreTells s (at_these ps rule s).told (at_these ps rule s).after
+unfolding at_these with_partitions
 core_at_these ps rule s tells distinct home = record {
   count = length-changed_at ps (λ p t. (rule p t).after) s.partitions;
   each = λ p h.
@@ -272,32 +288,32 @@ core_weighs s told s' k f =
 
 -- ---- the calls
 
-home_dropped : (now : ℕ) (s : Core) → AtHome s.partitions → AtHome (dropped now s).partitions
-unfolding dropped
-home_dropped now s home = home_mapped (without_attempts now) (tells_dropped now) s.partitions home
+home_dropped : (now : ℕ) (s : Core) → AtHome s.partitions → AtHome (drop_requests now s).partitions
+unfolding drop_requests
+home_dropped now s home = home_mapped (drop_attempts now) (tells_dropped now) s.partitions home
 
-pub core_ticked : (now : ℕ) (s : Core) → AtHome s.partitions → CoreTells s (ticked now s).told (ticked now s).after
-core_ticked now s home = at_ticked (λ (x : Ticks). CoreTells s x.told x.after) now s (record {
+pub core_ticked : (now : ℕ) (s : Core) → AtHome s.partitions → CoreTells s (tick_step now s).told (tick_step now s).after
+core_ticked now s home = at_tick (λ (x : Ticks). CoreTells s x.told x.after) now s (record {
   ended = core_nothing s;
-  timed_out = core_then s (dropped now s) (at_each (passed (dropped now s).config now) (dropped now s)) (told_at_each (passed (dropped now s).config now) (dropped now s)) (core_dropped now s)
-      (core_at_each (passed (dropped now s).config now) (tells_passed (dropped now s).config now) (dropped now s) (home_dropped now s home));
-  on_time = core_at_each (passed s.config now) (tells_passed s.config now) s home;
+  timed_out = core_then s (drop_requests now s) (at_each (heed_deadlines (drop_requests now s).config now) (drop_requests now s)).after (at_each (heed_deadlines (drop_requests now s).config now) (drop_requests now s)).told (core_dropped now s)
+      (core_at_each (heed_deadlines (drop_requests now s).config now) (tells_passed (drop_requests now s).config now) (drop_requests now s) (home_dropped now s home));
+  on_time = core_at_each (heed_deadlines s.config now) (tells_passed s.config now) s home;
 })
 
-pub core_ended : (s : Core) → AtHome s.partitions → CoreTells s (ended s).told (ended s).after
-core_ended s home = at_ended (λ (x : Step (Unit {0})). CoreTells s x.told x.after) s (core_nothing s) (record { count = k.count; each = k.each; requests = k.requests; there = k.there })
+pub core_ended : (s : Core) → AtHome s.partitions → CoreTells s (end_step s).told (end_step s).after
+core_ended s home = at_end_step (λ (x : Called ℕ). CoreTells s x.told x.after) s (core_nothing s) (record { count = k.count; each = k.each; requests = λ P h. tt; there = k.there })
   where
-    k : CoreTells s (told_at_each given_up s) (at_each given_up s)
-    k = core_at_each given_up tells_given_up s home
+    k : CoreTells s (at_each (give_up reason.Ended) s).told (at_each (give_up reason.Ended) s).after
+    k = core_at_each (give_up reason.Ended) (tells_given_up reason.Ended) s home
 
 -- ---- a reply
 
-tells_answering : (now k : ℕ) (answers : Answers) (p : ℕ) (t : Partition)
-    → ((a : PartitionProduceResponse) (rest : Answers) → answers_for p answers ≡ a ∷ rest → (o : Open) → awaiting k t ≡ Some o → attempt_count k t.open_batches ≤ 1)
-    → Tells t (answering now k answers p t).told (answering now k answers p t).after
-tells_answering now k answers p t one = at_first (answers_for p answers) refl
+tells_entries : (now k : ℕ) (response : ProduceResponse) (p : ℕ) (t : Partition)
+    → ((a : PartitionProduceResponse) (rest : List PartitionProduceResponse) → entries_for p response ≡ a ∷ rest → (o : Open) → awaiting k t ≡ Some o → attempt_count k t.open_batches ≤ 1)
+    → Tells t (by_entries now k t (entries_for p response)).told (by_entries now k t (entries_for p response)).after
+tells_entries now k response p t one = at_first (entries_for p response) refl
   where
-    at_first : (xs : Answers) → answers_for p answers ≡ xs → Tells t (first_answered now k t xs).told (first_answered now k t xs).after
+    at_first : (xs : List PartitionProduceResponse) → entries_for p response ≡ xs → Tells t (by_entries now k t xs).told (by_entries now k t xs).after
     at_first [] is = tells_nothing t
     at_first (a ∷ xs) is = tells_answered now k t a (one a xs is)
 
@@ -305,40 +321,50 @@ tells_answering now k answers p t one = at_first (answers_for p answers) refl
 abbrev pub IsSingle : Core → Response → Type 0
 IsSingle s response = (p k : ℕ) (o : Open) (a : PartitionProduceResponse) → IsAnswered s response p o a → pos k ≡ response.correlation → attempt_count k (partition_at p s.partitions).open_batches ≤ 1
 
-tells_under : (id : ℕ) (t : Partition) → Tells t [] (under id t)
+tells_under : (id : ℕ) (t : Partition) → Tells t [] (go_on_under id t)
 unfolding untold
-tells_under id t = tells_same t (under id t) refl refl
+tells_under id t = tells_same t (go_on_under id t) refl refl
 
-core_given : (id : ℕ) (q : IdRequest) (s : Core) → CoreTells s [] (id_given id q s)
-core_given id q s = record {
-  count = length-changed_at (q.partition ∷ []) (under_if_wanted id s) s.partitions;
-  each = λ p h. subst (Tells (partition_at p s.partitions) []) (sym (at-changed_at (q.partition ∷ []) (under_if_wanted id s) s.partitions p h)) (at_place p (partition_at p s.partitions) (is_in p (q.partition ∷ [])));
+core_set : (p : ℕ) (t : Partition) (s : Core) → Tells (partition_at p s.partitions) [] t → CoreTells s [] (with_partition p t s)
+core_set p t s k = record {
+  count = length-set s.partitions p t;
+  each = λ q h. at_set (Tells (partition_at q s.partitions) []) s.partitions p q t (new_partition 0)
+      (λ e. (subst (λ (n : ℕ). n < length s.partitions) e h, subst (λ (n : ℕ). Tells (partition_at n s.partitions) [] t) (sym e) k)) (tells_nothing (partition_at q s.partitions));
   requests = λ P h. h;
   there = tt;
 }
+
+core_given : (id p : ℕ) (s : Core) → CoreTells s [] (give_id id p s)
+core_given id p s = at_want (wants_id s.config (partition_at p s.partitions))
   where
-    at_want : (t : Partition) (b : Bool) → Tells t [] (if b then under id t else t)
-    at_want t true = tells_under id t
-    at_want t false = tells_nothing t
+    at_want : (b : Bool) → CoreTells s [] (if b then with_partition p (go_on_under id (partition_at p s.partitions)) s else s)
+    at_want true = core_set p (go_on_under id (partition_at p s.partitions)) s (tells_under id (partition_at p s.partitions))
+    at_want false = core_nothing s
 
-    at_place : (p : ℕ) (t : Partition) (b : Bool) → Tells t [] (if b then under_if_wanted id s p t else t)
-    at_place p t true = at_want t (wants_id s.config t)
-    at_place p t false = tells_nothing t
+abbrev idle : Core → Core
+idle s = record s { requests = filter (λ r. not (asks_for_id r)) s.requests }
 
-core_id : (now : ℕ) (q : IdRequest) (x : InitProducerIdResponse) (s : Core) → CoreTells s [] (id_answered now q x s)
-core_id now q x s = at_given (is_given x)
+core_id : (now p : ℕ) (x : InitProducerIdResponse) (s : Core) → CoreTells s [] (settle_id now p x s)
+core_id now p x s = at_given (is_given x)
   where
-    at_given : (b : Bool) → CoreTells s [] (if b then id_given (nat_abs x.producer_id) q s else id_refused now s)
-    at_given true = core_given (nat_abs x.producer_id) q s
-    at_given false = core_alike s (id_refused now s) refl (λ P h. h)
+    idles : CoreTells s [] (idle s)
+    idles = core_alike s (idle s) refl (λ P h. all_filter P (λ r. not (asks_for_id r)) s.requests h)
 
-pub core_replied : (now : ℕ) (response : Response) (s : Core) → IsSingle s response → AllByRecursion (λ r. Distinct r.partitions) s.requests → AtHome s.partitions
-    → CoreTells s (replied now response s).told (replied now response s).after
-core_replied now response s single distinct home = at_replied (λ (x : Replies). CoreTells s x.told x.after) now response s (record {
+    at_given : (b : Bool) → CoreTells s [] (if b then give_id (nat_abs x.producer_id) p (idle s) else record (idle s) { id_waits = Some now })
+    at_given true = core_then s (idle s) (give_id (nat_abs x.producer_id) p (idle s)) [] idles (core_given (nat_abs x.producer_id) p (idle s))
+    at_given false = core_alike s (record (idle s) { id_waits = Some now }) refl (λ P h. all_filter P (λ r. not (asks_for_id r)) s.requests h)
+
+-- each request has each of its partitions once
+abbrev pub HasDistinct : Request → Type 0
+HasDistinct r = AreDistinct (partitions_of r.demand)
+
+pub core_replied : (now : ℕ) (response : Response) (s : Core) → IsSingle s response → AllByRecursion HasDistinct s.requests → AtHome s.partitions
+    → CoreTells s (response_step now response s).told (response_step now response s).after
+core_replied now response s single distinct home = at_response (λ (x : Replies). CoreTells s x.told x.after) now response s (record {
   same = λ answer. core_nothing s;
-  batches = λ r produce answers it is topic valid.
-      core_at_these r.partitions (answering now r.correlation answers) s
-      (λ p. tells_answering now r.correlation answers p (partition_at p s.partitions) (λ a rest first o at. single p r.correlation o a (answered_so s response r produce answers it is topic p a rest first o at) (in_flight response.correlation s r it).1))
-      (all_at (λ r. Distinct r.partitions) s.requests r distinct (In-from_contains s.requests r (in_flight response.correlation s r it).0)) home;
-  id = λ r x it is valid. core_id now r x s;
+  batches = λ r ps produce it demand is fits.
+      core_at_these ps (λ p t. by_entries now r.correlation t (entries_for p produce)) s
+      (λ p. tells_entries now r.correlation produce p (partition_at p s.partitions) (λ a rest first o at. single p r.correlation o a (answered_so s response r ps produce it is fits p a rest first o at) (in_flight response.correlation s r it).1))
+      (subst (λ (d : Demand ℕ). AreDistinct (partitions_of d)) demand (all_at HasDistinct s.requests r distinct (In-from_contains s.requests r (in_flight response.correlation s r it).0))) home;
+  id = λ r p x it demand is fits. core_id now p x s;
 })

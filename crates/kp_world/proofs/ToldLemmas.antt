@@ -13,7 +13,7 @@ use Rattle.kp_world.specs.World.{World}
 use Rattle.kp_world.proofs.AccountLemmas.{IsAccounted, partition-append}
 use Rattle.kp_world.proofs.FateLemmas.{any_itself, any_none, AreNumbered, numbered_above, numbered_front}
 use Rattle.kp_world.proofs.WeightLemmas.{weigh, none_counted, weigh_agrees, weigh_beyond, weigh_flat, weigh_none, sum_is}
-use Rattle.kp_world.proofs.ListLemmas.{all_say, all_take, all_weaker}
+use Rattle.kp_core.proofs.ListLemmas.{all_say, all_take, all_weaker}
 
 -- ---- counting an item
 

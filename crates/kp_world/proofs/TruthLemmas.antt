@@ -6,9 +6,10 @@ use Rattle.kp_accum.specs.declared.config.Config.{Config}
 use Rattle.kp_log.specs.declared.stored.Stored.{Stored}
 use Rattle.kp_log.specs.History.{History, empty_history, with_others, NO_ID}
 use Rattle.kp_log.specs.Log.{stored_as}
-use Rattle.kp_core.specs.Next.{Sending, Demand, Produce, InitProducerId}
-use Rattle.kp_core.specs.Records.{Batch}
-use Rattle.kp_core.specs.Requesting.{Outgoing, requested}
+use Rattle.kp_core.specs.Requesting.{request_step}
+use Rattle.kp_core.specs.Next.{Sending}
+use Rattle.kp_core.specs.Records.{Demand, Produce, InitProducerId, HandedBatch}
+use Rattle.kp_core.specs.Requesting.{Packet}
 use Rattle.kp_world.specs.declared.event.Event.{Event}
 use Rattle.kp_world.specs.Delivering.{log_at, Delivery, Delivers}
 use Rattle.kp_world.specs.Loopback.{other_record, logs_with_others}
@@ -25,22 +26,23 @@ use Rattle.kp_world.proofs.DeliveredLemmas.{Truly, AllTruly, truly_grown, truly_
 use Rattle.kp_world.proofs.EventLemmas.{at_sent, at_taken, OfEvent, at_step, at_run}
 use Rattle.kp_world.proofs.LawfulLemmas.{IsLawful}
 use Rattle.kp_world.proofs.RuledLemmas.{MayBeToldIn, TellsIn, told_step}
-use Rattle.kp_world.proofs.ListLemmas.{at_set, all_at, in_at, one_more}
+use Rattle.kp_core.proofs.ListLemmas.{at_set}
+use Rattle.kp_world.proofs.ListLemmas.{all_at, in_at, one_more}
 
 -- ---- what was handed over stays
 
-grown_in : (b c : Batch) (handed : List Batch) → In c handed → In c (grown_by b handed)
+grown_in : (b c : HandedBatch) (handed : List HandedBatch) → In c handed → In c (grown_by b handed)
 grown_in b c handed i = at_test (b.number == length handed)
   where
     at_test : (t : Bool) → In c (if t then handed ++ b ∷ [] else handed)
     at_test true = In-append_left c handed (b ∷ []) i
     at_test false = i
 
-sending_in : (x : Sending) (handed : List (List Batch)) (p : ℕ) (b : Batch) → p < length handed → In b (handed_at p handed) → In b (handed_at p (with_sending x handed))
+sending_in : (x : Sending) (handed : List (List HandedBatch)) (p : ℕ) (b : HandedBatch) → p < length handed → In b (handed_at p handed) → In b (handed_at p (with_sending x handed))
 sending_in x handed p b h i =
     at_set (In b) handed x.partition p (grown_by x.batch (handed_at x.partition handed)) [] (λ e. (subst (λ (q : ℕ). q < length handed) e h, grown_in x.batch b (handed_at x.partition handed) (subst (λ (q : ℕ). In b (handed_at q handed)) e i))) i
 
-sendings_in : (xs : List Sending) (handed : List (List Batch)) (p : ℕ) (b : Batch) → p < length handed → In b (handed_at p handed) → In b (handed_at p (with_sendings xs handed))
+sendings_in : (xs : List Sending) (handed : List (List HandedBatch)) (p : ℕ) (b : HandedBatch) → p < length handed → In b (handed_at p handed) → In b (handed_at p (with_sendings xs handed))
 unfolding with_sendings
 sendings_in [] handed p b h i = i
 sendings_in (x ∷ xs) handed p b h i =
@@ -48,7 +50,7 @@ sendings_in (x ∷ xs) handed p b h i =
 
 -- ---- the logs grow
 
-grown_logs : (n : ℕ) (w : World) (o : Outgoing) (d : Delivery) → IsLawful n w → In o w.packets → (e : Demand) → o.demand ≡ e → Delivers w e d → (p : ℕ) → (more : List Stored) × ((log_at p d.logs).records ≡ (log_at p w.logs).records ++ more)
+grown_logs : (n : ℕ) (w : World) (o : Packet) (d : Delivery) → IsLawful n w → In o w.packets → (e : Demand Sending) → o.demand ≡ e → Delivers w e d → (p : ℕ) → (more : List Stored) × ((log_at p d.logs).records ≡ (log_at p w.logs).records ++ more)
 unfolding Delivers
 grown_logs n w o d g i (Produce xs) is honest p = (parts_came n w o xs d.logs honest.0 g i is honest.1).grown p
 grown_logs n w o d g i (InitProducerId q) is honest p = ([], ap (λ (ls : List History). (log_at p ls).records) honest.1 ∙ sym (append-nil (log_at p w.logs).records))
@@ -62,13 +64,13 @@ others_grown p m logs q within =
 -- ---- every step
 
 record Grows (n : ℕ) (w v : World) : Type 0 where
-  pub handed : (p : ℕ) (b : Batch) → p < n → In b (handed_at p w.handed) → In b (handed_at p v.handed)
+  pub handed : (p : ℕ) (b : HandedBatch) → p < n → In b (handed_at p w.handed) → In b (handed_at p v.handed)
   pub logs : (p : ℕ) → p < n → (more : List Stored) × ((log_at p v.logs).records ≡ (log_at p w.logs).records ++ more)
 
 -- nothing is handed over, and the logs are the same
 grows_not : (n : ℕ) (w v : World) → v.handed ≡ w.handed → v.logs ≡ w.logs → Grows n w v
 grows_not n w v handed logs = record {
-  handed = λ p b h i. subst (λ (hs : List (List Batch)). In b (handed_at p hs)) (sym handed) i;
+  handed = λ p b h i. subst (λ (hs : List (List HandedBatch)). In b (handed_at p hs)) (sym handed) i;
   logs = λ p h. ([], ap (λ (ls : List History). (log_at p ls).records) logs ∙ sym (append-nil (log_at p w.logs).records));
 }
 
@@ -81,7 +83,7 @@ grows_event n w g = record {
   taken = λ s i here there. at_taken (Grows n w) s i w (grows_not n w _ refl refl) (grows_not n w _ refl refl);
   now = λ moment. grows_not n w _ refl refl;
   tick = grows_not n w _ refl refl;
-  send = let step = requested w.moment w.core in at_sent (Grows n w) w step.after step.answer (λ line. grows_not n w _ refl refl) (λ o line. record {
+  send = let step = request_step w.moment w.core in at_sent (Grows n w) w step.after step.answer (λ line. grows_not n w _ refl refl) (λ o line. record {
     handed = λ p b h i. stays o.demand p b (subst (λ (m : ℕ). p < m) (sym g.handed_count) h) i;
     logs = λ p h. ([], sym (append-nil (log_at p w.logs).records));
   });
@@ -92,7 +94,7 @@ grows_event n w g = record {
   flush = grows_not n w _ refl refl;
 }
   where
-    stays : (d : Demand) (p : ℕ) (b : Batch) → p < length w.handed → In b (handed_at p w.handed) → In b (handed_at p (handed_with d w.handed))
+    stays : (d : Demand Sending) (p : ℕ) (b : HandedBatch) → p < length w.handed → In b (handed_at p w.handed) → In b (handed_at p (handed_with d w.handed))
     stays (Produce xs) p b h i = sendings_in xs w.handed p b h i
     stays (InitProducerId q) p b h i = i
 

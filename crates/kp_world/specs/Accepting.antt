@@ -4,7 +4,7 @@ use Rattle.kp_batch.specs.declared.record.Record.{Record}
 use Rattle.kp_accum.specs.declared.fault.AppendFault.{AppendFault}
 use Rattle.kp_accum.specs.declared.item.Item.{Item}
 use Rattle.kp_accum.specs.Queue.{charge_of}
-use Rattle.kp_core.specs.Appending.{appended}
+use Rattle.kp_core.specs.Appending.{append_step}
 use Rattle.kp_core.specs.Records.{Core, Told}
 use Rattle.kp_world.specs.Line.{Closed, Large, Empty, Full}
 use Rattle.kp_world.specs.Noting.{noted, only_noted}
@@ -62,4 +62,4 @@ taking_of s core told (Err refusal) w = noted core (Full s ∷ []) told w
 
 abbrev pub taking : ℕ → Option Item → World → World
 taking s None w = only_noted (Empty s ∷ []) w
-taking s (Some i) w = let step = appended i w.core in taking_of s step.after step.told step.answer w
+taking s (Some i) w = let step = append_step i w.core in taking_of s step.after step.told step.answer w

@@ -1,10 +1,11 @@
 -- What became of the items that were accepted: handed over, told, or still waiting.
-use Rattle.std.specs.Prelude.{◌≡◌, ℕ, ◌<◌, Bool, true, false, List, [], ◌∷◌, map, filter, flat_map, length, take, drop, not, ◌==◌, ◌&&◌, ◌||◌}
+use Rattle.std.specs.Prelude.{◌≡◌, ℕ, Bool, true, false, List, map, filter, flat_map, length, take, drop, not, ◌==◌, ◌&&◌, ◌||◌}
 use Rattle.std.specs.List.{AllByRecursion, IsDistinct, list_any, range_with_len, sum_by}
 use Rattle.kp_accum.specs.declared.item.Item.{Item}
 use Rattle.kp_accum.specs.Queue.{charge_of}
 use Rattle.kp_core.specs.declared.outcome.Outcome.{Outcome}
 use Rattle.kp_core.specs.declared.outcome.Outcome.TheVariants.{Unsent}
+use Rattle.kp_core.specs.InOrder.{AreRising}
 use Rattle.kp_core.specs.Partitions.{partition_at, items_queued, used}
 use Rattle.kp_core.specs.Records.{Told}
 use Rattle.kp_world.specs.Accepting.{accepted_by, for_partition, taken_by}
@@ -79,10 +80,6 @@ pub record ArePlaced (s p : ℕ) (w : World) : Type 0 where
       ≡ range_with_len 0 (length (for_partition p (accepted_by s w)))
 
 -- Of each sender the items were handed over in the order of their numbers, and each once.
-abbrev pub AreRising : List ℕ → Type 0
-AreRising [] = Unit {0}
-AreRising (n ∷ ns) = AllByRecursion (λ m. n < m) ns × AreRising ns
-
 abbrev pub AreInOrder : ℕ → ℕ → World → Type 0
 AreInOrder s p w = AreRising (map (λ i. i.number) (of_sender s (items_handed p w)))
 

@@ -1,13 +1,13 @@
 -- Why an item is told what it is told, in every step that a world may take.
 use Rattle.std.specs.Prelude.{◌≡◌, [], ◌∷◌, ◌++◌}
 use Rattle.std.specs.List.{AllByRecursion}
-use Rattle.kp_core.specs.OutcomeRule.{Call, MayTell}
+use Rattle.kp_core.specs.OutcomeRule.{Telling, MayTell}
 use Rattle.kp_core.specs.Records.{Core, Told}
 use Rattle.kp_world.specs.World.{World, Happened}
 
 -- some call on the core may tell it, by the outcome rule
 abbrev pub MayBeTold : Core → Told → Type 0
-MayBeTold s t = (call : Call) × MayTell s call t.item t.outcome
+MayBeTold s t = (call : Telling) × MayTell s call t.item t.outcome
 
 -- The event between these worlds is noted behind those before it, and whatever it told is a case of the outcome rule.
 pub record TellsByRule (before after : World) : Type 0 where

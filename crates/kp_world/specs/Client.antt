@@ -1,17 +1,18 @@
 -- The producer's events. Each is a function of the world; None where it names what isn't there, or
 -- is the broker's.
-use Rattle.std.specs.Prelude.{ℕ, Bool, true, not, List, [], ◌∷◌, ◌++◌, map, flat_map, length, Option, Some, None, Result, Ok, Err, slice_get, slice_set, slice_index_or, nat_lt, ◌==◌, ◌&&◌, if◌then◌else◌}
+use Rattle.std.specs.Prelude.{ℕ, Bool, true, not, List, [], ◌∷◌, ◌++◌, map, length, Option, Some, None, Result, Ok, Err, slice_get, slice_set, slice_index_or, nat_lt, ◌==◌, ◌&&◌, if◌then◌else◌}
 use Rattle.kp_core.specs.declared.fault.CoreFault.{CoreFault}
 use Rattle.kp_core.specs.declared.fault.CoreFault.TheVariants as fault
 use Rattle.kp_core.specs.declared.ticked.Replied.{Replied}
-use Rattle.kp_core.specs.Fence.{ended}
-use Rattle.kp_core.specs.Flush.{flushed}
-use Rattle.kp_core.specs.Next.{Sending, Demand, Produce, InitProducerId}
-use Rattle.kp_core.specs.Partitions.{is_empty, untold}
-use Rattle.kp_core.specs.Records.{Batch, Core}
-use Rattle.kp_core.specs.Replies.{replied}
-use Rattle.kp_core.specs.Requesting.{Outgoing, requested}
-use Rattle.kp_core.specs.Tick.{Ticks, ticked, disconnected, closed}
+use Rattle.kp_core.specs.Closing.{close_step, end_step}
+use Rattle.kp_core.specs.Dropping.{disconnect_step}
+use Rattle.kp_core.specs.Flush.{flush_step}
+use Rattle.kp_core.specs.Next.{Sending}
+use Rattle.kp_core.specs.Partitions.{is_empty, all_untold}
+use Rattle.kp_core.specs.Records.{Demand, Produce, InitProducerId, HandedBatch, Core}
+use Rattle.kp_core.specs.Replies.{response_step}
+use Rattle.kp_core.specs.Requesting.{Packet, request_step}
+use Rattle.kp_core.specs.Tick.{Ticks, tick_step}
 use Rattle.kp_world.specs.declared.event.Event.{Event}
 use Rattle.kp_world.specs.declared.event.Event.TheVariants as event
 use Rattle.kp_world.specs.Accepting.{accepting, item_for, accepted_by, taking, taken_by}
@@ -26,34 +27,34 @@ abbrev pub sent_part : Sending → SentPart
 sent_part x =
     record { partition = x.partition; sequence = x.batch.sequence; count = length x.batch.items }
 
-abbrev pub sent_line : ℕ → Demand → Line
+abbrev pub sent_line : ℕ → Demand Sending → Line
 sent_line k (Produce xs) = SentBatches k (map sent_part xs)
 sent_line k (InitProducerId p) = SentInit k
 
 -- A partition's batches, and behind them the batch that has the next number.
-abbrev pub grown_by : Batch → List Batch → List Batch
+abbrev pub grown_by : HandedBatch → List HandedBatch → List HandedBatch
 grown_by b handed = if b.number == length handed then handed ++ b ∷ [] else handed
 
-abbrev pub handed_at : ℕ → List (List Batch) → List Batch
+abbrev pub handed_at : ℕ → List (List HandedBatch) → List HandedBatch
 handed_at p handed = slice_index_or handed p []
 
-abbrev pub with_sending : Sending → List (List Batch) → List (List Batch)
+abbrev pub with_sending : Sending → List (List HandedBatch) → List (List HandedBatch)
 with_sending x handed =
     slice_set handed x.partition (grown_by x.batch (handed_at x.partition handed))
 
 -- A batch is handed over when it first goes out.
-unfoldable pub with_sendings : List Sending → List (List Batch) → List (List Batch)
+unfoldable pub with_sendings : List Sending → List (List HandedBatch) → List (List HandedBatch)
 with_sendings [] handed = handed
 with_sendings (x ∷ xs) handed = with_sendings xs (with_sending x handed)
 
-abbrev pub handed_with : Demand → List (List Batch) → List (List Batch)
+abbrev pub handed_with : Demand Sending → List (List HandedBatch) → List (List HandedBatch)
 handed_with (Produce xs) handed = with_sendings xs handed
 handed_with (InitProducerId p) handed = handed
 
-abbrev pub with_packet : Outgoing → World → World
+abbrev pub with_packet : Packet → World → World
 with_packet o w = record w { packets = w.packets ++ o ∷ []; handed = handed_with o.demand w.handed }
 
-abbrev pub sending : World → Core → Result (Option Outgoing) CoreFault → World
+abbrev pub sending : World → Core → Result (Option Packet) CoreFault → World
 sending w core (Ok (Some o)) =
     noted core (sent_line (length w.packets) o.demand ∷ []) [] (with_packet o w)
 sending w core (Err fault.Ended) = noted core (Ended ∷ []) [] w
@@ -69,13 +70,13 @@ reply_line j (Err refusal) = []
 abbrev pub replying : ℕ → Option Reply → World → Option World
 replying j None w = None
 replying j (Some r) w =
-    let step = replied w.moment (response_of r) w.core in
+    let step = response_step w.moment (response_of r) w.core in
     Some (noted step.after (reply_line j step.answer) step.told w)
 
 -- ---- flush
 
 abbrev pub has_untold : Core → Bool
-has_untold s = not (is_empty (flat_map untold s.partitions))
+has_untold s = not (is_empty (all_untold s))
 
 abbrev pub flush_line : Core → Line
 flush_line s = if has_untold s then Flushing else Flushed
@@ -96,14 +97,14 @@ ticked_to step w =
     noted step.after (if step.answer.reconnect then Reconnect ∷ [] else []) step.told w
 
 abbrev pub ticking : World → World
-ticking w = ticked_to (ticked w.moment w.core) w
+ticking w = ticked_to (tick_step w.moment w.core) w
 
 abbrev pub ending : World → World
-ending w = let step = ended w.core in noted step.after [] step.told w
+ending w = let step = end_step w.core in noted step.after [] step.told w
 
 -- The gate is shut, and the core is closed.
 abbrev pub closing : World → World
-closing w = noted (closed w.core) [] [] (record w { is_shut = true })
+closing w = noted (close_step w.core) [] [] (record w { is_shut = true })
 
 unfoldable pub client : Event → World → Option World
 client (event.Accept s p value) w =
@@ -113,11 +114,11 @@ client (event.Take s) w =
 client (event.Now moment) w = Some (only_noted [] (record w { moment = moment }))
 client event.Tick w = Some (ticking w)
 client event.Send w =
-    let step = requested w.moment w.core in Some (sending w step.after step.answer)
+    let step = request_step w.moment w.core in Some (sending w step.after step.answer)
 client (event.Reply j) w = replying j (slice_get w.replies j) w
-client event.Drop w = Some (noted (disconnected w.moment w.core) [] [] w)
+client event.Drop w = Some (noted (disconnect_step w.moment w.core) [] [] w)
 client event.Close w = Some (closing w)
 client event.End w = Some (ending w)
-client event.Flush w = Some (noted (flushed w.core) (flush_line w.core ∷ []) [] w)
+client event.Flush w = Some (noted (flush_step w.core) (flush_line w.core ∷ []) [] w)
 client (event.Deliver k treatment) w = None
 client (event.Other p n) w = None

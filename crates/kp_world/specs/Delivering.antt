@@ -3,7 +3,8 @@ use Rattle.std.specs.Prelude.{◌≡◌, ◌⊎◌, ℕ, pos, List, [], ◌∷�
 use Rattle.std.specs.List.{AllByRecursion}
 use Rattle.kp_log.specs.BrokerStep.{BrokerStep}
 use Rattle.kp_log.specs.History.{History, empty_history}
-use Rattle.kp_core.specs.Next.{Sending, Demand, Produce, InitProducerId}
+use Rattle.kp_core.specs.Next.{Sending}
+use Rattle.kp_core.specs.Records.{Demand, Produce, InitProducerId}
 use Rattle.kp_world.specs.Message.{sent_of}
 use Rattle.kp_world.specs.World.{PartAnswer, ReplyContent, Batches, Id, World}
 
@@ -57,7 +58,7 @@ IdDelivers before content after =
 
 -- ---- a packet
 
-unfoldable pub Delivers : World → Demand → Delivery → Type 0
+unfoldable pub Delivers : World → Demand Sending → Delivery → Type 0
 Delivers w (Produce xs) d =
     (answers : List PartAnswer) × PartsDeliver w.logs xs answers d.logs
     × (d.content ≡ Batches answers) × (d.ids ≡ w.ids)

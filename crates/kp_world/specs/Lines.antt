@@ -5,7 +5,7 @@ use Rattle.kp_log.specs.declared.stored.Stored.{Stored}
 use Rattle.kp_log.specs.History.{History, is_under}
 use Rattle.kp_core.specs.Partitions.{partition_at}
 use Rattle.kp_core.specs.Records.{Partition, Told}
-use Rattle.kp_core.specs.Telling.{reports_to}
+use Rattle.kp_core.specs.Reports.{reports_to}
 use Rattle.kp_world.specs.Line.{Line, Reported, Logged, LoggedOther, Audited, Flushed}
 use Rattle.kp_world.specs.World.{World, Happened}
 

@@ -6,10 +6,10 @@ use Rattle.kp_log.specs.BrokerStep.{Answered, BrokerStep, DUPLICATE_SEQUENCE_NUM
 use Rattle.kp_log.specs.History.{History, records_of, own}
 use Rattle.kp_core.specs.declared.outcome.Outcome.TheVariants.{Delivered, DeliveredNoOffset}
 use Rattle.kp_core.specs.Attempts.{awaiting}
-use Rattle.kp_core.specs.Next.{Sending, Produce}
+use Rattle.kp_core.specs.Next.{Sending}
 use Rattle.kp_core.specs.Partitions.{partition_at, present_id}
-use Rattle.kp_core.specs.Records.{Batch as HandedBatch, Partition, Told}
-use Rattle.kp_core.specs.Requesting.{Outgoing}
+use Rattle.kp_core.specs.Records.{Produce, HandedBatch, Partition, Told}
+use Rattle.kp_core.specs.Requesting.{Packet}
 use Rattle.kp_world.specs.Accounts.{items_handed}
 use Rattle.kp_world.specs.Client.{handed_at}
 use Rattle.kp_world.specs.Delivering.{log_at}
@@ -95,7 +95,7 @@ EachDeliveryHasItsOffset w = (t : Told) → WasTold w t → t.outcome ≡ Delive
 
 -- A packet went out with this batch of the partition.
 pub record WentOut (w : World) (p : ℕ) (b : HandedBatch) : Type 0 where
-  pub packet : Outgoing
+  pub packet : Packet
   pub sent : Contains w.packets packet
   pub parts : List Sending
   pub demand : packet.demand ≡ Produce parts

@@ -7,15 +7,15 @@ use Rattle.kp_accum.specs.Ready.{is_ready}
 use Rattle.kp_core.specs.declared.outcome.Outcome.TheVariants.{Unsent}
 use Rattle.kp_core.specs.declared.outcome.Reason.TheVariants.{Expired}
 use Rattle.kp_core.specs.Attempts.{awaiting}
-use Rattle.kp_core.specs.Awaited.{Awaited, Nothing, awaited}
 use Rattle.kp_core.specs.HandingOver.{again_in}
 use Rattle.kp_core.specs.MaySend.{HandOverRule, is_confirmed, is_in_span, is_within_limit, sends_by}
-use Rattle.kp_core.specs.Next.{Sending, Demand, Produce, InitProducerId, batches_by, demand_with}
+use Rattle.kp_core.specs.Next.{Sending, batches_by, demand_with}
 use Rattle.kp_core.specs.Partitions.{items_open, changed_at}
-use Rattle.kp_core.specs.Records.{Partition, Request, Core, Open}
-use Rattle.kp_core.specs.Requesting.{Outgoing, Requested, requested_unless_ended, partitions_in}
+use Rattle.kp_core.specs.Records.{Demand, Produce, InitProducerId, Partition, Request, Core, Open}
+use Rattle.kp_core.specs.Replies.{awaited}
+use Rattle.kp_core.specs.Requesting.{Packet, Requested, request_for, partitions_in}
 use Rattle.kp_core.specs.Telling.{told_all}
-use Rattle.kp_core.specs.Tick.{TickRule, is_open_late, expired_front, ticked_by}
+use Rattle.kp_core.specs.Tick.{TickRule, is_open_late, expire_front, tick_by}
 use Rattle.kp_world.specs.declared.event.Event.{Event}
 use Rattle.kp_world.specs.declared.event.Event.TheVariants as event
 use Rattle.kp_world.specs.declared.event.Treatment.TheVariants.{Judged}
@@ -30,8 +30,7 @@ use Rattle.kp_world.specs.World.{PartAnswer, ReplyContent, Batches, Reply, World
 
 -- It hands batches over by this rule.
 abbrev pub requested_by : HandOverRule → ℕ → Core → Requested
-requested_by may now s =
-    requested_unless_ended now s (demand_with (batches_by (sends_by may) now s) now s)
+requested_by may now s = request_for now s (demand_with (batches_by (sends_by may) now s) now s)
 
 abbrev pub sending_by : HandOverRule → Producer
 sending_by may event.Send w =
@@ -88,13 +87,10 @@ abbrev pub to_first : List Request → Reply → Reply
 to_first [] r = r
 to_first (q ∷ others) r = record r { correlation = q.correlation }
 
-abbrev pub to_oldest_if : Awaited → Core → Reply → Reply
-to_oldest_if Nothing s r = to_first s.requests r
-to_oldest_if who s r = r
-
 -- A reply to no request in flight settles the oldest that is.
 abbrev pub to_oldest : World → Reply → Reply
-to_oldest w r = to_oldest_if (awaited (pos r.correlation) w.core) w.core r
+to_oldest w r =
+    elim (awaited (pos r.correlation) w.core) [ None ↦ to_first w.core.requests r | Some q ↦ r ]
 
 -- the batch went out in this request
 abbrev pub went_out_in : List Sending → ℕ → Open → Bool
@@ -106,27 +102,29 @@ awaiting_again k xs p t = record t {
 }
 
 -- the request is in flight again
-abbrev pub with_request_again : ℕ → ℕ → Demand → Core → Core
+abbrev pub with_request_again : ℕ → ℕ → Demand Sending → Core → Core
 with_request_again now k (Produce xs) s = record s {
   partitions = changed_at (partitions_in xs) (awaiting_again k xs) s.partitions;
   requests =
       s.requests
-      ++ (record { correlation = k; sent = now; partitions = partitions_in xs }) ∷ [];
+      ++ (record { correlation = k; sent = now; demand = Produce (partitions_in xs) }) ∷ [];
 }
 with_request_again now k (InitProducerId p) s = s
 
-abbrev pub with_packet_again : ℕ → Option Outgoing → Core → Core
+abbrev pub with_packet_again : ℕ → Option Packet → Core → Core
 with_packet_again now (Some o) s = with_request_again now o.correlation o.demand s
 with_packet_again now None s = s
 
-abbrev pub as_if_in_flight : Awaited → Reply → World → World
-as_if_in_flight Nothing r w = record w {
-  core = with_packet_again w.moment (find (λ o. o.correlation == r.correlation) w.packets) w.core;
-}
-as_if_in_flight who r w = w
+abbrev pub as_if_in_flight : Reply → World → World
+as_if_in_flight r w = elim (awaited (pos r.correlation) w.core) [
+  | None ↦ record w {
+    core = with_packet_again w.moment (find (λ o. o.correlation == r.correlation) w.packets) w.core;
+  }
+  | Some q ↦ w
+]
 
 abbrev pub hearing_all : ℕ → Option Reply → World → Option World
-hearing_all j (Some r) w = replying j (Some r) (as_if_in_flight (awaited (pos r.correlation) w.core) r w)
+hearing_all j (Some r) w = replying j (Some r) (as_if_in_flight r w)
 hearing_all j None w = None
 
 -- A reply to a dropped attempt settles the attempt's batch.
@@ -138,7 +136,7 @@ settling_dropped e w = client e w
 
 -- It does this at each partition.
 abbrev pub ticking_by : TickRule → Producer
-ticking_by rule event.Tick w = Some (ticked_to (ticked_by rule w.moment w.core) w)
+ticking_by rule event.Tick w = Some (ticked_to (tick_by rule w.moment w.core) w)
 ticking_by rule e w = client e w
 
 abbrev pub without_late : Config → ℕ → Partition → Partition
@@ -149,7 +147,7 @@ without_late c now t =
 abbrev pub open_expires : TickRule
 open_expires c now t =
     let late = items_open (filter (is_open_late c now) t.open_batches) in
-    let queue = expired_front c now (without_late c now t) in
+    let queue = expire_front c now (without_late c now t) in
     record { after = queue.after; told = told_all (Unsent Expired) late ++ queue.told }
 
 -- ---- a fresh producer id

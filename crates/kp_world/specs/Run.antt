@@ -3,7 +3,7 @@
 use Rattle.std.specs.Prelude.{◌≡◌, ℕ, ◌≤◌, List, [], ◌∷◌, ◌++◌, map, length, Option, Some, Ok, slice_get}
 use Rattle.kp_accum.specs.declared.config.Config.{Config}
 use Rattle.kp_accum.specs.Config.{checked}
-use Rattle.kp_core.specs.Requesting.{Outgoing}
+use Rattle.kp_core.specs.Requesting.{Packet}
 use Rattle.kp_world.specs.declared.event.Event.{Event}
 use Rattle.kp_world.specs.declared.event.Event.TheVariants.{Deliver, Other}
 use Rattle.kp_world.specs.Client.{client, has_partition, only_if}
@@ -23,7 +23,7 @@ answer_line j (Batches parts) = AnswerBatches j (map answer_part parts)
 answer_line j (Id code id) = AnswerInit j code id
 
 -- What was answered to the packet is the next reply.
-unfoldable pub with_delivery : Outgoing → Delivery → World → World
+unfoldable pub with_delivery : Packet → Delivery → World → World
 with_delivery o d w = only_noted (answer_line (length w.replies) d.content ∷ []) (record w {
   logs = d.logs;
   ids = d.ids;
@@ -39,7 +39,7 @@ with_others_at p n w =
 
 -- Any packet that ever went out comes, and the broker does with it what it may.
 pub record Arrives (w : World) (k : ℕ) (v : World) : Type 0 where
-  pub packet : Outgoing
+  pub packet : Packet
   pub went_out : slice_get w.packets k ≡ Some packet
   pub delivery : Delivery
   pub honest : Delivers w packet.demand delivery

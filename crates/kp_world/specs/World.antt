@@ -7,8 +7,8 @@ use Rattle.kp_log.specs.BrokerStep.{Answered}
 use Rattle.kp_log.specs.History.{History, empty_history}
 use Rattle.kp_core.specs.declared.names.Names.{Names}
 use Rattle.kp_core.specs.Opening.{new_core}
-use Rattle.kp_core.specs.Records.{Batch, Core, Told}
-use Rattle.kp_core.specs.Requesting.{Outgoing}
+use Rattle.kp_core.specs.Records.{HandedBatch, Core, Told}
+use Rattle.kp_core.specs.Requesting.{Packet}
 use Rattle.kp_world.specs.Line.{Line}
 
 -- ---- replies
@@ -40,8 +40,8 @@ pub record World : Type 0 where
   pub core : Core
   pub accepted : List (List Item)  -- by sender, in order
   pub taken : List ℕ  -- by sender, how many of these were taken and appended
-  pub handed : List (List Batch)  -- by partition, all batches that were handed over, in order
-  pub packets : List Outgoing  -- all that ever went out; a packet's number is its place
+  pub handed : List (List HandedBatch)  -- by partition, all batches that were handed over, in order
+  pub packets : List Packet  -- all that ever went out; a packet's number is its place
   pub replies : List Reply  -- all that were ever given; a reply's number is its place
   pub logs : List History  -- by partition
   pub ids : List ℕ  -- all producer ids that were ever drawn

@@ -6,7 +6,7 @@ ghost use Rattle.kp_accum.specs.declared.config.Config.{Config};
 ghost use Rattle.kp_accum.specs.declared.flags.Flags.{Flags};
 ghost use Rattle.kp_core.specs.MaySend.{is_in_span, may_hand_over};
 ghost use Rattle.kp_core.specs.Records.{Partition};
-ghost use Rattle.kp_core.specs.Tick.{passed};
+ghost use Rattle.kp_core.specs.Tick.{heed_deadlines};
 ghost use Rattle.kp_world.specs.Accounts.{IsNeverSent};
 ghost use Rattle.kp_world.specs.Client.{client};
 ghost use Rattle.kp_world.specs.LogLaws.{EachDeliveryHasItsOffset, IsPrefix, ToldOffsetsStand};
@@ -17,13 +17,13 @@ ghost use Rattle.kp_world.specs.declared.event.Event.TheVariants.{Reply};
 
 /// Where the rule for handing over, the replies as they are heard, or the rule for a tick are as they are, these producers
 /// are the producer.
-#[tactic(auto, unfolding(crate::specs::Client::client, kp_core::specs::Requesting::requested, kp_core::specs::Next::next_demand, kp_core::specs::Next::next_batches, kp_core::specs::MaySend::sends, kp_core::specs::Tick::ticked))]
+#[tactic(auto, unfolding(crate::specs::Client::client, kp_core::specs::Requesting::request_step, kp_core::specs::Next::next_demand, kp_core::specs::Next::next_batches, kp_core::specs::MaySend::sends, kp_core::specs::Tick::tick_step))]
 pub fn only_one_rule_is_changed()
     ensures handing_over { (e : Event) (w : World) → sending_by may_hand_over e w ≡ client e w }
     ensures window { (c : Config) (flags : Flags) (now : ℕ) (t : Partition) (front : Pending)
         → with_window (λ c t. is_in_span c t.next_number t.open_batches) c flags now t front ≡ may_hand_over c flags now t front }
     ensures hearing { (e : Event) (w : World) → hearing_as (λ w r. r) e w ≡ client e w }
-    ensures ticking { (e : Event) (w : World) → ticking_by passed e w ≡ client e w }
+    ensures ticking { (e : Event) (w : World) → ticking_by heed_deadlines e w ≡ client e w }
 {}
 
 /// Each of these producers goes by all rules but one, and through a schedule with an honest broker after which a law does

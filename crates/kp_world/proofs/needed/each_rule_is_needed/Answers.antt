@@ -26,40 +26,40 @@ open_batches_counted : Breaks (sending_by (with_window counts_open)) one_each si
 unfolding evaluated seven_and_the_second_again
 open_batches_counted =
     breaks (sending_by (with_window counts_open)) seven_and_the_second_again one_each six_on_their_way EachDeliveryHasItsOffset one_each_passes refl
-    (refl, (refl, (refl, (refl, (refl, (refl, (refl, ((refl, refl), tt)))))))) _ offset_is_missing refl
+    (tt, (tt, (tt, (tt, (tt, (tt, (tt, ((refl, refl), tt)))))))) _ offset_is_missing refl
 
 window_of_six : Breaks (sending_by (with_window one_wider)) one_each six_on_their_way EachDeliveryHasItsOffset
 unfolding evaluated seven_and_the_second_again
 window_of_six =
     breaks (sending_by (with_window one_wider)) seven_and_the_second_again one_each six_on_their_way EachDeliveryHasItsOffset one_each_passes refl
-    (refl, (refl, (refl, (refl, (refl, (refl, (refl, ((refl, refl), tt)))))))) _ offset_is_missing refl
+    (tt, (tt, (tt, (tt, (tt, (tt, (tt, ((refl, refl), tt)))))))) _ offset_is_missing refl
 
 second_first : Breaks (sending_by without_waiting) one_each second_comes_first (IsPrefix 0)
 unfolding evaluated own
-second_first = breaks (sending_by without_waiting) (AppendLate ∷ []) one_each second_comes_first (IsPrefix 0) one_each_passes refl (refl, tt) _ log_is_unlike refl
+second_first = breaks (sending_by without_waiting) (AppendLate ∷ []) one_each second_comes_first (IsPrefix 0) one_each_passes refl (tt, tt) _ log_is_unlike refl
 
 sequence_told : Breaks (hearing_as at_sequences) one_each stored_behind_another ToldOffsetsStand
 unfolding evaluated
-sequence_told = breaks (hearing_as at_sequences) (Append ∷ []) one_each stored_behind_another ToldOffsetsStand one_each_passes refl (refl, tt) _ offset_is_anothers refl
+sequence_told = breaks (hearing_as at_sequences) (Append ∷ []) one_each stored_behind_another ToldOffsetsStand one_each_passes refl (tt, tt) _ offset_is_anothers refl
 
 stale_settles : Breaks (hearing_as to_oldest) one_each answered_again ToldOffsetsStand
 unfolding evaluated
-stale_settles = breaks (hearing_as to_oldest) (Append ∷ []) one_each answered_again ToldOffsetsStand one_each_passes refl (refl, tt) _ offset_is_early refl
+stale_settles = breaks (hearing_as to_oldest) (Append ∷ []) one_each answered_again ToldOffsetsStand one_each_passes refl (tt, tt) _ offset_is_early refl
 
 dropped_settles : TellsAgainstRule settling_dropped one_each stored_and_dropped (Reply 0)
 unfolding evaluated
 dropped_settles =
-    breaks_outcome_rule settling_dropped (Append ∷ []) one_each stored_and_dropped 0 one_each_passes refl (refl, tt) _ refl (told_against_rule _ _ refl refl refl)
+    breaks_outcome_rule settling_dropped (Append ∷ []) one_each stored_and_dropped 0 one_each_passes refl (tt, tt) _ refl (told_against_rule _ _ refl refl refl)
 
 expires : Breaks (ticking_by open_expires) one_each stored_and_late (IsNeverSent 0)
 unfolding evaluated
-expires = breaks (ticking_by open_expires) (Append ∷ []) one_each stored_and_late (IsNeverSent 0) one_each_passes refl (refl, tt) _ unsent_is_sent refl
+expires = breaks (ticking_by open_expires) (Append ∷ []) one_each stored_and_late (IsNeverSent 0) one_each_passes refl (tt, tt) _ unsent_is_sent refl
 
 id_kept : Breaks keeping_ids two_an_id goes_on_under_an_id ToldOffsetsStand
 unfolding evaluated
 id_kept =
     breaks keeping_ids (Append ∷ Append ∷ GiveId ∷ Repeat 0 ∷ []) two_an_id goes_on_under_an_id ToldOffsetsStand two_an_id_passes refl
-    (refl, (refl, (refl, ((refl, refl, refl), tt)))) _ offset_is_early refl
+    (tt, (tt, (refl, ((refl, refl, refl), tt)))) _ offset_is_early refl
 
 pub returns : goal.returns
 returns c = record {

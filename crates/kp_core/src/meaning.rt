@@ -2,7 +2,7 @@
 
 /// What a broker's error code means for a batch.
 #[derive(Clone, Copy, Debug, PartialEq, Eq)]
-pub enum Verdict {
+pub enum Meaning {
     /// It stands in the log, from the offset that goes with the code.
     Stored,
     /// It stands in the log, and is older than the batches that the broker knows.
