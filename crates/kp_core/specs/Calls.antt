@@ -36,7 +36,9 @@ pub data Call : Type 0 where
 -- ---- one call
 
 -- the answer of a call for a request: the packet goes out as its frame
-abbrev pub answered_as : Core → Result (Option Packet) CoreFault → Result (Option Outgoing) CoreFault
+abbrev pub answered_as : Core
+    → Result (Option Packet) CoreFault
+    → Result (Option Outgoing) CoreFault
 answered_as s (Ok (Some packet)) = Ok (Some (record {
   correlation = packet.correlation;
   bytes = frame_of s.config s.names packet;

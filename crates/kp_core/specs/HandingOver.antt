@@ -18,7 +18,9 @@ run_of i = record { sender = i.sender; first = i.number; count = 1 }
 unfoldable pub with_audited : Item → List Run → List Run
 with_audited i [] = run_of i ∷ []
 with_audited i (r ∷ []) =
-    if r.sender == i.sender && (r.first + r.count == i.number) then (record r { count = r.count + 1 }) ∷ [] else r ∷ run_of i ∷ []
+    if r.sender == i.sender && (r.first + r.count == i.number)
+    then (record r { count = r.count + 1 }) ∷ []
+    else r ∷ run_of i ∷ []
 with_audited i (r ∷ r' ∷ rs) = r ∷ with_audited i (r' ∷ rs)
 
 -- the runs, with these items behind them

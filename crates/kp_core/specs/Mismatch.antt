@@ -43,7 +43,9 @@ answers_batches k ps s response =
     is_one_topic s.names.topic response.topics
     && length (entries_of response) == length ps
     && list_all (λ p. length (entries_for p response) == 1) ps
-    && list_all (λ p. list_all (has_offsets (awaiting k (partition_at p s.partitions))) (entries_for p response)) ps
+    && list_all
+    (λ p. list_all (has_offsets (awaiting k (partition_at p s.partitions))) (entries_for p response))
+    ps
 
 -- ---- a response to an InitProducerId request
 

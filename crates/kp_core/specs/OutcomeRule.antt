@@ -56,7 +56,8 @@ abbrev pub TellsUnknown : Core → Telling → Item → Type 0
 TellsUnknown s (Append j) i = ⊥
 TellsUnknown s (Tick now) i = (p : ℕ) × IsLate s now p × IsOpenIn (partition_at p s.partitions) i
 TellsUnknown s (Reply now response) i =
-    (p : ℕ) × (rejected : RejectsIn s response p) × IsOpenBeside rejected.answered.correlation (partition_at p s.partitions) i
+    (p : ℕ) × (rejected : RejectsIn s response p)
+    × IsOpenBeside rejected.answered.correlation (partition_at p s.partitions) i
 TellsUnknown s End i = (p : ℕ) × IsOpenIn (partition_at p s.partitions) i
 
 abbrev pub TellsFenced : Core → Telling → Item → Type 0

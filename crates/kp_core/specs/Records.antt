@@ -58,7 +58,7 @@ pub record Core : Type 0 where
   pub id_waits : Option ℕ  -- the moment at which an id was refused, or its request dropped
   pub correlation : ℕ  -- the next request's
   pub last_used : Option ℕ  -- the partition whose batch was the last to go out
-  pub exhausted : Bool  -- an append was refused for want of buffer memory, and none was given back since
+  pub exhausted : Bool  -- an append was refused for want of buffer memory; none was given back since
   pub closing : Bool
   pub ended : Bool
   pub reports : List (List Report)  -- those not fetched, by sender, oldest first

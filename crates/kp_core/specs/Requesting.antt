@@ -46,7 +46,8 @@ is_spent s = nat_lt (2 ^ 31 - 1) s.correlation
 
 abbrev pub go_out : ℕ → Core → Demand Sending → Requested
 go_out now s demand =
-    quietly (sent_out now s demand) (Ok (Some (record { correlation = s.correlation; demand = demand })))
+    let packet : Packet = record { correlation = s.correlation; demand = demand } in
+    quietly (sent_out now s demand) (Ok (Some packet))
 
 -- After the end, no request at all; else this one, while there are correlation ids.
 abbrev pub request_for : ℕ → Core → Option (Demand Sending) → Requested
