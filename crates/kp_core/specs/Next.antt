@@ -42,16 +42,12 @@ fitting room (x ∷ xs) =
 
 -- ---- the id
 
--- The last request for an id that was refused or dropped was so retry.backoff.ms ago, and none is in
--- flight.
-abbrev pub may_ask : ℕ → Core → Bool
-may_ask now s = not (is_id_asked s)
-    && elim s.id_waits [ None ↦ true | Some since ↦ is_over since s.config.retry_backoff_ms now ]
-
--- the lowest partition that wants an id, while one may be asked for
+-- The lowest partition that wants an id, while none is asked for, and the last request for one that
+-- was refused or dropped was so retry.backoff.ms ago.
 abbrev pub next_asking : ℕ → Core → Option ℕ
 next_asking now s =
-    if may_ask now s
+    if not (is_id_asked s)
+    && elim s.id_waits [ None ↦ true | Some since ↦ is_over since s.config.retry_backoff_ms now ]
     then option_map (λ x. x.0) (find (λ x. wants_id s.config x.1) (enumerate_from 0 s.partitions))
     else None
 
