@@ -10,14 +10,14 @@ use Rattle.kp_batch.proofs.SizeLemmas.{many_records, size_of_batch-is}
 use Rattle.kp_log.specs.declared.answer.Answer.{Answer}
 use Rattle.kp_log.specs.declared.answer.Answer.TheVariants.{Stored}
 use Rattle.kp_log.specs.Log.{Log, appended, empty}
-use Rattle.kp_log.specs.SequenceRule.{IsFirst, Step, offered}
+use Rattle.kp_log.specs.SequenceRule.{IsFirst, Judgement, offered}
 use Rattle.kp_cli.specs.Offered.{StoredOnce}
 use Rattle.kp_log.proofs.RuleLemmas.{first_is_answered_alike, first_is_stored}
 
 abbrev head_of : ℕ → BatchHead
 head_of id = record { producer_id = pos id; epoch = pos 0; base_sequence = pos 0 }
 
-abbrev step : Answer → Log → Step
+abbrev step : Answer → Log → Judgement
 step a log = record { answer = a; log = log }
 
 pub stored_once : (id : ℕ) (records : List Record) (bytes : List ℕ) (first repeat : Answer) (between after : Log)
@@ -38,11 +38,11 @@ stored_once id records bytes first repeat between after fits spells once twice =
     } in
     let one : step first between ≡ step (Stored (pos 0)) (appended empty b) =
     sym once ∙ ap (offered empty) read ∙ first_is_stored b is_first in
-    let same_log = ap (λ (s : Step). s.log) one in
+    let same_log = ap (λ (s : Judgement). s.log) one in
     let two : step repeat after ≡ step (Stored (pos 0)) (appended empty b) =
     sym twice ∙ ap (offered between) read ∙ ap (λ (l : Log). offered l (Ok b)) same_log ∙ first_is_answered_alike b is_first in
     record {
-      first = ap (λ (s : Step). s.answer) one;
-      repeat = ap (λ (s : Step). s.answer) two;
-      once = ap (λ (s : Step). s.log.records) two;
+      first = ap (λ (s : Judgement). s.answer) one;
+      repeat = ap (λ (s : Judgement). s.answer) two;
+      once = ap (λ (s : Judgement). s.log.records) two;
     }
