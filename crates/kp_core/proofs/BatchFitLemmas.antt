@@ -19,6 +19,7 @@ use Rattle.kp_batch.proofs.SizeLemmas.{bytes_from, size_of_batch-is, length-some
 use Rattle.kp_batch.proofs.WritingLemmas.{record_fits, summary_fits, batch_spelled}
 use Rattle.kp_batch.proofs.BatchLemmas.{length-covered, length-spelling}
 use Rattle.kp_core.specs.Held.{IsRecord}
+use Rattle.kp_core.proofs.ListLemmas.{all_weaker}
 
 -- ---- the checksum has 32 bits
 
@@ -38,18 +39,18 @@ crc_below bytes =
 
 -- ---- a record fits where its size does
 
-length_fits : (n : ℕ) → n ≤ 2147483647 → FitsSigned w32 (pos n)
-length_fits n small = record { sfits = omega arith }
+pub int32_fits : (n : ℕ) → n < 2 ^ 31 → FitsSigned w32 (pos n)
+int32_fits n small = record { sfits = small }
 
 bytes_fit : (o : Option (List ℕ)) → length ((bytes_or_null 0).spell o) ≤ 2147483647 → (bytes_or_null 0).Fits o
 unfolding bytes_or_null length_field
 bytes_fit None small = omega arith
-bytes_fit (Some s) small = (length_fits (length s) (omega (arith, length-some s)), refl)
+bytes_fit (Some s) small = (int32_fits (length s) (omega (arith, length-some s)), refl)
 
 header_fits : (h : Header) → IsUtf8 h.key → length ((header 0).spell h) ≤ 2147483647 → (header 0).Fits h
 unfolding header text length_field
 header_fits h key small =
-    ((length_fits (length h.key) (omega (arith, length-header h)), (refl, key)), bytes_fit h.value (omega (arith, length-header h)))
+    ((int32_fits (length h.key) (omega (arith, length-header h)), (refl, key)), bytes_fit h.value (omega (arith, length-header h)))
 
 each_header_fits : (hs : List Header) → AllByRecursion (λ h. IsUtf8 h.key) hs
     → length (flat_map (header 0).spell hs) ≤ 2147483647 → AllByRecursion (header 0).Fits hs
@@ -62,7 +63,7 @@ headers_fit : (hs : List Header) → AllByRecursion (λ h. IsUtf8 h.key) hs → 
 unfolding headers length_field
 headers_fit hs keys small =
     let all : length (flat_map (header 0).spell hs) ≤ 2147483647 = omega (arith, length-headers hs) in
-    (length_fits (length hs) (omega (arith, many_headers hs)), (refl, each_header_fits hs keys all))
+    (int32_fits (length hs) (omega (arith, many_headers hs)), (refl, each_header_fits hs keys all))
 
 delta_fits : (t base : ℕ) → t < 2 ^ 63 → base < 2 ^ 63 → FitsSigned w64 (pos t -ℤ pos base)
 delta_fits t base small base_small =
@@ -83,7 +84,7 @@ relative_fits base k r is base_small few small =
       (
         delta_fits r.timestamp base is.moment base_small,
         (
-          length_fits k few,
+          int32_fits k (omega arith),
           (
             bytes_fit r.key (omega (arith, whole, parts)),
             (
@@ -105,10 +106,6 @@ relatives_fit base k (r ∷ rs) are base_small small =
     )
 
 -- ---- the moments
-
-have_moments : (rs : List Record) → AllByRecursion IsRecord rs → AllByRecursion HasMoment rs
-have_moments [] are = tt
-have_moments (r ∷ rs) are = (are.0.moment, have_moments rs are.1)
 
 first_is_moment : (rs : List Record) → AllByRecursion IsRecord rs → base_timestamp rs < 2 ^ 63
 first_is_moment [] are = omega arith
@@ -137,7 +134,7 @@ fields_fit h rs are some small fits =
     let few : length rs ≤ 2147483647 = omega (arith, size, many_records (base_timestamp rs) 0 rs) in
     record {
       some = some;
-      moments = have_moments rs are;
+      moments = all_weaker IsRecord HasMoment (λ r is. is.moment) rs are;
       summary = summary_fits h rs fits.0 fits.1.0 fits.1.1 some few base (latest_is_moment rs are);
       records = relatives_fit (base_timestamp rs) 0 rs are base (omega (arith, size));
     }

@@ -1,15 +1,18 @@
--- What holds of each case of a call on the core holds of the call.
-use Rattle.std.proofs.Common.{◌≡◌, ℕ, Bool, true, false, not, Some, None, refl}
-use Rattle.std.specs.Prelude.{List, ℤ, Option, Result, Err, Ok, if◌then◌else◌}
+-- What holds of each case of a call on the core, or of a rule that it follows, holds of the call or the rule.
+use Rattle.std.proofs.Common.{◌≡◌, ℕ, Bool, true, false, not, [], ◌∷◌, Some, None, refl}
+use Rattle.std.specs.Prelude.{List, ℤ, Option, Result, Err, Ok, filter, nat_abs, if◌then◌else◌}
+use Rattle.std.specs.List.{list_any}
+use Rattle.kp_wire.specs.Fields.{int32}
+use Rattle.kp_wire.specs.Reading.{Read}
+use Rattle.kp_accum.specs.declared.config.Config.{Config}
 use Rattle.kp_accum.specs.declared.fault.AppendFault.TheVariants.{BufferFull}
 use Rattle.kp_accum.specs.declared.item.Item.{Item}
 use Rattle.kp_frames.specs.declared.api.Api.{Api}
 use Rattle.kp_frames.specs.declared.fault.FrameFault.{FrameFault}
 use Rattle.kp_frames.specs.declared.fault.FrameFault.TheVariants.{Short, Mismatch}
 use Rattle.kp_frames.specs.Response.{response_at}
-use Rattle.kp_wire.specs.Fields.{int32}
-use Rattle.kp_wire.specs.Reading.{Read}
 use Rattle.kp_frames.specs.declared.producer_id.InitProducerIdResponse.{InitProducerIdResponse}
+use Rattle.kp_frames.specs.declared.produce.PartitionProduceResponse.{PartitionProduceResponse}
 use Rattle.kp_frames.specs.declared.produce.ProduceResponse.{ProduceResponse}
 use Rattle.kp_frames.specs.declared.response.Response.{Response}
 use Rattle.kp_frames.specs.declared.response.ResponseBody.{ResponseBody}
@@ -18,16 +21,20 @@ use Rattle.kp_core.specs.declared.fault.CoreFault.{CoreFault}
 use Rattle.kp_core.specs.declared.fault.CoreFault.TheVariants as fault
 use Rattle.kp_core.specs.declared.outcome.Reason.TheVariants as reason
 use Rattle.kp_core.specs.declared.ticked.Replied.{Replied}
-use Rattle.kp_core.specs.Records.{Demand, Produce, InitProducerId, Request, Core, Called, quietly}
-use Rattle.kp_core.specs.Partitions.{partition_at}
+use Rattle.kp_core.specs.Records.{Open, Partition, Demand, Produce, InitProducerId, Request, Core, Effect, Called, quietly}
+use Rattle.kp_core.specs.Partitions.{partition_at, with_partition}
 use Rattle.kp_core.specs.Appending.{Appends, turn_away, with_queued, may_append, would_exhaust, append_step}
 use Rattle.kp_core.specs.Closing.{close_step, end_all, end_step}
 use Rattle.kp_core.specs.Dropping.{drop_requests, disconnect_step}
-use Rattle.kp_core.specs.Mismatch.{answers_batches, answers_id}
+use Rattle.kp_core.specs.Attempts.{asks_for_id, awaiting}
+use Rattle.kp_core.specs.Fence.{fence}
+use Rattle.kp_core.specs.MaySend.{wants_id}
+use Rattle.kp_core.specs.Settling.{meaning_of, settle_by, left_alone, settle_batch}
+use Rattle.kp_core.specs.Mismatch.{answers_batches, is_given, answers_id}
 use Rattle.kp_core.specs.Next.{Sending, next_demand}
-use Rattle.kp_core.specs.Replies.{Replies, api_of, awaited, settle_batches, settle_id, refuse_as, unknown, known, settle, reply_step, response_step}
+use Rattle.kp_core.specs.Replies.{Replies, api_of, awaited, settle_batches, go_on_under, give_id, settle_id, refuse_as, unknown, known, settle, reply_step, response_step}
 use Rattle.kp_core.specs.Requesting.{Requested, is_spent, go_out, request_step}
-use Rattle.kp_core.specs.Tick.{Ticks, heed_deadlines, has_timed_out, tick_partitions, tick_step}
+use Rattle.kp_core.specs.Tick.{Ticks, is_open_late, expire_front, heed_deadlines, has_timed_out, tick_partitions, tick_step}
 
 -- ---- an append
 
@@ -96,6 +103,53 @@ at_request P now s c = at_end s.ended refl
     at_end : (b : Bool) → s.ended ≡ b → P (if b then quietly s (Err fault.Ended) else by_demand now s (next_demand now s))
     at_end true is = c.ended
     at_end false is = at_demand is (next_demand now s) refl
+
+-- ---- a response's entries for a partition
+
+abbrev pub by_attempt : ℕ → ℕ → Partition → PartitionProduceResponse → Option Open → Effect
+by_attempt now k t a o = elim o [ None ↦ left_alone t | Some o ↦ settle_by now k t o a (meaning_of a.error_code) ]
+
+abbrev pub by_entries : ℕ → ℕ → Partition → List PartitionProduceResponse → Effect
+by_entries now k t xs = elim xs [ [] ↦ left_alone t | entry ∷ others ↦ settle_batch now k t entry ]
+
+-- Nothing changes, or the first settles the batch that awaits it.
+pub at_entries {ℓ} : (P : Effect → Type ℓ) (now k : ℕ) (t : Partition) (xs : List PartitionProduceResponse) → P (left_alone t)
+    → ((a : PartitionProduceResponse) (others : List PartitionProduceResponse) → xs ≡ a ∷ others
+    → (o : Open) → awaiting k t ≡ Some o → P (settle_by now k t o a (meaning_of a.error_code)))
+    → P (by_entries now k t xs)
+unfolding settle_batch
+at_entries P now k t xs alone settled = at_list xs refl
+  where
+    at_option : (a : PartitionProduceResponse) (others : List PartitionProduceResponse) → xs ≡ a ∷ others
+        → (o : Option Open) → awaiting k t ≡ o → P (by_attempt now k t a o)
+    at_option a others e None is = alone
+    at_option a others e (Some o) is = settled a others e o is
+
+    at_list : (ys : List PartitionProduceResponse) → xs ≡ ys → P (by_entries now k t ys)
+    at_list [] e = alone
+    at_list (a ∷ others) e = at_option a others e (awaiting k t) refl
+
+-- ---- a response to the request for an id
+
+abbrev pub idle : Core → Core
+idle s = record s { requests = filter (λ r. not (asks_for_id r)) s.requests }
+
+pub record OfId {ℓ} (P : Core → Type ℓ) (now p : ℕ) (x : InitProducerIdResponse) (s : Core) : Type ℓ where
+  pub wanted : is_given x ≡ true → P (with_partition p (go_on_under (nat_abs x.producer_id) (partition_at p s.partitions)) (idle s))
+  pub unwanted : P (idle s)
+  pub refused : P (record (idle s) { id_waits = Some now })
+
+pub at_id {ℓ} : (P : Core → Type ℓ) (now p : ℕ) (x : InitProducerIdResponse) (s : Core) → OfId P now p x s → P (settle_id now p x s)
+at_id P now p x s c = at_given (is_given x) refl
+  where
+    at_wish : is_given x ≡ true → (b : Bool)
+        → P (if b then with_partition p (go_on_under (nat_abs x.producer_id) (partition_at p s.partitions)) (idle s) else idle s)
+    at_wish is true = c.wanted is
+    at_wish is false = c.unwanted
+
+    at_given : (b : Bool) → is_given x ≡ b → P (if b then give_id (nat_abs x.producer_id) p (idle s) else record (idle s) { id_waits = Some now })
+    at_given true is = at_wish is (wants_id s.config (partition_at p s.partitions))
+    at_given false is = c.refused
 
 -- ---- a response
 
@@ -208,6 +262,16 @@ at_tick P now s c = at_end s.ended
     at_end : (b : Bool) → P (if b then quietly s (record { reports = 0; reconnect = false }) else by_time now s (has_timed_out now s))
     at_end true = c.ended
     at_end false = at_time (has_timed_out now s)
+
+-- a partition's deadlines
+pub at_heed {ℓ} : (P : Effect → Type ℓ) (c : Config) (now : ℕ) (t : Partition) → (list_any (is_open_late c now) t.open_batches ≡ true → P (fence t))
+    → P (expire_front c now t) → P (heed_deadlines c now t)
+unfolding heed_deadlines
+at_heed P c now t late front = at_test (list_any (is_open_late c now) t.open_batches) refl
+  where
+    at_test : (b : Bool) → list_any (is_open_late c now) t.open_batches ≡ b → P (if b then fence t else expire_front c now t)
+    at_test true is = late is
+    at_test false is = front
 
 -- ---- the other calls
 

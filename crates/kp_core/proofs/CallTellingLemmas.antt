@@ -1,11 +1,8 @@
 -- Whatever a call tells is a case of the outcome rule.
-use Rattle.std.proofs.Common.{◌≡◌, ℕ, ◌<◌, ◌^◌, List, refl, sym, ap, subst, ⊎_elim}
+use Rattle.std.proofs.Common.{ℕ, ◌<◌, ◌^◌, List, refl}
 use Rattle.std.specs.Prelude.{All, Result, Err}
 use Rattle.std.specs.List.{AllByRecursion}
 use Rattle.kp_accum.specs.declared.fault.AppendFault.TheVariants as append
-use Rattle.kp_frames.specs.declared.api.Api.{Api}
-use Rattle.kp_frames.specs.declared.response.Response.{Response}
-use Rattle.kp_frames.specs.Response.{Spells}
 use Rattle.kp_core.specs.declared.fault.CoreFault.{CoreFault}
 use Rattle.kp_core.specs.declared.fault.CoreFault.TheVariants.{OutOfMemory}
 use Rattle.kp_core.specs.declared.ticked.Replied.{Replied}
@@ -13,9 +10,9 @@ use Rattle.kp_core.specs.Calls.{Call, Step, told_by}
 use Rattle.kp_core.specs.Calls as call
 use Rattle.kp_core.specs.InOrder.{IsHeld}
 use Rattle.kp_core.specs.OutcomeRule.{Telling, Append, Tick, Reply, End, IsTelling, MayBeToldBy, MayTell, told_in}
-use Rattle.kp_core.specs.Records.{Core, Told, quietly}
-use Rattle.kp_core.specs.Replies.{Replies, reply_step, response_step}
-use Rattle.kp_core.proofs.HearingLemmas.{heard_as_some}
+use Rattle.kp_core.specs.Records.{Core, Told}
+use Rattle.kp_core.specs.Replies.{Replies, reply_step}
+use Rattle.kp_core.proofs.HearingLemmas.{at_heard}
 use Rattle.kp_core.proofs.ListLemmas.{all_weaker}
 use Rattle.kp_core.proofs.OutcomeLemmas.{each_outcome}
 
@@ -25,13 +22,8 @@ tells_as s c x is = all_weaker (λ (t : Told). MayTell s x t.item t.outcome) (Ma
 
 reply_tells : (s : Core) (now : ℕ) (content : List ℕ) (answer : Result Replied CoreFault) → All (λ byte. byte < 2 ^ 8) content
     → AllByRecursion (MayBeToldBy s (call.Reply now content answer)) (reply_step now content s).told
-reply_tells s now content answer bytes = ⊎_elim
-    (λ (e : reply_step now content s ≡ quietly s (reply_step now content s).answer).
-    subst (AllByRecursion (MayBeToldBy s (call.Reply now content answer))) (sym (ap (λ (x : Replies). x.told) e)) tt)
-    (λ (h : (a : Api) × (response : Response) × Spells a content response × (reply_step now content s ≡ response_step now response s)).
-    subst (AllByRecursion (MayBeToldBy s (call.Reply now content answer))) (sym (ap (λ (x : Replies). x.told) h.3))
-    (tells_as s (call.Reply now content answer) (Reply now h.1) (h.0, h.1, h.2, refl)))
-    (heard_as_some now content s bytes)
+reply_tells s now content answer bytes = at_heard (λ (x : Replies). AllByRecursion (MayBeToldBy s (call.Reply now content answer)) x.told) now content s bytes
+    (λ other. tt) (λ a response spells. tells_as s (call.Reply now content answer) (Reply now response) (a, response, spells, refl))
 
 pub each_call_tells : (s t : Core) (c : Call) → IsHeld c → Step s c t → AllByRecursion (MayBeToldBy s c) (told_by s c)
 each_call_tells s t (call.Append i (Err append.OutOfMemory)) held step = tt

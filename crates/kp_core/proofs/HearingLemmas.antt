@@ -1,21 +1,21 @@
 -- Hearing the bytes of a response is hearing the response, and whatever changes the core is heard so.
-use Rattle.std.proofs.Common.{◌≡◌, ◌⊎◌, ℕ, ◌<◌, ◌^◌, Bool, true, false, List, ℤ, None, Some, refl, sym, ap, ◌∙◌, subst, inl, inr, arith}
-use Rattle.std.specs.Prelude.{All, length, Option, Result, Ok, Err, if◌then◌else◌}
+use Rattle.std.proofs.Common.{◌≡◌, ℕ, ◌<◌, ◌^◌, Bool, true, false, List, None, Some, refl, sym, ap, ◌∙◌, subst, inl, inr, arith}
+use Rattle.std.specs.Prelude.{All, length, Option, Result, Ok, if◌then◌else◌}
 use Rattle.std.proofs.lemmas.Bool.{cases_lt}
 use Rattle.std.proofs.lemmas.List.{get_or_past}
 use Rattle.kp_wire.specs.Fields.{int32}
-use Rattle.kp_wire.specs.Reading.{Read}
 use Rattle.kp_wire.proofs.FieldLemmas.{int32_exact}
 use Rattle.kp_wire.proofs.ReadLemmas.{IsBytes}
 use Rattle.kp_frames.specs.declared.api.Api.{Api}
-use Rattle.kp_frames.specs.declared.fault.FrameFault.{FrameFault}
 use Rattle.kp_frames.specs.declared.response.Response.{Response}
-use Rattle.kp_frames.specs.Response.{body, answer, FitsResponse, spell_body, spelling, Spells, response_at}
+use Rattle.kp_frames.specs.Response.{body, answer, FitsResponse, spell_body, spelling, Spells}
 use Rattle.kp_frames.proofs.ResponseLemmas.{response_found, response_only}
-use Rattle.kp_core.proofs.CallLemmas.{reading, naming, hearing}
+use Rattle.kp_core.specs.declared.fault.CoreFault.{CoreFault}
 use Rattle.kp_core.specs.declared.fault.CoreFault.TheVariants as fault
+use Rattle.kp_core.specs.declared.ticked.Replied.{Replied}
 use Rattle.kp_core.specs.Records.{Request, Core, quietly}
 use Rattle.kp_core.specs.Replies.{Replies, awaited, refuse_as, unknown, settle, response_step, api_of, reply_step, IsReadAs}
+use Rattle.kp_core.proofs.CallLemmas.{at_reply, reading, naming, hearing}
 
 -- ---- the bytes of a response are heard as the response
 
@@ -44,31 +44,13 @@ heard_as_response a now content s x p kind = at_end s.ended refl
     at_end true e = refl
     at_end false e = ap (hearing now content s) (spelled_number a content x p) ∙ at_named e (awaited x.correlation s) refl kind ∙ going e
 
--- ---- whatever a reply does, it does as a response that its bytes are, and else it changes nothing
-
-abbrev pub IsHeardAs : ℕ → List ℕ → Core → Replies → Type 0
-IsHeardAs now content s x =
-    (x ≡ quietly s x.answer) ⊎ ((a : Api) × (response : Response) × Spells a content response × (x ≡ response_step now response s))
+-- ---- nothing changes, or it is a response that the bytes are
 
 are_bytes : (bytes : List ℕ) → All (λ byte. byte < 2 ^ 8) bytes → IsBytes bytes
 are_bytes bytes all i = elim (cases_lt i (length bytes)) [ inl lt ↦ all i 0 lt | inr le ↦ rw (get_or_past bytes i 0 le) (omega arith) ]
 
-pub heard_as_some : (now : ℕ) (content : List ℕ) (s : Core) → All (λ byte. byte < 2 ^ 8) content → IsHeardAs now content s (reply_step now content s)
-unfolding reply_step
-heard_as_some now content s bytes = at_end s.ended
-  where
-    at_read : (a : Api) (read : Result Response FrameFault) → response_at a content ≡ read → IsHeardAs now content s (reading now s read)
-    at_read a (Err e) is = inl refl
-    at_read a (Ok response) is = inr (a, response, response_found a content response (are_bytes content bytes) is, refl)
-
-    at_named : (o : Option Request) → IsHeardAs now content s (naming now content s o)
-    at_named None = inl refl
-    at_named (Some r) = at_read (api_of r.demand) (response_at (api_of r.demand) content) refl
-
-    at_number : (read : Read ℤ) → IsHeardAs now content s (hearing now content s read)
-    at_number (Err e) = inl refl
-    at_number (Ok x) = at_named (awaited x.0 s)
-
-    at_end : (b : Bool) → IsHeardAs now content s (if b then refuse_as fault.Ended s else hearing now content s (int32.read content))
-    at_end true = inl refl
-    at_end false = at_number (int32.read content)
+pub at_heard {ℓ} : (P : Replies → Type ℓ) (now : ℕ) (content : List ℕ) (s : Core) → All (λ byte. byte < 2 ^ 8) content
+    → ((answer : Result Replied CoreFault) → P (quietly s answer)) → ((a : Api) (x : Response) → Spells a content x → P (response_step now x s))
+    → P (reply_step now content s)
+at_heard P now content s bytes same heard =
+    at_reply P now content s same (λ a x e. heard a x (response_found a content x (are_bytes content bytes) e))

@@ -16,10 +16,10 @@ pub mod FetchedLemmas
 pub mod CallTellingLemmas
 pub mod FencingLemmas
 pub mod UsedLemmas
+pub mod RuleLemmas
 pub mod OrderLemmas
 pub mod OrderedCallLemmas
 pub mod FittingLemmas
 pub mod SameBatchLemmas
-pub mod KeepingLemmas
 pub mod AccountingLemmas
 pub mod LifeLemmas

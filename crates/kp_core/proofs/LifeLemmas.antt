@@ -12,8 +12,8 @@ use Rattle.kp_core.specs.Opening.{new_core}
 use Rattle.kp_core.specs.Partitions.{new_partition, untold, all_untold}
 use Rattle.kp_core.specs.Records.{Partition, Core}
 use Rattle.kp_core.proofs.AccountingLemmas.{told_was_untold}
-use Rattle.kp_core.proofs.KeepingLemmas.{items_told, told-append}
 use Rattle.kp_core.proofs.OrderedCallLemmas.{new_in_order, kept}
+use Rattle.kp_core.proofs.RuleLemmas.{items_told, told-append}
 
 -- ---- from any core that is in order
 

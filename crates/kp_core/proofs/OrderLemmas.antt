@@ -1,17 +1,17 @@
 -- What each rule for one partition keeps of the order in it.
-use Rattle.std.proofs.Common.{◌≡◌, ℕ, ◌+◌, ◌-◌, ◌<◌, ◌≤◌, ◌^◌, Bool, true, false, not, cond, List, [], ◌∷◌, ◌++◌, length, map, Some, None, inl, inr, ◌⊎◌, refl, sym, ap, ◌∙◌, subst, arith, append_assoc}
-use Rattle.std.specs.Prelude.{Option, filter, flat_map, sum_by, nat_le, nat_lt, unwrap_or, if◌then◌else◌, ◌||◌, ◌&&◌, ◌==◌}
-use Rattle.std.specs.List.{AllByRecursion, list_any, last_or}
+use Rattle.std.proofs.Common.{◌≡◌, ℕ, ◌+◌, ◌-◌, ◌<◌, ◌≤◌, ◌^◌, Bool, true, false, not, cond, List, [], ◌∷◌, ◌++◌, length, map, Some, None, inl, inr, ◌⊎◌, refl, sym, ap, ◌∙◌, subst, arith}
+use Rattle.std.specs.Prelude.{filter, flat_map, sum_by, nat_le, nat_lt, if◌then◌else◌, ◌==◌}
+use Rattle.std.specs.List.{AllByRecursion}
 use Rattle.std.proofs.lemmas.Bool.{ne_eqb, and_parts, leb-true, ltb-true}
-use Rattle.std.proofs.lemmas.List.{length-append, map-append, append-nil}
+use Rattle.std.proofs.lemmas.List.{length-append, map-append}
 use Rattle.std.proofs.lemmas.List.Concat.{flat_map-append}
-use Rattle.std.proofs.lemmas.List.Sums.{sum_by-cons, sum_by-append}
+use Rattle.std.proofs.lemmas.List.Sums.{sum_by-cons, sum_by_push}
 use Rattle.kp_wire.proofs.ListLemmas.{all_append}
 use Rattle.kp_accum.specs.declared.config.Config.{Config}
 use Rattle.kp_accum.specs.declared.item.Item.{Item}
 use Rattle.kp_accum.specs.Queue.{Pending, size_of, charge_of, joins, joined_by, begun_by, with_item, marked_by_flush}
 use Rattle.kp_accum.specs.declared.flags.Flags.{Flags}
-use Rattle.kp_accum.specs.Ready.{is_late, is_ready}
+use Rattle.kp_accum.specs.Ready.{is_late}
 use Rattle.kp_frames.specs.declared.produce.PartitionProduceResponse.{PartitionProduceResponse}
 use Rattle.kp_core.specs.declared.attempt.Attempt.{Attempt}
 use Rattle.kp_core.specs.declared.attempt.Attempt.TheVariants.{InFlight, Waiting}
@@ -19,19 +19,22 @@ use Rattle.kp_core.specs.declared.meaning.Meaning.{Meaning}
 use Rattle.kp_core.specs.declared.meaning.Meaning.TheVariants.{Stored, Duplicate, Retry, Reject}
 use Rattle.kp_core.specs.declared.outcome.Reason.{Reason}
 use Rattle.kp_core.specs.Appending.{enqueue}
-use Rattle.kp_core.specs.Attempts.{awaits, awaiting, is_waiting, lowest_waiting}
+use Rattle.kp_core.specs.Attempts.{awaits, is_waiting}
 use Rattle.kp_core.specs.Dropping.{drop_attempt, drop_attempts}
 use Rattle.kp_core.specs.Fence.{give_up, fence}
 use Rattle.kp_core.specs.Flush.{mark_open, mark}
 use Rattle.kp_core.specs.HandingOver.{opened_in, hand_over_in, again_in, send_again_in, send_in}
 use Rattle.kp_core.specs.InOrder.{IsItemOf, AreItemsOf, IsOpenOf, AreDistinct, AreRising, requests_awaited, IsEmptied, IsPartition}
-use Rattle.kp_core.specs.MaySend.{is_rested, is_confirmed, is_in_span, is_within_limit, may_hand_over, new_batch, sends}
-use Rattle.kp_core.specs.Partitions.{is_in, items_open, items_queued, untold}
+use Rattle.kp_core.specs.MaySend.{is_in_span, sends}
+use Rattle.kp_core.specs.Partitions.{is_in, untold}
 use Rattle.kp_core.specs.Records.{HandedBatch, Open, Partition, Effect}
 use Rattle.kp_core.specs.Replies.{go_on_under}
-use Rattle.kp_core.specs.Settling.{meaning_of, without_attempt, put_off, settle_by, left_alone, settle_batch}
-use Rattle.kp_core.specs.Tick.{is_open_late, behind_late, expire_front, heed_deadlines}
-use Rattle.kp_core.proofs.ListLemmas.{all_back, all_front, all_map, all_weaker}
+use Rattle.kp_core.specs.Settling.{meaning_of, without_attempt, put_off, settle_by}
+use Rattle.kp_core.specs.Tick.{behind_late, heed_deadlines}
+use Rattle.kp_core.proofs.CallLemmas.{at_entries, at_heed, by_entries}
+use Rattle.kp_core.proofs.ListLemmas.{IsOther, none_in, others, all_back, all_both, all_front, all_map, all_weaker, last_below}
+use Rattle.kp_core.proofs.RuleLemmas.{awaited_at, enqueue_keeps, send_keeps}
+use Rattle.kp_core.proofs.SendingLemmas.{at_sends, handed_over, sent_again}
 
 -- ---- what is left of a list: some of its elements, in their order, each changed at most so
 
@@ -84,7 +87,7 @@ left_mapped g f none = none
 left_mapped g f (gone l) = gone (left_mapped g f l)
 left_mapped g f (kept {x} {y} k l) = kept (f x y k) (left_mapped g f l)
 
-left_all : {A : Type 0} {K : A → A → Type 0} (P Q : A → Type 0) → ((x y : A) → K x y → P x → Q y)
+pub left_all : {A : Type 0} {K : A → A → Type 0} (P Q : A → Type 0) → ((x y : A) → K x y → P x → Q y)
     → {xs ys : List A} → Left K xs ys → AllByRecursion P xs → AllByRecursion Q ys
 left_all P Q f none h = tt
 left_all P Q f (gone l) h = left_all P Q f l h.1
@@ -110,17 +113,8 @@ left_sum f xs ys (kept {x} {y} {xs = us} {ys = vs} k l) = omega (arith, left_sum
 
 -- ---- lists of numbers
 
-pub neither : (a b : Bool) → (a || b) ≡ false → (a ≡ false) × (b ≡ false)
-neither true b e = absurd cc
-neither false b e = (refl, e)
-
 left_out : (n : ℕ) (ns ms : List ℕ) → Left Same ns ms → is_in n ns ≡ false → is_in n ms ≡ false
-left_out n ns ms none h = refl
-left_out n ns ms (gone {x} {xs = us} l) h = left_out n us ms l (neither (x == n) (is_in n us) h).1
-left_out n ns ms (kept {x} {y} {xs = us} {ys = vs} k l) h =
-    let parts = neither (x == n) (is_in n us) h in
-    let here : (y == n) ≡ false = ap (λ (m : ℕ). m == n) k ∙ parts.0 in
-    ap (λ (b : Bool). b || is_in n vs) here ∙ left_out n us vs l parts.1
+left_out n ns ms l h = none_in n ms (left_same_all (IsOther n) l (others n ns h))
 
 pub left_distinct : (ns ms : List ℕ) → Left Same ns ms → AreDistinct ns → AreDistinct ms
 left_distinct ns ms none h = tt
@@ -136,21 +130,13 @@ left_rising ns ms (kept {x} {y} {xs = us} {ys = vs} k l) h =
 
 -- a number that is above all stands in no place of theirs
 out_above : (k : ℕ) (ns : List ℕ) → AllByRecursion (λ n. n < k) ns → is_in k ns ≡ false
-out_above k [] h = refl
-out_above k (n ∷ ns) h = ap (λ (b : Bool). b || is_in k ns) (ne_eqb n k (λ e. omega (arith, e, h.0))) ∙ out_above k ns h.1
+out_above k ns h = none_in k ns (all_weaker (λ n. n < k) (IsOther k) (λ n l. ne_eqb n k (λ e. omega (arith, e, l))) ns h)
 
 pub distinct_more : (k : ℕ) (ns : List ℕ) → AllByRecursion (λ n. n < k) ns → AreDistinct ns → AreDistinct (ns ++ k ∷ [])
 distinct_more k [] b h = (refl, tt)
-distinct_more k (n ∷ ns) b h = (apart ns h.0, distinct_more k ns b.1 h.1)
-  where
-    other : (k == n) ≡ false
-    other = ne_eqb k n (λ e. omega (arith, e, b.0))
-
-    apart : (ms : List ℕ) → is_in n ms ≡ false → is_in n (ms ++ k ∷ []) ≡ false
-    apart [] e = ap (λ (c : Bool). c || false) other
-    apart (m ∷ ms) e =
-        let parts = neither (m == n) (is_in n ms) e in
-        ap (λ (c : Bool). c || is_in n (ms ++ k ∷ [])) parts.0 ∙ apart ms parts.1
+distinct_more k (n ∷ ns) b h =
+    let other : (k == n) ≡ false = ne_eqb k n (λ e. omega (arith, e, b.0)) in
+    (none_in n (ns ++ k ∷ []) (all_append (IsOther n) ns (k ∷ []) (others n ns h.0) (other, tt)), distinct_more k ns b.1 h.1)
 
 rising_more : (k : ℕ) (ns : List ℕ) → AllByRecursion (λ n. n < k) ns → AreRising ns → AreRising (ns ++ k ∷ [])
 rising_more k [] b h = (tt, tt)
@@ -233,9 +219,6 @@ pub lighter : {t u : Partition} → Shrinks t u → load u ≤ load t
 lighter {t} {u} k = left_sum charge_of (untold t) (untold u) (untold_left t u k.queue k.opens)
 
 -- ---- each rule that hands nothing over
-
-abbrev awaited_at : Attempt → List ℕ
-awaited_at a = elim a [ InFlight k ↦ k ∷ [] | Waiting since ↦ [] ]
 
 abbrev awaited_of : Open → List ℕ
 awaited_of o = awaited_at o.attempt
@@ -323,12 +306,8 @@ left_behind_late c now (b ∷ q) = at_test (is_late c now b) (left_behind_late c
     at_test false rest = left_same SameItems (λ d. refl) (b ∷ q)
 
 pub shrinks_passed : (c : Config) (now : ℕ) (t : Partition) → Shrinks t (heed_deadlines c now t).after
-unfolding heed_deadlines
-shrinks_passed c now t = at_test (list_any (is_open_late c now) t.open_batches)
-  where
-    at_test : (late : Bool) → Shrinks t (if late then fence t else expire_front c now t).after
-    at_test true = shrinks_fenced t
-    at_test false = shrinks_to t (behind_late c now t.queue) t.open_batches t.acknowledged (left_behind_late c now t.queue) (same_opens t)
+shrinks_passed c now t = at_heed (λ (x : Effect). Shrinks t x.after) c now t (λ late. shrinks_fenced t)
+    (shrinks_to t (behind_late c now t.queue) t.open_batches t.acknowledged (left_behind_late c now t.queue) (same_opens t))
 
 -- ---- an answer
 
@@ -350,16 +329,8 @@ shrinks_by now k t o entry Retry = shrinks_to t t.queue (map (put_off now k) t.o
     (left_map KeepsOpen (put_off now k) (keeps_put_off now k) t.open_batches)
 shrinks_by now k t o entry Reject = shrinks_fenced t
 
-abbrev by_attempt : ℕ → ℕ → Partition → PartitionProduceResponse → Option Open → Effect
-by_attempt now k t entry o = elim o [ None ↦ left_alone t | Some o ↦ settle_by now k t o entry (meaning_of entry.error_code) ]
-
-pub shrinks_settled : (now k : ℕ) (t : Partition) (entry : PartitionProduceResponse) → Shrinks t (settle_batch now k t entry).after
-unfolding settle_batch
-shrinks_settled now k t entry = at_option (awaiting k t)
-  where
-    at_option : (o : Option Open) → Shrinks t (by_attempt now k t entry o).after
-    at_option None = shrinks_same t
-    at_option (Some o) = shrinks_by now k t o entry (meaning_of entry.error_code)
+pub shrinks_entries : (now k : ℕ) (t : Partition) (xs : List PartitionProduceResponse) → Shrinks t (by_entries now k t xs).after
+shrinks_entries now k t xs = at_entries (λ (x : Effect). Shrinks t x.after) now k t xs (shrinks_same t) (λ a others e o is. shrinks_by now k t o a (meaning_of a.error_code))
 
 -- ---- a later correlation id, a fresh producer id, and one item more
 
@@ -438,30 +409,8 @@ enqueued {c} {senders} {p} {i} {t} new free h = record {
   fenced = λ f. absurd cc;
 }
 
-weighed : (c : Config) (i : Item) (q : List Pending) → sum_by charge_of (items_queued (with_item c i q)) ≡ sum_by charge_of (items_queued q) + charge_of i
-unfolding with_item
-weighed c i [] = omega (arith, sum_by-cons charge_of i [])
-weighed c i (b ∷ []) = at_test (joins c i b)
-  where
-    at_test : (t : Bool) → sum_by charge_of (items_queued (if t then joined_by i b ∷ [] else b ∷ begun_by i ∷ [])) ≡ sum_by charge_of (b.items ++ []) + charge_of i
-    at_test true = simp (append-nil, sum_by-append charge_of b.items (i ∷ [])) (omega (arith, sum_by-cons charge_of i []))
-    at_test false = simp (append-nil, sum_by-append charge_of b.items (i ∷ [])) (omega (arith, sum_by-cons charge_of i []))
-weighed c i (b ∷ d ∷ q) =
-    omega (
-      arith,
-      weighed c i (d ∷ q),
-      sum_by-append charge_of b.items (items_queued (with_item c i (d ∷ q))),
-      sum_by-append charge_of b.items (items_queued (d ∷ q)),
-    )
-
 pub heavier : (c : Config) (i : Item) (t : Partition) → load (enqueue c i t) ≡ load t + charge_of i
-unfolding untold
-heavier c i t = omega (
-  arith,
-  weighed c i t.queue,
-  sum_by-append charge_of (items_open t.open_batches) (items_queued t.queue),
-  sum_by-append charge_of (items_open t.open_batches) (items_queued (with_item c i t.queue)),
-)
+heavier c i t = ap (sum_by charge_of) (enqueue_keeps c i t) ∙ sum_by_push charge_of (untold t) i
 
 -- ---- the lowest batch that waits goes out again
 
@@ -483,17 +432,6 @@ all_awaited P k it (o ∷ os) h = at_test (is_waiting o) (all_awaited P k it os 
         → AllByRecursion P (requests_awaited (if b then again_in k o ∷ os else o ∷ send_again_in k os))
     at_test true rest = (it, all_back P (awaited_of o) (requests_awaited os) h)
     at_test false rest = all_append P (awaited_of o) (requests_awaited (send_again_in k os)) (all_front P (awaited_of o) (requests_awaited os) h) rest
-
-abbrev IsOther : ℕ → ℕ → Type 0
-IsOther n m = (m == n) ≡ false
-
-others : (n : ℕ) (ms : List ℕ) → is_in n ms ≡ false → AllByRecursion (IsOther n) ms
-others n [] e = tt
-others n (m ∷ ms) e = let parts = neither (m == n) (is_in n ms) e in (parts.0, others n ms parts.1)
-
-none_in : (n : ℕ) (ms : List ℕ) → AllByRecursion (IsOther n) ms → is_in n ms ≡ false
-none_in n [] h = refl
-none_in n (m ∷ ms) h = ap (λ (b : Bool). b || is_in n ms) h.0 ∙ none_in n ms h.1
 
 distinct_again : (k : ℕ) (os : List Open) → AllByRecursion (λ n. n < k) (requests_awaited os)
     → AreDistinct (requests_awaited os) → AreDistinct (requests_awaited (send_again_in k os))
@@ -519,9 +457,6 @@ distinct_again k (o ∷ os) below h = at_test (is_waiting o) (distinct_again k o
     at_test true rest = (out_above k (requests_awaited os) below_others, distinct_others)
     at_test false rest = at_attempt o.attempt below h rest
 
-abbrev sent_again : ℕ → Partition → Partition
-sent_again k t = record t { open_batches = send_again_in k t.open_batches; attempts_sent = t.attempts_sent + 1 }
-
 goes_again : {c : Config} {senders k p : ℕ} {t : Partition} → t.fenced ≡ false → IsPartition c senders k p t → IsPartition c senders (k + 1) p (sent_again k t)
 goes_again {k} {t} free h = record {
   queue = h.queue;
@@ -538,14 +473,6 @@ goes_again {k} {t} free h = record {
 }
 
 -- ---- the front batch goes out
-
-last_below : (m n : ℕ) (ids : List ℕ) → n < m → AllByRecursion (λ i. i < m) ids → unwrap_or (last_or (Some n) ids) 0 < m
-last_below m n [] l h = l
-last_below m n (i ∷ ids) l h = last_below m i ids h.0 h.1
-
-present_below : (m : ℕ) (ids : List ℕ) → 0 < m → AllByRecursion (λ i. i < m) ids → unwrap_or (last_or None ids) 0 < m
-present_below m [] l h = l
-present_below m (i ∷ ids) l h = last_below m i ids h.0 h.1
 
 abbrev InSpan : ℕ → ℕ → Open → Type 0
 InSpan most n o = n + 1 ≤ o.batch.number + most
@@ -565,10 +492,6 @@ all_in_span c n (o ∷ os) e h = (omega (arith, lowest), above os h.0)
     above [] a = tt
     above (q ∷ qs) a = (omega (arith, lowest, a.0), above qs a.1)
 
-both : {A : Type 0} (P Q R : A → Type 0) → ((x : A) → P x → Q x → R x) → (xs : List A) → AllByRecursion P xs → AllByRecursion Q xs → AllByRecursion R xs
-both P Q R f [] h k = tt
-both P Q R f (x ∷ xs) h k = (f x h.0 k.0, both P Q R f xs h.1 k.1)
-
 -- what lets a partition hand its front batch over
 record IsLetOut (c : Config) (t : Partition) (front : Pending) : Type 0 where
   free : t.fenced ≡ false
@@ -582,7 +505,7 @@ unfolding hand_over_in
 goes_first {c} {senders} {k} {p} {t} {front} {rest} out e h = record {
   queue = waiting.1;
   opens = all_append (IsOpenOf c senders p u) t.open_batches (o ∷ [])
-      (both (IsOpenOf c senders p t) (InSpan c.max_in_flight_requests_per_connection t.next_number) (IsOpenOf c senders p u) still t.open_batches
+      (all_both (IsOpenOf c senders p t) (InSpan c.max_in_flight_requests_per_connection t.next_number) (IsOpenOf c senders p u) still t.open_batches
       h.opens (all_in_span c t.next_number t.open_batches out.span h.rising)) (new, tt);
   rising = rw (map-append (λ (x : Open). x.batch.number) t.open_batches (o ∷ [])) (rising_more t.next_number _ numbers h.rising);
   attempts = rw awaited (distinct_more k (requests_awaited t.open_batches) h.attempted h.attempts);
@@ -610,7 +533,7 @@ goes_first {c} {senders} {k} {p} {t} {front} {rest} out e h = record {
       items = waiting.0;
       number = omega arith;
       span = omega (arith, out.some);
-      id = present_below (2 ^ 63) t.ids (omega arith) h.ids;
+      id = last_below (2 ^ 63) None t.ids (omega arith) h.ids;
       sequence = out.limit;
     }
 
@@ -625,61 +548,14 @@ goes_first {c} {senders} {k} {p} {t} {front} {rest} out e h = record {
 
 -- ---- what a partition may send goes out
 
-abbrev by_front : Config → Flags → ℕ → Partition → List Pending → Option HandedBatch
-by_front c flags now t q = elim q [ [] ↦ None | front ∷ behind ↦ if may_hand_over c flags now t front then Some (new_batch t front) else None ]
-
-abbrev by_lowest : Config → Flags → ℕ → Partition → Option Open → Option HandedBatch
-by_lowest c flags now t o = elim o [ Some lowest ↦ if is_rested c now lowest then Some lowest.batch else None | None ↦ by_front c flags now t t.queue ]
-
-abbrev sent_by : ℕ → Partition → Option Open → Partition
-sent_by k t o = elim o [ Some lowest ↦ sent_again k t | None ↦ hand_over_in k t t.queue ]
-
 pub goes_out : {c : Config} {senders k p : ℕ} {t : Partition} (flags : Flags) (now : ℕ) (b : HandedBatch) → sends c flags now t ≡ Some b
     → 1 ≤ c.max_in_flight_requests_per_connection → IsPartition c senders k p t → IsPartition c senders (k + 1) p (send_in k t)
-unfolding sends send_in is_within_limit
-goes_out {c} {senders} {k} {p} {t} flags now b e some h = at_fence t.fenced refl e
-  where
-    at_may : t.fenced ≡ false → (front : Pending) (rest : List Pending) → t.queue ≡ front ∷ rest → (m : Bool) → may_hand_over c flags now t front ≡ m
-        → (if m then Some (new_batch t front) else None) ≡ Some b → IsPartition c senders (k + 1) p (hand_over_in k t (front ∷ rest))
-    at_may f front rest q true m e' =
-        let limit = and_parts (is_ready c flags now t.queue && is_confirmed t && is_in_span c t.next_number t.open_batches) (is_within_limit c t front) m in
-        let span = and_parts (is_ready c flags now t.queue && is_confirmed t) (is_in_span c t.next_number t.open_batches) limit.0 in
-        goes_first (record {
-          free = f;
-          some = some;
-          span = span.1;
-          limit = leb-true (t.next_sequence + length front.items) c.sequence_limit limit.1;
-        }) q h
-    at_may f front rest q false m e' = absurd cc
+goes_out {c} {senders} {k} {p} {t} flags now b e some h = at_sends (λ x u. IsPartition c senders (k + 1) p u) c flags now k t (record {
+  again = λ free o is. goes_again free h;
+  first = λ free front rest q may.
+      let let_out = handed_over c flags now t front may in
+      goes_first (record { free = free; some = some; span = let_out.0; limit = let_out.1 }) q h;
+}) b e
 
-    at_queue : t.fenced ≡ false → (q : List Pending) → t.queue ≡ q → by_front c flags now t q ≡ Some b → IsPartition c senders (k + 1) p (hand_over_in k t q)
-    at_queue f [] is e' = absurd cc
-    at_queue f (front ∷ rest) is e' = at_may f front rest is (may_hand_over c flags now t front) refl e'
-
-    at_lowest : t.fenced ≡ false → (o : Option Open) → by_lowest c flags now t o ≡ Some b → IsPartition c senders (k + 1) p (sent_by k t o)
-    at_lowest f (Some lowest) e' = goes_again f h
-    at_lowest f None e' = at_queue f t.queue refl e'
-
-    at_fence : (f : Bool) → t.fenced ≡ f → (if f then None else by_lowest c flags now t (lowest_waiting t)) ≡ Some b
-        → IsPartition c senders (k + 1) p (sent_by k t (lowest_waiting t))
-    at_fence true is e' = absurd cc
-    at_fence false is e' = at_lowest is (lowest_waiting t) e'
-
-pub as_heavy : (k : ℕ) (t : Partition) → load (send_in k t) ≤ load t
-unfolding send_in untold hand_over_in
-as_heavy k t = at_lowest (lowest_waiting t)
-  where
-    at_queue : (q : List Pending) → t.queue ≡ q → load (hand_over_in k t q) ≤ load t
-    at_queue [] is = omega arith
-    at_queue (front ∷ rest) is =
-        let o = opened_in k t front in
-        let same : items_open (t.open_batches ++ o ∷ []) ++ items_queued rest ≡ items_open t.open_batches ++ items_queued t.queue =
-        ap (λ (is : List Item). is ++ items_queued rest) (flat_map-append (λ (x : Open). x.batch.items) t.open_batches (o ∷ []))
-        ∙ ap (λ (is : List Item). (items_open t.open_batches ++ is) ++ items_queued rest) (append-nil front.items)
-        ∙ append_assoc (items_open t.open_batches) front.items (items_queued rest)
-        ∙ ap (λ (q : List Pending). items_open t.open_batches ++ items_queued q) (sym is) in
-        omega (arith, ap (sum_by charge_of) same)
-
-    at_lowest : (o : Option Open) → load (sent_by k t o) ≤ load t
-    at_lowest (Some lowest) = left_sum charge_of (untold t) (untold (sent_again k t)) (untold_left t (sent_again k t) (same_queue t) (left_again k t.open_batches))
-    at_lowest None = at_queue t.queue refl
+pub as_heavy : (k : ℕ) (t : Partition) → load (send_in k t) ≡ load t
+as_heavy k t = ap (sum_by charge_of) (send_keeps k t)

@@ -1,18 +1,17 @@
 -- A new core is in order, and each call keeps the order.
-use Rattle.kp_core.proofs.CallLemmas.{at_reply}
-use Rattle.std.specs.Prelude.{◌++◌}
-use Rattle.std.proofs.Common.{◌≡◌, ℕ, zero, suc, ◌+◌, ◌-◌, ◌*◌, ◌<◌, ◌≤◌, ◌^◌, Bool, true, false, not, List, [], ◌∷◌, length, map, get_or, ℤ, pos, negsuc, Some, None, Ok, Err, inl, inr, refl, sym, ap, ◌∙◌, subst, arith}
-use Rattle.std.specs.Prelude.{Option, Result, filter, flat_map, sum_by, replicate, slice_set, nat_abs, int_le, nat_le, nat_lt, if◌then◌else◌, ◌||◌, ◌&&◌, ◌==◌}
-use mir.Val.{sel}
+use Rattle.std.proofs.Common.{◌≡◌, ℕ, suc, ◌+◌, ◌-◌, ◌*◌, ◌<◌, ◌≤◌, ◌^◌, Bool, true, false, not, List, [], ◌∷◌, length, map, ℤ, pos, negsuc, Some, None, Ok, Err, inl, inr, refl, sym, ap, ◌∙◌, subst, arith}
+use Rattle.std.specs.Prelude.{◌++◌, Option, sum_by, replicate, slice_set, nat_abs, int_le, nat_lt, if◌then◌else◌, ◌||◌, ◌&&◌}
 use Rattle.std.specs.Int.{w64, cast_signed}
 use Rattle.std.specs.List.{AllByRecursion, enumerate_from}
 use Rattle.std.specs.Ordering.{int_eq}
 use Rattle.std.specs.Str.{IsUtf8}
-use Rattle.std.proofs.lemmas.Bool.{and_parts, cases_lt, eqb-true, leb-true, ltb-true, ltb-false}
+use Rattle.std.proofs.lemmas.Bool.{and_parts, cases_lt, ltb-true, ltb-false}
 use Rattle.std.proofs.lemmas.List.{length-append, length-map, length-set, length-replicate, get_or-map, map-append, set_past}
-use Rattle.std.proofs.lemmas.List.FromFn.{length-enumerate_from, get_or-enumerate_from}
+use Rattle.std.proofs.lemmas.List.FromFn.{length-enumerate_from}
 use Rattle.std.proofs.lemmas.List.Folds.{sum_by-replicate}
-use Rattle.std.proofs.lemmas.List.Sums.{sum_by-append, sum_by-cons, sum_by-set}
+use Rattle.std.proofs.lemmas.List.Sums.{sum_by-cons}
+use Rattle.std.proofs.lemmas.Bool.Decides.{nat_tests}
+use mir.Val.{sel}
 use Rattle.kp_wire.specs.Codec.{pair, number}
 use Rattle.kp_wire.specs.Fields.{int16, int32, int64}
 use Rattle.kp_wire.specs.Reading.{Read, ◌>>=◌}
@@ -20,15 +19,14 @@ use Rattle.kp_wire.proofs.ListLemmas.{all_append, all_replicate}
 use Rattle.kp_wire.proofs.ReadLemmas.{bind_ok, ok_is, or_else_ok}
 use Rattle.kp_accum.specs.declared.config.Config.{Config}
 use Rattle.kp_accum.specs.declared.fault.AppendFault.TheVariants as append
-use Rattle.kp_accum.specs.declared.fault.ConfigFault.{ConfigFault}
-use Rattle.kp_accum.specs.declared.fault.ConfigFault.TheVariants.{BatchSize, Linger, BufferMemory, MaxRequestSize, RequestTimeout, DeliveryTimeout, RetryBackoff, MaxInFlight, SequenceLimit, BatchAboveRequest}
 use Rattle.kp_accum.specs.declared.item.Item.{Item}
 use Rattle.kp_accum.specs.Config.{checked, is_outside}
 use Rattle.kp_accum.specs.Queue.{charge_of}
+use Rattle.kp_accum.proofs.AccumLemmas.{all-at}
+use Rattle.kp_accum.proofs.QueueLemmas.{allowed}
 use Rattle.kp_frames.specs.declared.api.Api.{Api}
 use Rattle.kp_frames.specs.declared.api.Api.TheVariants as api
 use Rattle.kp_frames.specs.declared.producer_id.InitProducerIdResponse.{InitProducerIdResponse}
-use Rattle.kp_frames.specs.declared.produce.PartitionProduceResponse.{PartitionProduceResponse}
 use Rattle.kp_frames.specs.declared.produce.ProduceResponse.{ProduceResponse}
 use Rattle.kp_frames.specs.declared.response.Response.{Response}
 use Rattle.kp_frames.specs.declared.response.ResponseBody.{ResponseBody}
@@ -56,73 +54,43 @@ use Rattle.kp_core.specs.Flush.{mark, flush_step}
 use Rattle.kp_core.specs.HandingOver.{send_in}
 use Rattle.kp_core.specs.Held.{IsRecord}
 use Rattle.kp_core.specs.InOrder.{AreDistinct, IsEmptied, IsPartition, IsRequest, IsInOrder, IsHeld}
-use Rattle.kp_core.specs.MaySend.{sends, wants_id}
+use Rattle.kp_core.specs.MaySend.{sends}
 use Rattle.kp_core.specs.Mismatch.{entries_for, is_given, answers_id}
 use Rattle.kp_core.specs.Next.{Sending, flags_of, next_demand}
 use Rattle.kp_core.specs.Opening.{new_core, MayOpen}
 use Rattle.kp_core.specs.Partitions.{partition_at, with_partition, changed_at, new_partition, is_in, untold, used}
 use Rattle.kp_core.specs.Records.{HandedBatch, Partition, Demand, Produce, InitProducerId, Request, Core, Told, Effect, Called}
-use Rattle.kp_core.specs.Replies.{Replies, settle_batches, go_on_under, give_id, settle_id, response_step, reply_step}
+use Rattle.kp_core.specs.Replies.{Replies, settle_batches, go_on_under, settle_id, response_step, reply_step}
 use Rattle.kp_core.specs.Reports.{with_reports, fetch_step}
 use Rattle.kp_core.specs.Requesting.{Requested, partitions_in, request_of, sent_out, request_step}
-use Rattle.kp_core.specs.Settling.{left_alone, settle_batch}
 use Rattle.kp_core.specs.Telling.{with_partitions, at_each, at_these}
 use Rattle.kp_core.specs.Tick.{Ticks, heed_deadlines, tick_step}
-use Rattle.kp_core.proofs.CallLemmas.{at_append, at_request, at_response_going, at_tick, at_end_step, at_disconnect, at_close}
-use Rattle.kp_core.proofs.ListLemmas.{all_map, all_say, all_weaker, at_set}
-use Rattle.kp_core.proofs.OrderLemmas.{Left, Same, left_same, left_nothing, left_filter, left_mapped, left_same_all, left_none, left_length, left_distinct, neither, distinct_more, Shrinks, shrinks_same, shrinks_dropped, shrinks_marked, shrinks_given_up, given_up_empty, shrinks_passed, shrinks_settled, emptied, shrunk, load, lighter, later, gone_on, IsNew, enqueued, heavier, goes_out, as_heavy}
-use Rattle.kp_core.proofs.SendingLemmas.{IsSent, demand_is_sent, demand_is_distinct}
+use Rattle.kp_core.proofs.CallLemmas.{at_append, at_id, at_reply, at_request, by_entries, idle, at_response_going, at_tick, at_end_step, at_disconnect, at_close}
+use Rattle.kp_core.proofs.ListLemmas.{all_by, all_map, all_say, all_weaker, at_contained, at_put, sum_by-flat_map, sum_by-flat_map-set}
+use Rattle.kp_core.proofs.OrderLemmas.{Left, Same, left_same, left_nothing, left_filter, left_mapped, left_same_all, left_none, left_length, left_distinct, distinct_more, Shrinks, shrinks_same, shrinks_dropped, shrinks_marked, shrinks_given_up, given_up_empty, shrinks_passed, shrinks_entries, emptied, shrunk, load, lighter, later, gone_on, IsNew, enqueued, heavier, goes_out, as_heavy}
+use Rattle.kp_core.proofs.PartitionLemmas.{at_changed, length-changed_at, numbered}
+use Rattle.kp_core.proofs.SendingLemmas.{IsSent, has_part, demand_is_sent, demand_is_distinct}
 
--- ---- what holds at each place of a list
-
-each_at : {A : Type 0} (P : ℕ → A → Type 0) (k : ℕ) (xs : List A) (d : A) → AllByRecursion (λ x. P x.0 x.1) (enumerate_from k xs)
-    → (p : ℕ) → p < length xs → P (k + p) (get_or xs p d)
-each_at P k [] d h p l = absurd (omega (arith, l))
-each_at P k (x ∷ xs) d h zero l = let same : k ≡ k + 0 = omega arith in subst (λ (n : ℕ). P n x) same h.0
-each_at P k (x ∷ xs) d h (suc p) l =
-    let same : k + 1 + p ≡ k + suc p = omega arith in
-    subst (λ (n : ℕ). P n (get_or xs p d)) same (each_at P (k + 1) xs d h.1 p (omega (arith, l)))
-
-all_from : {A : Type 0} (P : ℕ → A → Type 0) (k : ℕ) (xs : List A) (d : A) → ((p : ℕ) → p < length xs → P (k + p) (get_or xs p d))
-    → AllByRecursion (λ x. P x.0 x.1) (enumerate_from k xs)
-all_from P k [] d f = tt
-all_from P k (x ∷ xs) d f =
-    let here : k + 0 ≡ k = omega arith in (
-      subst (λ (n : ℕ). P n x) here (f 0 (omega arith)),
-      all_from P (k + 1) xs d (λ p l.
-          let same : k + suc p ≡ k + 1 + p = omega arith in
-          subst (λ (n : ℕ). P n (get_or xs p d)) same (f (suc p) (omega (arith, l)))),
-    )
-
-all_at : {A : Type 0} (P : A → Type 0) (xs : List A) (d : A) → AllByRecursion P xs → (p : ℕ) → p < length xs → P (get_or xs p d)
-all_at P [] d h p l = absurd (omega (arith, l))
-all_at P (x ∷ xs) d h zero l = h.0
-all_at P (x ∷ xs) d h (suc p) l = all_at P xs d h.1 p (omega (arith, l))
-
-all_by : {A : Type 0} (P : A → Type 0) (xs : List A) (d : A) → ((p : ℕ) → p < length xs → P (get_or xs p d)) → AllByRecursion P xs
-all_by P [] d f = tt
-all_by P (x ∷ xs) d f = (f 0 (omega arith), all_by P xs d (λ p l. f (suc p) (omega (arith, l))))
+-- ---- each partition
 
 -- The partition with this number is in order, of a core with this configuration, so many senders and this next correlation id.
 abbrev pub IsPlace : Config → ℕ → ℕ → List Partition → ℕ → Type 0
 IsPlace c senders k ts p = IsPartition c senders k p (partition_at p ts)
 
+abbrev AreInOrder : Config → ℕ → ℕ → ℕ × Partition → Type 0
+AreInOrder c senders k x = IsPartition c senders k x.0 x.1
+
 pub places : (s : Core) → IsInOrder s → (p : ℕ) → p < length s.partitions → IsPlace s.config (length s.reports) s.correlation s.partitions p
-places s h p l =
-    let same : 0 + p ≡ p = omega arith in
-    subst (λ (n : ℕ). IsPartition s.config (length s.reports) s.correlation n (partition_at p s.partitions)) same
-    (each_at (IsPartition s.config (length s.reports) s.correlation) 0 s.partitions (new_partition 0) h.partitions p l)
+places s h p l = subst (AreInOrder s.config (length s.reports) s.correlation) (numbered s.partitions p l)
+    (all-at (AreInOrder s.config (length s.reports) s.correlation) (enumerate_from 0 s.partitions) p (0, new_partition 0)
+    (omega (arith, l, length-enumerate_from 0 s.partitions)) h.partitions)
 
 placed : (c : Config) (senders k : ℕ) (ts : List Partition) → ((p : ℕ) → p < length ts → IsPlace c senders k ts p)
     → AllByRecursion (λ x. IsPartition c senders k x.0 x.1) (enumerate_from 0 ts)
-placed c senders k ts f = all_from (IsPartition c senders k) 0 ts (new_partition 0)
-    (λ p l. let same : p ≡ 0 + p = omega arith in subst (λ (n : ℕ). IsPartition c senders k n (partition_at p ts)) same (f p l))
+placed c senders k ts f = all_by (AreInOrder c senders k) (enumerate_from 0 ts) (0, new_partition 0) (λ p l.
+    let there : p < length ts = omega (arith, l, length-enumerate_from 0 ts) in subst (AreInOrder c senders k) (sym (numbered ts p there)) (f p there))
 
 -- ---- the memory
-
-loads : (ts : List Partition) → sum_by charge_of (flat_map untold ts) ≡ sum_by load ts
-loads [] = refl
-loads (t ∷ ts) = omega (arith, sum_by-append charge_of (untold t) (flat_map untold ts), sum_by-cons load t ts, loads ts)
 
 -- the partitions of the second take no more than those of the first
 abbrev TakeNoMore : List Partition → List Partition → Type 0
@@ -138,11 +106,16 @@ no_more (t ∷ ts) (u ∷ us) e f =
 
 used_no_more : (s u : Core) → length u.partitions ≡ length s.partitions → TakeNoMore s.partitions u.partitions → used u ≤ used s
 unfolding used
-used_no_more s u e f = omega (arith, loads s.partitions, loads u.partitions, no_more s.partitions u.partitions e f)
+used_no_more s u e f = omega (
+  arith,
+  sum_by-flat_map charge_of untold s.partitions,
+  sum_by-flat_map charge_of untold u.partitions,
+  no_more s.partitions u.partitions e f,
+)
 
 used_with : (s : Core) (p : ℕ) (t : Partition) → p < length s.partitions → used (with_partition p t s) + load (partition_at p s.partitions) ≡ used s + load t
 unfolding used
-used_with s p t l = omega (arith, loads s.partitions, loads (slice_set s.partitions p t), sum_by-set load s.partitions p t (new_partition 0) l)
+used_with s p t l = sum_by-flat_map-set charge_of untold s.partitions p t (new_partition 0) l
 
 -- ---- a core whose partitions hand nothing over
 
@@ -170,7 +143,7 @@ order_kept s u k h = record {
   memory = omega (arith, h.memory, ap (λ (c : Config). c.buffer_memory) k.config, used_no_more s u k.count (λ p l. lighter (k.each p l)));
   nothing_left = λ e. all_by IsEmptied u.partitions (new_partition 0) (λ p l.
       let there : p < length s.partitions = omega (arith, l, k.count) in
-      emptied (k.each p there) (all_at IsEmptied s.partitions (new_partition 0) (h.nothing_left (k.ended e)) p there));
+      emptied (k.each p there) (all-at IsEmptied s.partitions p (new_partition 0) there (h.nothing_left (k.ended e))));
   nothing_in_flight = λ e. left_none s.requests u.requests k.requests (h.nothing_in_flight (k.ended e));
 }
 
@@ -219,35 +192,15 @@ keeps_at_each : (rule : Partition → Effect) → ((t : Partition) → Shrinks t
 unfolding at_each
 keeps_at_each rule k s = keeps_with s _ _ (length-map s.partitions (λ t. (rule t).after)) (shrinks_map (λ t. (rule t).after) k s.partitions)
 
-length-changed_at : (ps : List ℕ) (f : ℕ → Partition → Partition) (ts : List Partition) → length (changed_at ps f ts) ≡ length ts
-unfolding changed_at
-length-changed_at ps f ts = length-map (enumerate_from 0 ts) _ ∙ length-enumerate_from 0 ts
-
-abbrev changed : List ℕ → (ℕ → Partition → Partition) → ℕ → Partition → Partition
-changed ps f p t = if is_in p ps then f p t else t
-
-at-changed_at : (ps : List ℕ) (f : ℕ → Partition → Partition) (ts : List Partition) (p : ℕ) → p < length ts
-    → partition_at p (changed_at ps f ts) ≡ changed ps f p (partition_at p ts)
-unfolding changed_at
-at-changed_at ps f ts p l =
-    let none : ℕ × Partition = (0, new_partition 0) in
-    let within : p < length (enumerate_from 0 ts) = omega (arith, l, length-enumerate_from 0 ts) in
-    get_or-map (λ x. changed ps f x.0 x.1) (enumerate_from 0 ts) p none (new_partition 0) within
-    ∙ ap (λ (x : ℕ × Partition). changed ps f x.0 x.1) (get_or-enumerate_from 0 ts p none l)
-    ∙ (let same : 0 + p ≡ p = omega arith in ap (λ (n : ℕ). changed ps f n (partition_at p ts)) same)
-
 keeps_at_these : (ps : List ℕ) (rule : ℕ → Partition → Effect) → ((p : ℕ) (t : Partition) → Shrinks t (rule p t).after)
     → (s : Core) → Keeps s (at_these ps rule s).after
 unfolding at_these
 keeps_at_these ps rule k s = keeps_with s (changed_at ps f s.partitions) _ (length-changed_at ps f s.partitions)
-    (λ p l. rw (at-changed_at ps f s.partitions p l) (at_test p (partition_at p s.partitions) (is_in p ps)))
+    (λ p l. at_changed (Shrinks (partition_at p s.partitions)) ps f s.partitions p
+    (λ m is. k p (partition_at p s.partitions)) (λ beside. shrinks_same (partition_at p s.partitions)))
   where
     f : ℕ → Partition → Partition
     f p t = (rule p t).after
-
-    at_test : (p : ℕ) (t : Partition) (b : Bool) → Shrinks t (if b then f p t else t)
-    at_test p t true = k p t
-    at_test p t false = shrinks_same t
 
 order_dropped : (now : ℕ) (s : Core) → IsInOrder s → IsInOrder (drop_requests now s)
 unfolding drop_requests
@@ -320,32 +273,20 @@ order_ended s h = at_end_step (λ (x : Called ℕ). IsInOrder x.after) s h (orde
 
 -- ---- a configuration that is let through
 
-passed_on : (b : Bool) (f : ConfigFault) (r : Result (Unit {0}) ConfigFault) → (if b then Err f else r) ≡ Ok tt → (b ≡ false) × (r ≡ Ok tt)
-passed_on true f r e = absurd cc
-passed_on false f r e = (refl, e)
-
 pub record HasBounds (c : Config) : Type 0 where
   pub window : 1 ≤ c.max_in_flight_requests_per_connection
-  pub room : c.batch_size ≤ c.max_request_size
+  pub request : c.max_request_size ≤ 8388608
+  pub timeout : c.request_timeout_ms ≤ 2147483647
+  pub sequence : c.sequence_limit ≤ 2147483648
 
 pub has_bounds : (c : Config) → checked c ≡ Ok tt → HasBounds c
 unfolding checked is_outside
-has_bounds c e =
-    let most = c.max_in_flight_requests_per_connection in
-    let a = passed_on _ BatchSize _ e in
-    let b = passed_on _ Linger _ a.1 in
-    let d = passed_on _ BufferMemory _ b.1 in
-    let f = passed_on _ MaxRequestSize _ d.1 in
-    let g = passed_on _ RequestTimeout _ f.1 in
-    let h = passed_on _ DeliveryTimeout _ g.1 in
-    let i = passed_on _ RetryBackoff _ h.1 in
-    let j = passed_on _ MaxInFlight _ i.1 in
-    let k = passed_on _ SequenceLimit _ j.1 in
-    let l = passed_on _ BatchAboveRequest _ k.1 in
-    record {
-      window = ltb-false most 1 (neither (nat_lt most 1) (nat_lt 5 most) j.0).0;
-      room = ltb-false c.max_request_size c.batch_size l.0;
-    }
+has_bounds c e = record {
+  window = grind (arith, nat_tests);
+  request = (allowed c e).request;
+  timeout = grind (arith, nat_tests);
+  sequence = grind (arith, nat_tests);
+}
 
 -- ---- one partition is another
 
@@ -358,8 +299,8 @@ order_set s p t there going is room h =
       names = h.names;
       partition_limit = omega (arith, count, h.partition_limit);
       partitions = placed s.config (length s.reports) s.correlation (slice_set s.partitions p t) (λ q l.
-          at_set (IsPartition s.config (length s.reports) s.correlation q) s.partitions p q t (new_partition 0)
-          (λ e. (there, rw e is)) (places s h q (omega (arith, l, count))));
+          at_put (IsPartition s.config (length s.reports) s.correlation q) s.partitions p q t (new_partition 0)
+          (λ e. rw e is) (places s h q (omega (arith, l, count))));
       requests = rw count h.requests;
       correlations = h.correlations;
       window = h.window;
@@ -373,20 +314,20 @@ order_set s p t there going is room h =
 order_turned : (why : Reason) (i : Item) (s : Core) → IsInOrder s → IsInOrder (turn_away why i s).after
 order_turned why i s = order_alike {s = s} refl refl refl refl (length-reports _ s.reports) refl (same_requests s)
 
+pub is_there : (i : Item) (s : Core) → may_append i s ≡ true → i.partition < length s.partitions
+unfolding may_append
+is_there i s may = grind (arith, nat_tests)
+
 order_queued : (i : Item) (s : Core) → IsRecord i.body → may_append i s ≡ true → s.ended ≡ false
     → (partition_at i.partition s.partitions).fenced ≡ false → would_exhaust i s ≡ false → IsInOrder s → IsInOrder (with_queued i s)
 unfolding may_append would_exhaust
 order_queued i s held may going free room h =
-    let a = and_parts (nat_lt i.sender (length s.reports) && nat_lt i.partition (length s.partitions) && nat_le (charge_of i) s.config.max_request_size)
-    (nat_le (charge_of i) s.config.buffer_memory) may in
-    let b = and_parts (nat_lt i.sender (length s.reports) && nat_lt i.partition (length s.partitions)) (nat_le (charge_of i) s.config.max_request_size) a.0 in
-    let d = and_parts (nat_lt i.sender (length s.reports)) (nat_lt i.partition (length s.partitions)) b.0 in
-    let there = ltb-true i.partition (length s.partitions) d.1 in
+    let there = is_there i s may in
     let t = partition_at i.partition s.partitions in
     let new : IsNew s.config (length s.reports) i.partition i = record {
-      is = record { sender = ltb-true i.sender (length s.reports) d.0; partition = refl; body = held };
-      fits = leb-true (charge_of i) s.config.max_request_size b.1;
-      room = (has_bounds s.config h.config).room;
+      is = record { sender = grind (arith, nat_tests); partition = refl; body = held };
+      fits = grind (arith, nat_tests);
+      room = (allowed s.config h.config).within;
     } in
     order_set s i.partition (enqueue s.config i t) there going
     (enqueued new free (places s h i.partition there))
@@ -442,15 +383,9 @@ order_requested now s d going room there once h = record {
 -- what a partition of the request sends
 sends_at : (now : ℕ) (s : Core) (p : ℕ) (xs : List Sending) → AllByRecursion (IsSent now s) xs → is_in p (partitions_in xs) ≡ true
     → (b : HandedBatch) × (sends s.config (flags_of s) now (partition_at p s.partitions) ≡ Some b)
-sends_at now s p [] h e = absurd cc
-sends_at now s p (x ∷ xs) h e = at_test (x.partition == p) refl e (sends_at now s p xs h.1)
-  where
-    at_test : (t : Bool) → (x.partition == p) ≡ t → (t || is_in p (partitions_in xs)) ≡ true
-        → (is_in p (partitions_in xs) ≡ true → (b : HandedBatch) × (sends s.config (flags_of s) now (partition_at p s.partitions) ≡ Some b))
-        → (b : HandedBatch) × (sends s.config (flags_of s) now (partition_at p s.partitions) ≡ Some b)
-    at_test true is e' rest =
-        (x.batch, ap (λ (q : ℕ). sends s.config (flags_of s) now (partition_at q s.partitions)) (sym (eqb-true x.partition p is)) ∙ h.0.sends)
-    at_test false is e' rest = rest e'
+sends_at now s p xs h e =
+    let x = has_part xs p e in
+    (x.it.batch, ap (λ (q : ℕ). sends s.config (flags_of s) now (partition_at q s.partitions)) (sym x.own) ∙ (at_contained (IsSent now s) xs x.it h x.has).sends)
 
 -- the batches of a request go out
 order_produced : (now : ℕ) (s : Core) (xs : List Sending) → s.ended ≡ false → next_demand now s ≡ Some (Produce xs) → IsInOrder s
@@ -460,14 +395,16 @@ order_produced now s xs going is h =
     let sent = demand_is_sent now s xs is in
     let there = all_map (IsSent now s) (λ p. p < length s.partitions) (λ x. x.partition) (λ x it. it.there) xs sent in
     let w = order_requested now s (Produce ps) going (has_room now s (Produce xs) is) there (demand_is_distinct now s xs is) h in
-    let count : length (sent_out now s (Produce xs)).partitions ≡ length s.partitions = length-changed_at ps (λ p t. send_in s.correlation t) s.partitions in
+    let count : length (sent_out now s (Produce xs)).partitions ≡ length s.partitions = length-changed_at ps send s.partitions in
     record {
       config = h.config;
       names = h.names;
       partition_limit = omega (arith, count, h.partition_limit);
       partitions = placed s.config (length s.reports) (s.correlation + 1) (sent_out now s (Produce xs)).partitions (λ p l.
-          let old : p < length s.partitions = omega (arith, l, count) in
-          rw (at-changed_at ps (λ p t. send_in s.correlation t) s.partitions p old) (sends_there p old (is_in p ps) refl));
+          let old = places s h p (omega (arith, l, count)) in
+          at_changed (IsPartition s.config (length s.reports) (s.correlation + 1) p) ps send s.partitions p
+          (λ m e. let b = sends_at now s p xs sent e in goes_out (flags_of s) now b.0 b.1 (has_bounds s.config h.config).window old)
+          (λ beside. later (s.correlation + 1) (omega arith) old));
       requests = rw count w.requests;
       correlations = w.correlations;
       window = w.window;
@@ -475,23 +412,15 @@ order_produced now s xs going is h =
         arith,
         h.memory,
         used_no_more s (sent_out now s (Produce xs)) count (λ p l.
-            rw (at-changed_at ps (λ p t. send_in s.correlation t) s.partitions p l) (no_heavier (partition_at p s.partitions) (is_in p ps))),
+            at_changed (λ u. load u ≤ load (partition_at p s.partitions)) ps send s.partitions p
+            (λ m e. omega (arith, as_heavy s.correlation (partition_at p s.partitions))) (λ beside. omega arith)),
       );
       nothing_left = λ e. absurd cc;
       nothing_in_flight = λ e. absurd cc;
     }
   where
-    sends_there : (p : ℕ) → p < length s.partitions → (b : Bool) → is_in p (partitions_in xs) ≡ b
-        → IsPartition s.config (length s.reports) (s.correlation + 1) p
-        (if b then send_in s.correlation (partition_at p s.partitions) else partition_at p s.partitions)
-    sends_there p l true e =
-        let b = sends_at now s p xs (demand_is_sent now s xs is) e in
-        goes_out (flags_of s) now b.0 b.1 (has_bounds s.config h.config).window (places s h p l)
-    sends_there p l false e = later (s.correlation + 1) (omega arith) (places s h p l)
-
-    no_heavier : (t : Partition) (b : Bool) → load (if b then send_in s.correlation t else t) ≤ load t
-    no_heavier t true = as_heavy s.correlation t
-    no_heavier t false = omega arith
+    send : ℕ → Partition → Partition
+    send p t = send_in s.correlation t
 
 order_out : (now : ℕ) (s : Core) (d : Demand Sending) → s.ended ≡ false → next_demand now s ≡ Some d → IsInOrder s → IsInOrder (sent_out now s d)
 order_out now s (Produce xs) going is h = order_produced now s xs going is h
@@ -579,23 +508,17 @@ has_id a content r e =
 
 -- ---- a response
 
--- the partition goes on under the id, where it wants one
-order_given : (id p : ℕ) (s : Core) → id < 2 ^ 63 → s.ended ≡ false → IsInOrder s → IsInOrder (give_id id p s)
+-- the partition goes on under the id
+order_given : (id p : ℕ) (s : Core) → id < 2 ^ 63 → s.ended ≡ false → IsInOrder s
+    → IsInOrder (with_partition p (go_on_under id (partition_at p s.partitions)) s)
 unfolding untold
-order_given id p s small going h = at_want (wants_id s.config (partition_at p s.partitions))
+order_given id p s small going h = elim (cases_lt p (length s.partitions)) [
+  | inl there ↦ order_set s p (go_on_under id t) there going (gone_on id small (places s h p there)) (omega (arith, h.memory)) h
+  | inr past ↦ order_alike {s = s} refl refl refl refl refl (set_past s.partitions p (go_on_under id t) past) (same_requests s) h
+]
   where
     t : Partition
     t = partition_at p s.partitions
-
-    set : IsInOrder (with_partition p (go_on_under id t) s)
-    set = elim (cases_lt p (length s.partitions)) [
-      | inl there ↦ order_set s p (go_on_under id t) there going (gone_on id small (places s h p there)) (omega (arith, h.memory)) h
-      | inr past ↦ order_alike {s = s} refl refl refl refl refl (set_past s.partitions p (go_on_under id t) past) (same_requests s) h
-    ]
-
-    at_want : (b : Bool) → IsInOrder (if b then with_partition p (go_on_under id t) s else s)
-    at_want true = set
-    at_want false = h
 
 given_is_id : (x : InitProducerIdResponse) → answers_id x ≡ true → is_given x ≡ true → int_le (pos 0) x.producer_id ≡ true
 unfolding answers_id
@@ -607,24 +530,17 @@ given_is_id x e given = at_given (is_given x) (int_le (pos 0) x.producer_id) (in
 
 order_id : (now p : ℕ) (x : InitProducerIdResponse) (s : Core) → IsId x.producer_id → answers_id x ≡ true → s.ended ≡ false
     → IsInOrder s → IsInOrder (settle_id now p x s)
-order_id now p x s id fits going h = at_given (is_given x) refl
+order_id now p x s id fits going h = at_id IsInOrder now p x s (record {
+  wanted = λ given. order_given (nat_abs x.producer_id) p (idle s) (id (given_is_id x fits given)) going rests;
+  unwanted = rests;
+  refused = order_alike {s = s} refl refl refl refl refl refl left h;
+})
   where
-    idle : Core
-    idle = record s { requests = filter (λ r. not (asks_for_id r)) s.requests }
-
-    left : Left Same s.requests (filter (λ r. not (asks_for_id r)) s.requests)
+    left : Left Same s.requests (idle s).requests
     left = left_filter Same (λ r. refl) (λ r. not (asks_for_id r)) s.requests
 
-    at_given : (b : Bool) → is_given x ≡ b → IsInOrder (if b then give_id (nat_abs x.producer_id) p idle else record idle { id_waits = Some now })
-    at_given true is = order_given (nat_abs x.producer_id) p idle (id (given_is_id x fits is)) going (order_alike {s = s} refl refl refl refl refl refl left h)
-    at_given false is = order_alike {s = s} refl refl refl refl refl refl left h
-
-abbrev by_entries : ℕ → ℕ → Partition → List PartitionProduceResponse → Effect
-by_entries now k t xs = elim xs [ [] ↦ left_alone t | entry ∷ others ↦ settle_batch now k t entry ]
-
-shrinks_entries : (now k : ℕ) (t : Partition) (xs : List PartitionProduceResponse) → Shrinks t (by_entries now k t xs).after
-shrinks_entries now k t [] = shrinks_same t
-shrinks_entries now k t (entry ∷ others) = shrinks_settled now k t entry
+    rests : IsInOrder (idle s)
+    rests = order_alike {s = s} refl refl refl refl refl refl left h
 
 order_settled : (now k : ℕ) (ps : List ℕ) (x : ProduceResponse) (s : Core) → IsInOrder s → IsInOrder (settle_batches now k ps x s).after
 order_settled now k ps x s = order_kept s (settle_batches now k ps x s).after
@@ -667,11 +583,11 @@ new_in_order c n partitions senders id correlation may topic client = record {
   config = may.config;
   names = record { topic = may.topic; topic_is_text = topic; client = may.client; client_is_text = client };
   partition_limit = omega (arith, length-replicate partitions (new_partition id), may.partition_limit);
-  partitions = placed c (length reports) correlation ts (λ p l. all_at IsAnywhere ts (new_partition 0) each p l p);
+  partitions = placed c (length reports) correlation ts (λ p l. all-at IsAnywhere ts p (new_partition 0) l each p);
   requests = tt;
   correlations = tt;
   window = omega arith;
-  memory = omega (arith, loads ts, none);
+  memory = omega (arith, sum_by-flat_map charge_of untold ts, none);
   nothing_left = λ e. absurd cc;
   nothing_in_flight = λ e. refl;
 }

@@ -1,12 +1,13 @@
 -- Whatever is told of an item is a case of the outcome rule.
-use Rattle.std.proofs.Common.{◌≡◌, ℕ, suc, zero, ◌+◌, ◌<◌, Bool, true, false, not, List, [], ◌∷◌, ◌++◌, length, get_or, map, ℤ, pos, Some, None, refl, sym, ap, ◌∙◌, subst, arith, Contains}
-use Rattle.std.specs.Prelude.{Option, if◌then◌else◌, ◌||◌, ◌&&◌, ◌==◌, flat_map, slice_get, ◌+ℤ◌}
+use Rattle.std.proofs.Common.{◌≡◌, ℕ, suc, zero, ◌+◌, ◌<◌, Bool, true, false, not, List, [], ◌∷◌, ◌++◌, length, get_or, map, ℤ, pos, Some, refl, sym, ap, ◌∙◌, subst, arith, Contains}
+use Rattle.std.specs.Prelude.{if◌then◌else◌, ◌&&◌, ◌==◌, flat_map, slice_get, ◌+ℤ◌}
 use Rattle.std.specs.List.{AllByRecursion, enumerate_from, list_any, list_all}
 use Rattle.std.specs.Ordering.{int_eq}
 use Rattle.std.specs.Str.{bytes_eq}
 use Rattle.std.proofs.lemmas.Bool.{not-true, and_parts}
 use Rattle.std.proofs.lemmas.Bool.Decides.{Decides-int_eq}
 use Rattle.std.proofs.lemmas.List.{append-nil}
+use Rattle.kp_wire.proofs.ListLemmas.{all_append}
 use Rattle.kp_accum.specs.declared.config.Config.{Config}
 use Rattle.kp_accum.specs.declared.item.Item.{Item}
 use Rattle.kp_accum.specs.Queue.{Pending}
@@ -33,12 +34,13 @@ use Rattle.kp_core.specs.OutcomeRule.{Telling, Append, Tick, Reply, End, IsOpenB
 use Rattle.kp_core.specs.Partitions.{partition_at, items_open, items_queued}
 use Rattle.kp_core.specs.Records.{Open, Partition, Request, Core, Told, Effect, Called}
 use Rattle.kp_core.specs.Replies.{Replies, awaited, settle_batches, response_step}
-use Rattle.kp_core.specs.Settling.{meaning_of, without_attempt, settle_by, left_alone, settle_batch}
+use Rattle.kp_core.specs.Settling.{meaning_of, without_attempt, settle_by}
 use Rattle.kp_core.specs.Telling.{told_all, with_partitions, at_each, at_these}
 use Rattle.kp_core.specs.Tick.{Ticks, is_open_late, late_front, expire_front, heed_deadlines, tick_step}
-use Rattle.kp_core.proofs.CallLemmas.{at_append, at_end_step, at_response, at_tick}
-use Rattle.kp_core.proofs.ListLemmas.{contains_head, all_contained, all_flat_map, filtered, found}
-use Rattle.kp_wire.proofs.ListLemmas.{all_append}
+use Rattle.kp_core.proofs.CallLemmas.{at_append, at_end_step, at_entries, at_heed, at_response, at_tick}
+-- passed on to the crate above
+pub use Rattle.kp_core.proofs.CallLemmas.{by_attempt, by_entries}
+use Rattle.kp_core.proofs.ListLemmas.{contains_head, all_contained, all_flat_map, filtered, flat_map_mapped, found, list_any_mapped}
 
 -- ---- lists
 
@@ -122,50 +124,19 @@ tells_append i s = at_append (λ (x : Appends). AllByRecursion (MayBeTold s (App
 
 -- ---- a tick
 
-same_any : (c : Config) (now at : ℕ) (os : List Open)
-    → list_any (is_open_late c now) (map (drop_attempt at) os) ≡ list_any (is_open_late c now) os
-same_any c now at [] = refl
-same_any c now at (o ∷ os) = ap (λ (b : Bool). is_open_late c now o || b) (same_any c now at os)
-
-same_items : (at : ℕ) (os : List Open) → items_open (map (drop_attempt at) os) ≡ items_open os
-same_items at [] = refl
-same_items at (o ∷ os) = ap (λ (is : List Item). o.batch.items ++ is) (same_items at os)
-
-abbrev told_passed : Config → ℕ → Partition → Bool → List Told
-told_passed c now t b = if b then (give_up reason.Fenced t).told else told_all
-    (Unsent reason.Expired) (items_queued (late_front c now t.queue))
-
-passed_tells : (c : Config) (now : ℕ) (t : Partition) → (heed_deadlines c now t).told
-    ≡ told_passed c now t (list_any (is_open_late c now) t.open_batches)
-unfolding heed_deadlines fence
-passed_tells c now t = at_test (list_any (is_open_late c now) t.open_batches)
-  where
-    at_test : (b : Bool) → (if b then fence t else expire_front c now t).told ≡ told_passed c now t b
-    at_test true = refl
-    at_test false = refl
-
 dropped_tells : (c : Config) (now at : ℕ) (t : Partition)
     → (heed_deadlines c now (drop_attempts at t)).told ≡ (heed_deadlines c now t).told
-unfolding give_up
+unfolding heed_deadlines fence give_up
 dropped_tells c now at t =
-    passed_tells c now (drop_attempts at t)
-    ∙ ap (told_passed c now (drop_attempts at t)) (same_any c now at t.open_batches)
+    ap (λ (late : Bool). (if late then fence (drop_attempts at t) else expire_front c now (drop_attempts at t)).told)
+    (list_any_mapped (is_open_late c now) (drop_attempt at) (is_open_late c now) (λ o. refl) t.open_batches)
     ∙ at_test (list_any (is_open_late c now) t.open_batches)
-    ∙ sym (passed_tells c now t)
   where
-    at_test : (b : Bool) → told_passed c now (drop_attempts at t) b ≡ told_passed c now t b
-    at_test true = ap (λ (is : List Item). told_all Unknown is
-        ++ told_all (Unsent reason.Fenced) (items_queued t.queue)) (same_items at t.open_batches)
+    at_test : (late : Bool) → (if late then fence (drop_attempts at t) else expire_front c now (drop_attempts at t)).told
+        ≡ (if late then fence t else expire_front c now t).told
+    at_test true = ap (λ (is : List Item). told_all Unknown is ++ told_all (Unsent reason.Fenced) (items_queued t.queue))
+        (flat_map_mapped (λ (o : Open). o.batch.items) (drop_attempt at) (λ o. o.batch.items) (λ o. refl) t.open_batches)
     at_test false = refl
-
-all_dropped_tell : (c : Config) (now at : ℕ) (ts : List Partition)
-    → flat_map (λ t. (heed_deadlines c now t).told) (map (drop_attempts at) ts)
-    ≡ flat_map (λ t. (heed_deadlines c now t).told) ts
-all_dropped_tell c now at [] = refl
-all_dropped_tell c now at (t ∷ ts) =
-    ap (λ (xs : List Told). xs ++ flat_map (λ t. (heed_deadlines c now t).told)
-    (map (drop_attempts at) ts)) (dropped_tells c now at t)
-    ∙ ap (λ (xs : List Told). (heed_deadlines c now t).told ++ xs) (all_dropped_tell c now at ts)
 
 late_contained : (c : Config) (now : ℕ) (q : List Pending) (b : Pending)
     → Contains (late_front c now q) b → IsAtLateFront c now q b
@@ -202,43 +173,31 @@ late_contained c now (x ∷ q) b h = at_test (is_late c now x) refl h
 passed_all : (s : Core) (now p : ℕ)
     → AllByRecursion (MayBeTold s (Tick now))
     (heed_deadlines s.config now (partition_at p s.partitions)).told
-unfolding MayTell
-passed_all s now p = subst (AllByRecursion (MayBeTold s (Tick now)))
-    (sym (passed_tells s.config now (partition_at p s.partitions)))
-    (at_test (list_any (is_open_late s.config now) (partition_at p s.partitions).open_batches) refl)
+unfolding MayTell fence
+passed_all s now p = at_heed (λ (x : Effect). AllByRecursion (MayBeTold s (Tick now)) x.told) s.config now t
+    (λ is. all_given_up (MayBeTold s (Tick now)) reason.Fenced t (λ i h. (p, is, h)) (λ i h. (p, is, h)))
+    (all_told (MayBeTold s (Tick now)) (Unsent reason.Expired) (items_queued (late_front s.config now t.queue))
+    (all_flat_map (λ (i : Item). MayBeTold s (Tick now) (record { item = i; outcome = Unsent reason.Expired })) (λ b. b.items)
+    (late_front s.config now t.queue)
+    (λ b c. all_contained (λ (i : Item). MayBeTold s (Tick now) (record { item = i; outcome = Unsent reason.Expired })) b.items
+    (λ i h. (p, record { batch = b; front = late_contained s.config now t.queue b c; has = h })))))
   where
-    at_test : (b : Bool) → list_any (is_open_late s.config now)
-        (partition_at p s.partitions).open_batches ≡ b
-        → AllByRecursion (MayBeTold s (Tick now))
-        (told_passed s.config now (partition_at p s.partitions) b)
-    at_test true is = all_given_up (MayBeTold s (Tick now)) reason.Fenced
-        (partition_at p s.partitions) (λ i h. (p, is, h)) (λ i h. (p, is, h))
-    at_test false is = all_told (MayBeTold s (Tick now)) (Unsent reason.Expired)
-        (items_queued (late_front s.config now (partition_at p s.partitions).queue))
-        (all_flat_map (λ (i : Item). MayBeTold s (Tick now)
-        (record { item = i; outcome = Unsent reason.Expired })) (λ b. b.items)
-        (late_front s.config now (partition_at p s.partitions).queue)
-        (λ b c. all_contained (λ (i : Item). MayBeTold s (Tick now)
-        (record { item = i; outcome = Unsent reason.Expired })) b.items
-        (λ i h. (
-          p,
-          record {
-            batch = b;
-            front = late_contained s.config now (partition_at p s.partitions).queue b c;
-            has = h;
-          },
-        ))))
+    t : Partition
+    t = partition_at p s.partitions
 
 tells_tick : (now : ℕ) (s : Core) → AllByRecursion (MayBeTold s (Tick now)) (tick_step now s).told
 unfolding at_each with_partitions drop_requests
 tells_tick now s = at_tick (λ (x : Ticks). AllByRecursion (MayBeTold s (Tick now)) x.told) now s (record {
   ended = tt;
-  timed_out = subst (AllByRecursion (MayBeTold s (Tick now))) (sym (all_dropped_tell s.config now now s.partitions)) all;
+  timed_out = subst (AllByRecursion (MayBeTold s (Tick now))) (sym (flat_map_mapped heeded (drop_attempts now) heeded (dropped_tells s.config now now) s.partitions)) all;
   on_time = all;
 })
   where
-    all : AllByRecursion (MayBeTold s (Tick now)) (flat_map (λ t. (heed_deadlines s.config now t).told) s.partitions)
-    all = all_places (MayBeTold s (Tick now)) (λ t. (heed_deadlines s.config now t).told) s.partitions (passed_all s now)
+    heeded : Partition → List Told
+    heeded t = (heed_deadlines s.config now t).told
+
+    all : AllByRecursion (MayBeTold s (Tick now)) (flat_map heeded s.partitions)
+    all = all_places (MayBeTold s (Tick now)) heeded s.partitions (passed_all s now)
 
 -- ---- a reply
 
@@ -299,20 +258,6 @@ at_settled now k p s response o a is same Reject v =
           { batch = h.batch; is_queued = h.is_queued; has = h.has },
     )))
 
-abbrev pub by_attempt : ℕ → ℕ → Partition → PartitionProduceResponse → Option Open → Effect
-by_attempt now k t a o = elim o [ None ↦ left_alone t | Some o ↦ settle_by now k t o a (meaning_of a.error_code) ]
-
-at_entry : (now k p : ℕ) (s : Core) (response : Response) (a : PartitionProduceResponse)
-    → ((o : Open) → awaiting k (partition_at p s.partitions) ≡ Some o → (x : IsAnswered s response p o a) × (k ≡ x.correlation))
-    → AllByRecursion (MayBeTold s (Reply now response)) (settle_batch now k (partition_at p s.partitions) a).told
-unfolding settle_batch
-at_entry now k p s response a f = at_option (awaiting k (partition_at p s.partitions)) refl
-  where
-    at_option : (o : Option Open) → awaiting k (partition_at p s.partitions) ≡ o
-        → AllByRecursion (MayBeTold s (Reply now response)) (by_attempt now k (partition_at p s.partitions) a o).told
-    at_option None is = tt
-    at_option (Some o) is = at_settled now k p s response o a (f o is).0 (f o is).1 (meaning_of a.error_code) refl
-
 -- ---- a response's entries
 
 -- there is one topic, and it has this name
@@ -364,9 +309,6 @@ answered_so s response r ps produce it is fits p a rest e o h =
       partition = (Decides-int_eq a.partition (pos p)).0 first.1;
     }
 
-abbrev pub by_entries : ℕ → ℕ → Partition → List PartitionProduceResponse → Effect
-by_entries now k t xs = elim xs [ [] ↦ left_alone t | entry ∷ others ↦ settle_batch now k t entry ]
-
 at_batches : (now : ℕ) (s : Core) (response : Response) (r : Request) (ps : List ℕ) (produce : ProduceResponse)
     → awaited response.correlation s ≡ Some r → response.body ≡ body.Produce produce → answers_batches r.correlation ps s produce ≡ true
     → AllByRecursion (MayBeTold s (Reply now response)) (settle_batches now r.correlation ps produce s).told
@@ -374,13 +316,9 @@ unfolding at_these with_partitions answered_so
 at_batches now s response r ps produce it is fits =
     all_flat_map (MayBeTold s (Reply now response))
     (λ p. (by_entries now r.correlation (partition_at p s.partitions) (entries_for p produce)).told)
-    ps (λ p c. at_entries p (entries_for p produce) refl)
-  where
-    at_entries : (p : ℕ) (xs : List PartitionProduceResponse) → entries_for p produce ≡ xs
-        → AllByRecursion (MayBeTold s (Reply now response)) (by_entries now r.correlation (partition_at p s.partitions) xs).told
-    at_entries p [] e = tt
-    at_entries p (a ∷ rest) e =
-        at_entry now r.correlation p s response a (λ o h. (answered_so s response r ps produce it is fits p a rest e o h, refl))
+    ps (λ p c. at_entries (λ (x : Effect). AllByRecursion (MayBeTold s (Reply now response)) x.told) now r.correlation
+    (partition_at p s.partitions) (entries_for p produce) tt (λ a rest e o h.
+    at_settled now r.correlation p s response o a (answered_so s response r ps produce it is fits p a rest e o h) refl (meaning_of a.error_code) refl))
 
 tells_reply : (now : ℕ) (response : Response) (s : Core)
     → AllByRecursion (MayBeTold s (Reply now response)) (response_step now response s).told

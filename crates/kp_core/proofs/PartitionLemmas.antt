@@ -1,67 +1,78 @@
 -- All partitions, some of them changed.
-use Rattle.std.proofs.Common.{◌≡◌, ℕ, suc, zero, ◌+◌, ◌<◌, Bool, false, List, [], ◌∷◌, length, get_or, map, refl, sym, ap, ◌∙◌, arith}
+use Rattle.std.proofs.Common.{◌≡◌, ℕ, ◌+◌, ◌<◌, ◌≤◌, Bool, true, false, inl, inr, List, [], ◌∷◌, length, get_or, refl, sym, ap, ◌∙◌, subst, ⊎_elim, eqb, arith}
 use Rattle.std.specs.Prelude.{if◌then◌else◌, slice_set, ◌||◌}
 use Rattle.std.specs.List.{enumerate_from}
-use Rattle.std.proofs.lemmas.Bool.{eq-eqb, ne_eqb}
+use Rattle.std.proofs.lemmas.Bool.{cases_lt}
+use Rattle.std.proofs.lemmas.Bool.Decides.{eqb_tells}
+use Rattle.std.proofs.lemmas.List.{ext_get_or, get_or-map, get_or-set_other, get_or-set_same, get_or_past, length-map, length-set}
+use Rattle.std.proofs.lemmas.List.FromFn.{get_or-enumerate_from, length-enumerate_from}
 use Rattle.kp_core.specs.Partitions.{partition_at, changed_at, new_partition, is_in}
 use Rattle.kp_core.specs.Records.{Partition}
-
--- what a function of places makes of a list, at a place
-by_place : {X Y : Type 0} (g : (ℕ × X) → Y) (xs : List X) (k p : ℕ) (d : Y) (e : X)
-    → p < length xs → get_or (map g (enumerate_from k xs)) p d ≡ g (k + p, get_or xs p e)
-by_place g [] k p d e h = absurd (omega arith)
-by_place g (x ∷ xs) k zero d e h =
-    let same : k ≡ k + 0 = omega arith in ap (λ (n : ℕ). g (n, x)) same
-by_place g (x ∷ xs) k (suc p) d e h =
-    let within : p < length xs = omega arith in
-    let same : k + 1 + p ≡ k + suc p = omega arith in
-    by_place g xs (k + 1) p d e within ∙ ap (λ (n : ℕ). g (n, get_or xs p e)) same
-
-length-enumerated : {X Y : Type 0} (g : (ℕ × X) → Y) (xs : List X) (k : ℕ)
-    → length (map g (enumerate_from k xs)) ≡ length xs
-length-enumerated g [] k = refl
-length-enumerated g (x ∷ xs) k = ap suc (length-enumerated g xs (k + 1))
 
 pub length-changed_at : (ps : List ℕ) (f : ℕ → Partition → Partition) (ts : List Partition)
     → length (changed_at ps f ts) ≡ length ts
 unfolding changed_at
-length-changed_at ps f ts = length-enumerated _ ts 0
+length-changed_at ps f ts = length-map (enumerate_from 0 ts) _ ∙ length-enumerate_from 0 ts
+
+-- the partition at a place, with its number
+pub numbered : (ts : List Partition) (p : ℕ) → p < length ts → get_or (enumerate_from 0 ts) p (0, new_partition 0) ≡ (p, partition_at p ts)
+numbered ts p h =
+    let same : 0 + p ≡ p = omega arith in
+    get_or-enumerate_from 0 ts p (0, new_partition 0) h ∙ ap (λ (n : ℕ). (n, partition_at p ts)) same
 
 pub at-changed_at : (ps : List ℕ) (f : ℕ → Partition → Partition) (ts : List Partition) (p : ℕ) → p < length ts
     → partition_at p (changed_at ps f ts) ≡ (if is_in p ps then f p (partition_at p ts) else partition_at p ts)
 unfolding changed_at
 at-changed_at ps f ts p h =
-    let same : 0 + p ≡ p = omega arith in
-    by_place (λ (x : ℕ × Partition). if is_in x.0 ps then f x.0 x.1 else x.1) ts 0 p
-    (new_partition 0) (new_partition 0) h
-    ∙ ap (λ (n : ℕ). if is_in n ps then f n (partition_at p ts) else partition_at p ts) same
+    let within : p < length (enumerate_from 0 ts) = omega (arith, h, length-enumerate_from 0 ts) in
+    get_or-map (λ x. if is_in x.0 ps then f x.0 x.1 else x.1) (enumerate_from 0 ts) p (0, new_partition 0) (new_partition 0) within
+    ∙ ap (λ (x : ℕ × Partition). if is_in x.0 ps then f x.0 x.1 else x.1) (numbered ts p h)
 
--- ---- one partition
+-- what holds of what a partition was changed to, or of the one that was there, holds of the one that is there
+pub at_changed {ℓ} : (P : Partition → Type ℓ) (ps : List ℕ) (f : ℕ → Partition → Partition) (ts : List Partition) (p : ℕ)
+    → (p < length ts → is_in p ps ≡ true → P (f p (partition_at p ts))) → ((p < length ts → is_in p ps ≡ false) → P (partition_at p ts))
+    → P (partition_at p (changed_at ps f ts))
+at_changed P ps f ts p new old = elim (cases_lt p (length ts)) [
+  | inl l ↦ subst P (sym (at-changed_at ps f ts p l)) (at_test l (is_in p ps) refl)
+  | inr past ↦ let beyond : length (changed_at ps f ts) ≤ p = omega (arith, past, length-changed_at ps f ts) in
+      subst P (get_or_past ts p (new_partition 0) past ∙ sym (get_or_past (changed_at ps f ts) p (new_partition 0) beyond)) (old (λ l. absurd (omega (arith, l, past))))
+]
+  where
+    at_test : p < length ts → (b : Bool) → is_in p ps ≡ b → P (if b then f p (partition_at p ts) else partition_at p ts)
+    at_test l true is = new l is
+    at_test l false is = old (λ m. is)
 
-abbrev at_one : ℕ → (Partition → Partition) → ℕ × Partition → Partition
-at_one p f x = if is_in x.0 (p ∷ []) then f x.1 else x.1
+-- ---- one partition more is changed, and one alone
 
-before_all : (p k : ℕ) (f : Partition → Partition) (ts : List Partition) → p < k → map (at_one p f) (enumerate_from k ts) ≡ ts
-before_all p k f [] h = refl
-before_all p k f (t ∷ ts) h =
-    ap (λ (b : Bool). (if b || false then f t else t) ∷ map (at_one p f) (enumerate_from (k + 1) ts)) (ne_eqb p k (λ e. omega (arith, e, h)))
-    ∙ ap (λ (us : List Partition). t ∷ us) (before_all p (k + 1) f ts (omega (arith, h)))
+pub changed_none : (f : ℕ → Partition → Partition) (ts : List Partition) → changed_at [] f ts ≡ ts
+changed_none f ts = ext_get_or (new_partition 0) (changed_at [] f ts) ts (length-changed_at [] f ts)
+    (λ p l. at-changed_at [] f ts p (omega (arith, l, length-changed_at [] f ts)))
 
-one_from : (k p : ℕ) (f : Partition → Partition) (ts : List Partition) → map (at_one (k + p) f) (enumerate_from k ts) ≡ slice_set ts p (f (partition_at p ts))
-one_from k p f [] = refl
-one_from k zero f (t ∷ ts) =
-    let here : k + 0 ≡ k = omega arith in
-    ap (λ (b : Bool). (if b || false then f t else t) ∷ map (at_one (k + 0) f) (enumerate_from (k + 1) ts)) (eq-eqb (k + 0) k here)
-    ∙ ap (λ (us : List Partition). f t ∷ us) (before_all (k + 0) (k + 1) f ts (omega arith))
-one_from k (suc p) f (t ∷ ts) =
-    let next : k + suc p ≡ k + 1 + p = omega arith in
-    ap (λ (b : Bool). (if b || false then f t else t) ∷ map (at_one (k + suc p) f) (enumerate_from (k + 1) ts)) (ne_eqb (k + suc p) k (λ e. omega (arith, e)))
-    ∙ ap (λ (n : ℕ). t ∷ map (at_one n f) (enumerate_from (k + 1) ts)) next
-    ∙ ap (λ (us : List Partition). t ∷ us) (one_from (k + 1) p f ts)
+pub changed_more : (p : ℕ) (ps : List ℕ) (f : ℕ → Partition → Partition) (ts : List Partition)
+    → changed_at (p ∷ ps) f ts ≡ slice_set (changed_at ps f ts) p (f p (partition_at p ts))
+changed_more p ps f ts = ext_get_or (new_partition 0) (changed_at (p ∷ ps) f ts) (slice_set before p new)
+    (omega (arith, length-changed_at (p ∷ ps) f ts, length-changed_at ps f ts, length-set before p new))
+    (λ q l. at_place q (omega (arith, l, length-changed_at (p ∷ ps) f ts)))
+  where
+    before : List Partition
+    before = changed_at ps f ts
+
+    new : Partition
+    new = f p (partition_at p ts)
+
+    by_test : ℕ → Bool → Partition
+    by_test q b = if b || is_in q ps then f q (partition_at q ts) else partition_at q ts
+
+    at_place : (q : ℕ) → q < length ts → partition_at q (changed_at (p ∷ ps) f ts) ≡ partition_at q (slice_set before p new)
+    at_place q l = at-changed_at (p ∷ ps) f ts q l ∙ ⊎_elim
+        (λ (k : (eqb p q ≡ true) × (p ≡ q)). ap (by_test q) k.0 ∙ ap (λ (n : ℕ). f n (partition_at n ts)) (sym k.1)
+        ∙ sym (get_or-set_same before p new (new_partition 0) (omega (arith, l, k.1, length-changed_at ps f ts)))
+        ∙ ap (λ (n : ℕ). partition_at n (slice_set before p new)) k.1)
+        (λ (k : (eqb p q ≡ false) × (p ≡ q → ⊥)). ap (by_test q) k.0 ∙ sym (at-changed_at ps f ts q l)
+        ∙ sym (get_or-set_other before p q new (new_partition 0) (λ e. k.1 (sym e))))
+        (eqb_tells p q)
 
 -- one partition's change is the change of several, of which it is the only one
 pub one_changed : (p : ℕ) (f : Partition → Partition) (ts : List Partition) → slice_set ts p (f (partition_at p ts)) ≡ changed_at (p ∷ []) (λ q t. f t) ts
-unfolding changed_at
 one_changed p f ts =
-    let same : 0 + p ≡ p = omega arith in
-    sym (one_from 0 p f ts) ∙ ap (λ (n : ℕ). map (at_one n f) (enumerate_from 0 ts)) same
+    sym (changed_more p [] (λ q t. f t) ts ∙ ap (λ (us : List Partition). slice_set us p (f (partition_at p ts))) (changed_none (λ q t. f t) ts))

@@ -1,7 +1,5 @@
 -- A request of a producer fits, and its content is no longer than a frame may be.
 use Rattle.std.proofs.Common.{◌≡◌, ℕ, ◌+◌, ◌*◌, ◌^◌, ◌-◌, ◌<◌, ◌≤◌, List, [], ◌∷◌, length, Some, None, pos, negsuc, sum_by, refl, arith}
-use Rattle.std.specs.Prelude.{FitsSigned}
-use Rattle.std.specs.Int.{w32}
 use Rattle.std.specs.List.{flat_map, AllByRecursion}
 use Rattle.std.specs.Str.{IsUtf8}
 use Rattle.std.proofs.lemmas.List.{length-append}
@@ -16,6 +14,7 @@ use Rattle.kp_frames.specs.declared.request.RequestBody.TheVariants as body
 use Rattle.kp_frames.specs.Produce.{partition_data, topic_data, produce_request}
 use Rattle.kp_frames.specs.ProducerId.{init_producer_id_request}
 use Rattle.kp_frames.specs.Request.{body as body_codec, known, FitsRequest, spelling}
+use Rattle.kp_core.proofs.BatchFitLemmas.{int32_fits}
 
 -- ---- the requests
 
@@ -35,9 +34,6 @@ id_message correlation client = record {
 }
 
 -- ---- fields
-
-int32_fits : (n : ℕ) → n < 2 ^ 31 → FitsSigned w32 (pos n)
-int32_fits n small = record { sfits = small }
 
 string_fits : (s : List ℕ) → length s ≤ 249 → IsUtf8 s → string.Fits s
 string_fits s small text = (record { sfits = omega arith }, (refl, text))

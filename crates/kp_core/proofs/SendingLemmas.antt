@@ -1,20 +1,23 @@
--- The batches of a request are those that their partitions may send, each partition's once; and a batch that goes out again.
-use Rattle.std.proofs.Common.{◌≡◌, ℕ, suc, ◌+◌, ◌-◌, ◌<◌, ◌≤◌, Bool, true, false, not, List, [], ◌∷◌, ◌++◌, length, get_or, take, drop, Some, None, refl, sym, ap, ◌∙◌, subst, arith}
-use Rattle.std.specs.Prelude.{Option, if◌then◌else◌, option_map, filter_map, nat_le, ◌||◌}
+-- What a partition sends goes out, and the batches of a request are those that their partitions may send, each partition's once.
+use Rattle.std.proofs.Common.{◌≡◌, ℕ, suc, ◌+◌, ◌-◌, ◌<◌, ◌≤◌, Bool, true, false, not, List, [], ◌∷◌, ◌++◌, length, get_or, take, drop, Some, None, refl, sym, ap, ◌∙◌, subst, arith, Contains}
+use Rattle.std.specs.Prelude.{Option, if◌then◌else◌, option_map, filter_map, nat_le, ◌||◌, ◌&&◌, ◌==◌}
 use Rattle.std.specs.List.{AllByRecursion, enumerate_from, cons_option}
-use Rattle.std.proofs.lemmas.Bool.{ne_eqb}
+use Rattle.std.proofs.lemmas.Bool.{and_parts, eqb-true, leb-true, ne_eqb}
 use Rattle.std.proofs.lemmas.List.{append-nil, take-append-drop}
 use Rattle.kp_wire.proofs.ListLemmas.{all_append, all_drop}
-use Rattle.kp_accum.specs.Queue.{size_of}
-use Rattle.kp_core.specs.Attempts.{has_window, is_waiting}
-use Rattle.kp_core.specs.HandingOver.{again_in, send_again_in}
+use Rattle.kp_accum.specs.declared.config.Config.{Config}
+use Rattle.kp_accum.specs.declared.flags.Flags.{Flags}
+use Rattle.kp_accum.specs.Queue.{Pending, size_of}
+use Rattle.kp_accum.specs.Ready.{is_ready}
+use Rattle.kp_core.specs.Attempts.{has_window, is_waiting, lowest_waiting}
+use Rattle.kp_core.specs.HandingOver.{again_in, hand_over_in, send_again_in, send_in}
 use Rattle.kp_core.specs.InOrder.{AreDistinct}
-use Rattle.kp_core.specs.MaySend.{sends}
+use Rattle.kp_core.specs.MaySend.{is_rested, is_confirmed, is_in_span, is_within_limit, may_hand_over, new_batch, sends}
 use Rattle.kp_core.specs.Next.{Sending, flags_of, used_up_to, in_turn, sending_by, fitting, next_batches, next_asking, next_demand}
 use Rattle.kp_core.specs.Partitions.{partition_at, new_partition, is_in}
 use Rattle.kp_core.specs.Records.{HandedBatch, Open, Partition, Demand, Produce, InitProducerId, Core}
 use Rattle.kp_core.specs.Requesting.{partitions_in}
-use Rattle.kp_core.proofs.ListLemmas.{all_back, all_front, all_take, all_weaker}
+use Rattle.kp_core.proofs.ListLemmas.{IsOther, all_back, all_filter_map, all_front, all_map, all_take, all_weaker, contains_head, contains_tail, none_in}
 
 -- ---- a batch goes out again
 
@@ -27,6 +30,69 @@ all_again P k (o ∷ os) h = at_test (is_waiting o) (all_again P k os h.1)
     at_test : (b : Bool) → AllByRecursion (λ (x : Open). P x.batch) (send_again_in k os) → AllByRecursion (λ (x : Open). P x.batch) (if b then again_in k o ∷ os else o ∷ send_again_in k os)
     at_test true rest = h
     at_test false rest = (h.0, rest)
+
+abbrev pub sent_again : ℕ → Partition → Partition
+sent_again k t = record t { open_batches = send_again_in k t.open_batches; attempts_sent = t.attempts_sent + 1 }
+
+-- ---- what a partition sends is its lowest batch that waits, or a new one
+
+abbrev sent_by : ℕ → Partition → Option Open → Partition
+sent_by k t lowest = elim lowest [ Some o ↦ sent_again k t | None ↦ hand_over_in k t t.queue ]
+
+pub at_send_in {ℓ} : (P : Partition → Type ℓ) (k : ℕ) (t : Partition) → P (sent_again k t) → P (hand_over_in k t t.queue) → P (send_in k t)
+unfolding send_in
+at_send_in P k t again first = at_waiting (lowest_waiting t)
+  where
+    at_waiting : (lowest : Option Open) → P (sent_by k t lowest)
+    at_waiting (Some o) = again
+    at_waiting None = first
+
+-- Of the batch that is sent, and of the partition once it went out in request k:
+pub record OfSends (P : HandedBatch → Partition → Type 0) (c : Config) (flags : Flags) (now k : ℕ) (t : Partition) : Type 0 where
+  pub again : t.fenced ≡ false → (o : Open) → lowest_waiting t ≡ Some o → P o.batch (sent_again k t)
+  pub first : t.fenced ≡ false → (front : Pending) (behind : List Pending) → t.queue ≡ front ∷ behind
+      → may_hand_over c flags now t front ≡ true → P (new_batch t front) (hand_over_in k t (front ∷ behind))
+
+pub handed_over : (c : Config) (flags : Flags) (now : ℕ) (t : Partition) (front : Pending) → may_hand_over c flags now t front ≡ true
+    → (is_in_span c t.next_number t.open_batches ≡ true) × (t.next_sequence + length front.items ≤ c.sequence_limit)
+unfolding is_within_limit
+handed_over c flags now t front may =
+    let limit = and_parts (is_ready c flags now t.queue && is_confirmed t && is_in_span c t.next_number t.open_batches) (is_within_limit c t front) may in
+    ((and_parts (is_ready c flags now t.queue && is_confirmed t) (is_in_span c t.next_number t.open_batches) limit.0).1, leb-true _ _ limit.1)
+
+abbrev by_queue : Config → Flags → ℕ → Partition → List Pending → Option HandedBatch
+by_queue c flags now t queue = elim queue [ [] ↦ None | front ∷ behind ↦ if may_hand_over c flags now t front then Some (new_batch t front) else None ]
+
+abbrev by_waiting : Config → Flags → ℕ → Partition → Option Open → Option HandedBatch
+by_waiting c flags now t lowest = elim lowest [ Some o ↦ if is_rested c now o then Some o.batch else None | None ↦ by_queue c flags now t t.queue ]
+
+pub at_sends : (P : HandedBatch → Partition → Type 0) (c : Config) (flags : Flags) (now k : ℕ) (t : Partition) → OfSends P c flags now k t
+    → (b : HandedBatch) → sends c flags now t ≡ Some b → P b (send_in k t)
+unfolding sends send_in
+at_sends P c flags now k t cases b e = at_fence t.fenced refl e
+  where
+    at_may : t.fenced ≡ false → (front : Pending) (behind : List Pending) → t.queue ≡ front ∷ behind → (may : Bool)
+        → may_hand_over c flags now t front ≡ may → (if may then Some (new_batch t front) else None) ≡ Some b → P b (hand_over_in k t (front ∷ behind))
+    at_may f front behind is true may e' =
+        let same : new_batch t front ≡ b = cc in subst (λ (x : HandedBatch). P x (hand_over_in k t (front ∷ behind))) same (cases.first f front behind is may)
+    at_may f front behind is false may e' = absurd cc
+
+    at_queue : t.fenced ≡ false → (queue : List Pending) → t.queue ≡ queue → by_queue c flags now t queue ≡ Some b → P b (hand_over_in k t queue)
+    at_queue f [] is e' = absurd cc
+    at_queue f (front ∷ behind) is e' = at_may f front behind is (may_hand_over c flags now t front) refl e'
+
+    at_rest : t.fenced ≡ false → (o : Open) → lowest_waiting t ≡ Some o → (rested : Bool) → (if rested then Some o.batch else None) ≡ Some b → P b (sent_again k t)
+    at_rest f o is true e' = let same : o.batch ≡ b = cc in subst (λ (x : HandedBatch). P x (sent_again k t)) same (cases.again f o is)
+    at_rest f o is false e' = absurd cc
+
+    at_waiting : t.fenced ≡ false → (lowest : Option Open) → lowest_waiting t ≡ lowest → by_waiting c flags now t lowest ≡ Some b → P b (sent_by k t lowest)
+    at_waiting f None is e' = at_queue f t.queue refl e'
+    at_waiting f (Some o) is e' = at_rest f o is (is_rested c now o) e'
+
+    at_fence : (fenced : Bool) → t.fenced ≡ fenced → (if fenced then None else by_waiting c flags now t (lowest_waiting t)) ≡ Some b
+        → P b (sent_by k t (lowest_waiting t))
+    at_fence true is e' = absurd cc
+    at_fence false is e' = at_waiting is (lowest_waiting t) refl e'
 
 -- ---- the batches of a request
 
@@ -55,17 +121,6 @@ places {A = A} k (x ∷ xs) d =
         let m : y.0 < k + 1 + length xs = h.most in
         let n : y.0 - k ≡ suc (y.0 - (k + 1)) = omega arith in
         record { least = omega arith; most = omega arith; there = ap (λ (i : ℕ). get_or (x ∷ xs) i d) n ∙ h.there }
-
-pub all_filter_map : {A B : Type 0} (P : B → Type 0) (Q : A → Type 0) (h : A → Option B)
-    → ((x : A) (y : B) → Q x → h x ≡ Some y → P y)
-    → (xs : List A) → AllByRecursion Q xs → AllByRecursion P (filter_map h xs)
-all_filter_map P Q h f [] k = tt
-all_filter_map {B = B} P Q h f (x ∷ xs) k = at_option (h x) refl (all_filter_map P Q h f xs k.1)
-  where
-    at_option : (o : Option B) → h x ≡ o → AllByRecursion P (filter_map h xs)
-        → AllByRecursion P (cons_option o (filter_map h xs))
-    at_option None is rest = rest
-    at_option (Some y) is rest = (f x y k.0 is, rest)
 
 pub all_fitting : (P : Sending → Type 0) (room : ℕ) (xs : List Sending) → AllByRecursion P xs
     → AllByRecursion P (fitting room xs)
@@ -208,8 +263,8 @@ fitting_apart room (x ∷ xs) h = at_test (nat_le (size_of x.batch.items) room) 
     at_test false all rest = tt
 
 not_among : (x : Sending) (xs : List Sending) → AllByRecursion (Differ partition_of x) xs → is_in x.partition (partitions_in xs) ≡ false
-not_among x [] h = refl
-not_among x (y ∷ xs) h = ap (λ (b : Bool). b || is_in x.partition (partitions_in xs)) (ne_eqb y.partition x.partition (λ e. h.0 (sym e))) ∙ not_among x xs h.1
+not_among x xs h = none_in x.partition (partitions_in xs)
+    (all_map (Differ partition_of x) (IsOther x.partition) partition_of (λ y apart. ne_eqb y.partition x.partition (λ e. apart (sym e))) xs h)
 
 distinct : (xs : List Sending) → Apart partition_of xs → AreDistinct (partitions_in xs)
 distinct [] h = tt
@@ -225,3 +280,19 @@ batches_apart now s =
 
 pub demand_is_distinct : (now : ℕ) (s : Core) (xs : List Sending) → next_demand now s ≡ Some (Produce xs) → AreDistinct (partitions_in xs)
 demand_is_distinct now s xs e = distinct xs (subst (Apart partition_of) (demand_is_next now s xs e) (batches_apart now s))
+
+-- ---- the batch of a partition that a request has
+
+pub record HasPart (xs : List Sending) (p : ℕ) : Type 0 where
+  pub it : Sending
+  pub has : Contains xs it
+  pub own : it.partition ≡ p
+
+pub has_part : (xs : List Sending) (p : ℕ) → is_in p (partitions_in xs) ≡ true → HasPart xs p
+has_part [] p e = absurd cc
+has_part (y ∷ xs) p e = at_test (y.partition == p) refl e (has_part xs p)
+  where
+    at_test : (b : Bool) → (y.partition == p) ≡ b → b || is_in p (partitions_in xs) ≡ true → (is_in p (partitions_in xs) ≡ true → HasPart xs p)
+        → HasPart (y ∷ xs) p
+    at_test true is e' later = record { it = y; has = contains_head y xs; own = eqb-true y.partition p is }
+    at_test false is e' later = let l = later e' in record { it = l.it; has = contains_tail l.it y xs l.has; own = l.own }

@@ -1,7 +1,7 @@
--- What a rule does to the items of a partition: it tells some, and keeps the others.
-use Rattle.std.proofs.Common.{◌≡◌, ℕ, ◌+◌, Bool, true, false, not, cond, List, [], ◌∷◌, ◌++◌, map, pos, Some, None, refl, sym, ap, ◌∙◌, subst, arith, append_assoc}
-use Rattle.std.specs.Prelude.{Option, if◌then◌else◌, ◌||◌, ◌==◌, filter, find, sum_by, ◌+ℤ◌}
-use Rattle.std.specs.List.{enumerate_from, list_any}
+-- What each rule of a partition tells and leaves: it tells some of the items, and keeps the others.
+use Rattle.std.proofs.Common.{◌≡◌, ℕ, ◌+◌, Bool, true, false, not, cond, List, [], ◌∷◌, ◌++◌, map, pos, Some, refl, sym, ap, ◌∙◌, subst, arith, append_assoc}
+use Rattle.std.specs.Prelude.{if◌then◌else◌, ◌||◌, ◌==◌, filter, find, sum_by, ◌+ℤ◌}
+use Rattle.std.specs.List.{enumerate_from}
 use Rattle.std.proofs.lemmas.Bool.{eqb-true}
 use Rattle.std.proofs.lemmas.List.{append-nil, map-append}
 use Rattle.std.proofs.lemmas.List.Concat.{flat_map-append}
@@ -20,7 +20,7 @@ use Rattle.kp_core.specs.declared.outcome.Outcome.TheVariants.{Delivered, Delive
 use Rattle.kp_core.specs.declared.outcome.Reason.{Reason}
 use Rattle.kp_core.specs.declared.outcome.Reason.TheVariants as reason
 use Rattle.kp_core.specs.Appending.{enqueue}
-use Rattle.kp_core.specs.Attempts.{awaits, awaiting, is_waiting, lowest_waiting}
+use Rattle.kp_core.specs.Attempts.{awaits, awaiting, is_waiting}
 use Rattle.kp_core.specs.Dropping.{drop_attempt, drop_attempts}
 use Rattle.kp_core.specs.Fence.{give_up, fence}
 use Rattle.kp_core.specs.Flush.{mark_open, mark}
@@ -28,9 +28,12 @@ use Rattle.kp_core.specs.HandingOver.{again_in, opened_in, hand_over_in, send_ag
 use Rattle.kp_core.specs.InOrder.{AreDistinct, requests_awaited}
 use Rattle.kp_core.specs.Partitions.{is_in, items_open, items_queued, untold}
 use Rattle.kp_core.specs.Records.{HandedBatch, Open, Partition, Told, Effect}
-use Rattle.kp_core.specs.Settling.{meaning_of, without_attempt, put_off, retry_later, settle_by, left_alone, settle_batch}
+use Rattle.kp_core.specs.Settling.{meaning_of, without_attempt, put_off, retry_later, settle_by}
 use Rattle.kp_core.specs.Telling.{told_all}
-use Rattle.kp_core.specs.Tick.{late_front, behind_late, expire_front, is_open_late, heed_deadlines}
+use Rattle.kp_core.specs.Tick.{late_front, behind_late, expire_front, heed_deadlines}
+use Rattle.kp_core.proofs.CallLemmas.{at_entries, at_heed, by_entries}
+use Rattle.kp_core.proofs.ListLemmas.{flat_map_mapped}
+use Rattle.kp_core.proofs.SendingLemmas.{at_send_in}
 
 -- ---- what is told
 
@@ -60,12 +63,10 @@ told-append f a b = ap (sum_by f) (map-append (λ (t : Told). t.item) a b) ∙ s
 -- ---- rules that tell nothing
 
 open_map : (g : Open → Open) → ((o : Open) → (g o).batch ≡ o.batch) → (os : List Open) → items_open (map g os) ≡ items_open os
-open_map g same [] = refl
-open_map g same (o ∷ os) = ap (λ (b : HandedBatch). b.items ++ items_open (map g os)) (same o) ∙ ap (λ r. o.batch.items ++ r) (open_map g same os)
+open_map g same = flat_map_mapped (λ (o : Open). o.batch.items) g (λ o. o.batch.items) (λ o. ap (λ (b : HandedBatch). b.items) (same o))
 
 marked_queue : (q : List Pending) → items_queued (map marked_by_flush q) ≡ items_queued q
-marked_queue [] = refl
-marked_queue (b ∷ q) = ap (λ r. b.items ++ r) (marked_queue q)
+marked_queue = flat_map_mapped (λ (b : Pending). b.items) marked_by_flush (λ b. b.items) (λ b. refl)
 
 pub drop_keeps : (now : ℕ) (t : Partition) → untold (drop_attempts now t) ≡ untold t
 unfolding untold
@@ -121,19 +122,10 @@ hand_over_keeps k t (b ∷ q) e =
     ∙ append_assoc (items_open t.open_batches) b.items (items_queued q)
     ∙ ap (λ (p : List Pending). items_open t.open_batches ++ items_queued p) (sym e)
 
-abbrev sent_by : ℕ → Partition → Option Open → Partition
-sent_by k t o = elim o [
-  | Some lowest ↦ record t { open_batches = send_again_in k t.open_batches; attempts_sent = t.attempts_sent + 1 }
-  | None ↦ hand_over_in k t t.queue
-]
-
 pub send_keeps : (k : ℕ) (t : Partition) → untold (send_in k t) ≡ untold t
-unfolding untold send_in
-send_keeps k t = at_option (lowest_waiting t)
-  where
-    at_option : (o : Option Open) → untold (sent_by k t o) ≡ untold t
-    at_option (Some o) = ap (λ r. r ++ items_queued t.queue) (again_keeps k t.open_batches)
-    at_option None = hand_over_keeps k t t.queue refl
+unfolding untold
+send_keeps k t = at_send_in (λ u. untold u ≡ untold t) k t
+    (ap (λ r. r ++ items_queued t.queue) (again_keeps k t.open_batches)) (hand_over_keeps k t t.queue refl)
 
 -- ---- what is given up, and what expires
 
@@ -173,20 +165,15 @@ expire_keeps f c now t =
     omega (arith, told, parts, sum_by-append f opens (items_queued t.queue), sum_by-append f opens behind)
 
 pub heed_keeps : (f : Item → ℕ) (c : Config) (now : ℕ) (t : Partition) → RuleKeeps f t (heed_deadlines c now t)
-unfolding heed_deadlines
-heed_keeps f c now t = at_test (list_any (is_open_late c now) t.open_batches)
-  where
-    at_test : (late : Bool) → RuleKeeps f t (if late then fence t else expire_front c now t)
-    at_test true = fence_keeps f t
-    at_test false = expire_keeps f c now t
+heed_keeps f c now t = at_heed (RuleKeeps f t) c now t (λ late. fence_keeps f t) (expire_keeps f c now t)
 
 -- ---- the batch that awaits a reply: no other of its partition awaits the same
 
 abbrev waits_for : ℕ → Attempt → Bool
 waits_for k a = elim a [ InFlight c ↦ c == k | Waiting since ↦ false ]
 
-abbrev with_awaited : Attempt → List ℕ → List ℕ
-with_awaited a ks = elim a [ InFlight c ↦ c ∷ [] | Waiting since ↦ [] ] ++ ks
+abbrev pub awaited_at : Attempt → List ℕ
+awaited_at a = elim a [ InFlight c ↦ c ∷ [] | Waiting since ↦ [] ]
 
 abbrev others : ℕ → List Open → List Open
 others k os = filter (λ o. not (awaits k o)) os
@@ -200,7 +187,7 @@ none_awaits k (o ∷ os) e = at_attempt o.attempt e (none_awaits k os)
     at_test true e' rest = absurd cc
     at_test false e' rest = ap (λ r. o ∷ r) (rest e')
 
-    at_attempt : (a : Attempt) → is_in k (with_awaited a (requests_awaited os)) ≡ false → (is_in k (requests_awaited os) ≡ false → others k os ≡ os)
+    at_attempt : (a : Attempt) → is_in k (awaited_at a ++ requests_awaited os) ≡ false → (is_in k (requests_awaited os) ≡ false → others k os ≡ os)
         → cond (not (waits_for k a)) (o ∷ others k os) (others k os) ≡ o ∷ os
     at_attempt (InFlight c) e' rest = at_test (c == k) e' rest
     at_attempt (Waiting since) e' rest = ap (λ r. o ∷ r) (rest e')
@@ -229,7 +216,7 @@ taken_out f k (x ∷ os) o e d = at_attempt x.attempt e d (λ (e' : find (awaits
         ∙ ap (λ (ys : List Open). sum_by f o.batch.items + sum_by f (items_open ys)) (sym left)
     at_test c false is e' d' later = behind later e' d'.1
 
-    at_attempt : (a : Attempt) → cond (waits_for k a) (Some x) (find (awaits k) os) ≡ Some o → AreDistinct (with_awaited a (requests_awaited os))
+    at_attempt : (a : Attempt) → cond (waits_for k a) (Some x) (find (awaits k) os) ≡ Some o → AreDistinct (awaited_at a ++ requests_awaited os)
         → TakenOut f k os o
         → sum_by f (items_open (x ∷ os)) ≡ sum_by f o.batch.items + sum_by f (items_open (cond (not (waits_for k a)) (x ∷ others k os) (others k os)))
     at_attempt (InFlight c) e' d' later = at_test c (c == k) refl e' d' later
@@ -266,14 +253,7 @@ by_meaning f now k t o a Reject at d =
       told-append f told rest.told,
     )
 
-abbrev by_attempt : ℕ → ℕ → Partition → PartitionProduceResponse → Option Open → Effect
-by_attempt now k t a o = elim o [ None ↦ left_alone t | Some o ↦ settle_by now k t o a (meaning_of a.error_code) ]
-
-pub settle_keeps : (f : Item → ℕ) (now k : ℕ) (t : Partition) (a : PartitionProduceResponse) → AreDistinct (requests_awaited t.open_batches)
-    → RuleKeeps f t (settle_batch now k t a)
-unfolding settle_batch
-settle_keeps f now k t a d = at_option (awaiting k t) refl
-  where
-    at_option : (o : Option Open) → awaiting k t ≡ o → RuleKeeps f t (by_attempt now k t a o)
-    at_option None at = omega arith
-    at_option (Some o) at = by_meaning f now k t o a (meaning_of a.error_code) at d
+pub entries_keep : (f : Item → ℕ) (now k : ℕ) (t : Partition) (xs : List PartitionProduceResponse) → AreDistinct (requests_awaited t.open_batches)
+    → RuleKeeps f t (by_entries now k t xs)
+entries_keep f now k t xs d =
+    at_entries (RuleKeeps f t) now k t xs (omega arith) (λ a others e o at. by_meaning f now k t o a (meaning_of a.error_code) at d)
