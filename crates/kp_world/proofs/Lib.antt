@@ -48,3 +48,10 @@ pub mod ChosenRuns
 pub mod BrokenLaws
 pub mod FreshIdLemmas
 pub mod RuledLemmas
+pub mod DrawnMemory
+pub mod DrawnLinger
+pub mod DrawnRequests
+pub mod DrawnRetries
+pub mod DrawnFences
+pub mod DrawnIds
+pub mod DrawnOthers
