@@ -11,6 +11,8 @@ pub mod CallLemmas
 pub mod OutcomeLemmas
 pub mod BatchFitLemmas
 pub mod RequestFitLemmas
+pub mod FramingLemmas
+pub mod FramingFacts
 pub mod HearingLemmas
 pub mod FetchedLemmas
 pub mod CallTellingLemmas
@@ -23,3 +25,10 @@ pub mod FittingLemmas
 pub mod SameBatchLemmas
 pub mod AccountingLemmas
 pub mod LifeLemmas
+pub mod DeskLemmas
+pub mod DeskKeeping
+pub mod AuditLemmas
+pub mod PartitionRoomLemmas
+pub mod SendsLemmas
+pub mod HandingLemmas
+pub mod MomentLemmas

@@ -11,6 +11,7 @@ pub mod Next
 pub mod Requesting
 pub mod Held
 pub mod Framing
+pub mod Written
 pub mod Fence
 pub mod Closing
 pub mod Tick
@@ -25,3 +26,5 @@ pub mod Causes
 pub mod OutcomeRule
 pub mod InOrder
 pub mod Fetched
+pub mod Desk
+pub mod PartitionRooms

@@ -5,14 +5,20 @@
 pub mod account_laws;
 mod attempt;
 mod audit;
+mod desk;
 mod fault;
+mod framing;
+mod handed;
 pub mod laws;
 mod meaning;
 mod names;
+mod open;
 pub mod order_laws;
 mod outcome;
 mod outgoing;
+mod partition;
 pub mod request_laws;
+mod sending;
 pub mod telling_laws;
 mod ticked;
 
@@ -24,3 +30,6 @@ pub use names::Names;
 pub use outcome::{Outcome, Reason, Report};
 pub use outgoing::Outgoing;
 pub use ticked::{Replied, Ticked};
+
+#[cfg(test)]
+mod tests;
