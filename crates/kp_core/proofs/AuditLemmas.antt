@@ -67,7 +67,7 @@ counts-audited [] n rs h = counts-weaker n (n + 0) rs (omega arith) h
 counts-audited (i ∷ is) n rs h =
     let same : n + 1 + length is ≤ n + length (i ∷ is) = omega arith in
     counts-weaker (n + 1 + length is) (n + length (i ∷ is)) (audited (with_audited i rs) is) same
-        (counts-audited is (n + 1) (with_audited i rs) (counts-with_audited i n rs h))
+    (counts-audited is (n + 1) (with_audited i rs) (counts-with_audited i n rs h))
 
 pub audited-cons : (rs : List Run) (i : Item) (is : List Item) → audited rs (i ∷ is) ≡ audited (with_audited i rs) is
 unfolding audited

@@ -132,13 +132,13 @@ rooms-handed q q' b capacity capacity' ids n audit audit' items count e f g h fe
   open_room = omega (arith, g, rooms.open_room);
   known = rooms.known;
   queued =
-    let now : length (items_queued q') ≡ length (items_queued (drop 1 q)) = ap (λ (z : List Pending). length (items_queued z)) f in
-    omega (arith, now, queued-front q b e, rooms.queued, h);
+      let now : length (items_queued q') ≡ length (items_queued (drop 1 q)) = ap (λ (z : List Pending). length (items_queued z)) f in
+      omega (arith, now, queued-front q b e, rooms.queued, h);
   audit_room = omega (arith, room, rooms.audit_room);
   counts =
-    let more : n * 2 ^ 31 + length b.items ≤ (n + 1) * 2 ^ 31 = omega (arith, h, few) in
-    subst (CountsAtMost ((n + 1) * 2 ^ 31)) (sym runs)
-    (counts-weaker (n * 2 ^ 31 + length b.items) ((n + 1) * 2 ^ 31) (audited audit.runs b.items) more (counts-audited b.items (n * 2 ^ 31) audit.runs rooms.counts));
+      let more : n * 2 ^ 31 + length b.items ≤ (n + 1) * 2 ^ 31 = omega (arith, h, few) in
+      subst (CountsAtMost ((n + 1) * 2 ^ 31)) (sym runs)
+      (counts-weaker (n * 2 ^ 31 + length b.items) ((n + 1) * 2 ^ 31) (audited audit.runs b.items) more (counts-audited b.items (n * 2 ^ 31) audit.runs rooms.counts));
 }
 
 -- ---- an item is queued

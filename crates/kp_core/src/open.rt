@@ -33,10 +33,10 @@ impl Model for Open {
     ghost Value = { seen.Open };
 
     ghost view = { λ o. record {
-        batch = record { number = o.number; id = o.id; sequence = o.sequence; items = o.batch.items };
-        begun = o.batch.begun;
-        attempt = o.attempt;
-        marked = o.marked;
+      batch = record { number = o.number; id = o.id; sequence = o.sequence; items = o.batch.items };
+      begun = o.batch.begun;
+      attempt = o.attempt;
+      marked = o.marked;
     } };
 }
 

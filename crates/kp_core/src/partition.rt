@@ -45,15 +45,15 @@ impl Model for Partition {
     ghost Value = { seen.Partition };
 
     ghost view = { λ t. record {
-        queue = t.queue;
-        open_batches = t.open_batches.items;
-        ids = t.ids.items;
-        next_number = t.next_number;
-        next_sequence = t.next_sequence;
-        attempts_sent = t.attempts_sent;
-        acknowledged = t.acknowledged;
-        fenced = t.fenced;
-        audit = t.audit.runs;
+      queue = t.queue;
+      open_batches = t.open_batches.items;
+      ids = t.ids.items;
+      next_number = t.next_number;
+      next_sequence = t.next_sequence;
+      attempts_sent = t.attempts_sent;
+      acknowledged = t.acknowledged;
+      fenced = t.fenced;
+      audit = t.audit.runs;
     } };
 
     ghost invariant = { λ t. HasRooms t.queue (vec_capacity t.open_batches) t.ids.items t.next_number t.audit t.queued };

@@ -84,7 +84,11 @@ fn a_batch_goes_out_under_the_first_id_from_sequence_number_0(rt: HostRuntime) -
     assert!(rt; !partition.awaits(5));
     send(&mut partition, 5)?;
     assert!(rt; partition.awaits(5));
-    assert!(rt; partition.awaiting(5).is_some_and(|open| open.number() == 0 && open.begun() == 7));
+    assert!(rt;
+        partition
+            .awaiting(5)
+            .is_some_and(|open| open.number() == 0 && open.begun() == 7)
+    );
     assert!(rt; partition.awaiting(6).is_none());
     Ok(())
 }

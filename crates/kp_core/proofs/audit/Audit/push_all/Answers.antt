@@ -20,10 +20,10 @@ loop-item-preserved c =
     let next : drop k items ≡ item ∷ drop (k + 1) items = rw (add-one) (drop-cons items k item there ∙ ap (λ (z : Item). z ∷ drop (suc k) items) here) in
     record {
       runs =
-        ap (λ (z : List Run). audited z (drop (k + 1) items)) c.push.ensures.runs
-        ∙ sym (audited-cons c.loop-item.self.runs item (drop (k + 1) items))
-        ∙ ap (audited c.loop-item.self.runs) (sym next)
-        ∙ c.loop-item.invariant.runs;
+          ap (λ (z : List Run). audited z (drop (k + 1) items)) c.push.ensures.runs
+          ∙ sym (audited-cons c.loop-item.self.runs item (drop (k + 1) items))
+          ∙ ap (audited c.loop-item.self.runs) (sym next)
+          ∙ c.loop-item.invariant.runs;
       room = omega (arith, c.push.ensures.room, c.loop-item.invariant.room);
       counts = rw c.push.ensures.runs (counts-weaker (2 ^ 63 + k + 1) (2 ^ 63 + (k + 1)) (with_audited item c.loop-item.self.runs) (omega arith)
           (counts-with_audited item (2 ^ 63 + k) c.loop-item.self.runs c.loop-item.invariant.counts));

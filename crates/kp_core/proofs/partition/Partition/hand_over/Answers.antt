@@ -28,7 +28,7 @@ invariant_of-self-2 c =
     let audit : c.push_all.new.self.runs ≡ audited runs b.items = c.push_all.ensures.runs ∙ ap (audited runs) c.items.ensures.value in
     let length-is : length c.items.result.now ≡ length b.items = ap length c.items.ensures.value in
     rooms-handed q c.take_front.new.self b _ _ c.self.inside.ids.items c.self.inside.next_number c.self.inside.audit c.push_all.new.self c.self.inside.queued (length c.items-count.result.now)
-        here c.take_front.ensures.rest c.push_reserved.ensures.capacity count (omega (arith, fits, count)) audit (omega (arith, c.push_all.ensures.room, count, length-is)) c.self.invariant
+    here c.take_front.ensures.rest c.push_reserved.ensures.capacity count (omega (arith, fits, count)) audit (omega (arith, c.push_all.ensures.room, count, length-is)) c.self.invariant
 
 pub returns : goal.returns
 returns c =
@@ -41,4 +41,4 @@ returns c =
     let opened = c.first_sent-open.ensures ∙ ap (λ (n : ℕ). open_batch old.next_number n old.next_sequence c.args.correlation b) id in
     let opens = c.push_reserved.ensures.items ∙ ap (λ (o : Open). old.open_batches.items ++ o ∷ []) opened in
     rw (← c.self.view_is) (handed-is c.args.correlation _ b c.take_front.new.self c.push_reserved.new.self.items (length c.items-count.result.now) c.push_all.new.self.runs
-        here c.take_front.ensures.rest opens count audit)
+    here c.take_front.ensures.rest opens count audit)

@@ -21,7 +21,7 @@ returns-then-is_rested c =
     let batch = c.in-Some.lowest.now.batch in
     ap Some c.ready.ensures
     ∙ sym (sends-waiting c.args.config.now c.args.flags c.args.now t c.in-Some.lowest.now fenced lowest
-        ∙ ap (λ (z : Bool). if z then Some batch else None) (sym c.is_rested.ensures ∙ c.if-is_rested.true))
+    ∙ ap (λ (z : Bool). if z then Some batch else None) (sym c.is_rested.ensures ∙ c.if-is_rested.true))
 
 pub returns-in-Some : goal.returns-in-Some
 returns-in-Some c =
@@ -30,7 +30,7 @@ returns-in-Some c =
     let lowest : lowest_waiting t ≡ Some c.in-Some.lowest.now = sym c.lowest_waiting.ensures ∙ ap option_copied c.in-Some.is in
     let batch = c.in-Some.lowest.now.batch in
     sym (sends-waiting c.args.config.now c.args.flags c.args.now t c.in-Some.lowest.now fenced lowest
-        ∙ ap (λ (z : Bool). if z then Some batch else None) (sym c.is_rested.ensures ∙ c.if-is_rested.false))
+    ∙ ap (λ (z : Bool). if z then Some batch else None) (sym c.is_rested.ensures ∙ c.if-is_rested.false))
 
 pub returns-in_err-front : goal.returns-in_err-front
 returns-in_err-front c =
@@ -49,7 +49,7 @@ returns-then-not-may_hand_over c =
     let front : slice_get t.queue 0 ≡ Some b = ap (λ (t : Partition). slice_get t.queue 0) (sym c.self.view_is) ∙ sym (c.in_ok-front.ensures) in
     let batch = new_batch t b in
     sym (sends-front c.args.config.now c.args.flags c.args.now t b fenced lowest front
-        ∙ ap (λ (z : Bool). if z then Some batch else None) (sym c.may_hand_over.ensures ∙ c.if-not-may_hand_over.true))
+    ∙ ap (λ (z : Bool). if z then Some batch else None) (sym c.may_hand_over.ensures ∙ c.if-not-may_hand_over.true))
 
 pub returns : goal.returns
 returns c =
@@ -62,4 +62,4 @@ returns c =
     let same : c.new.result ≡ batch = ready-is t b c.new.result (c.new.ensures.number ∙ ap (λ (t : Partition). t.next_number) c.self.view_is) (c.new.ensures.id ∙ c.last_id-id.ensures ∙ ap (λ (z : List ℕ). unwrap_or (last_or None z) 0) (c.deref.ensures.value ∙ ap (λ (t : Partition). t.ids) c.self.view_is)) (c.new.ensures.sequence ∙ ap (λ (t : Partition). t.next_sequence) c.self.view_is) c.new.ensures.items in
     ap Some same
     ∙ sym (sends-front c.args.config.now c.args.flags c.args.now t b fenced lowest front
-        ∙ ap (λ (z : Bool). if z then Some batch else None) (sym c.may_hand_over.ensures ∙ c.if-not-may_hand_over.false))
+    ∙ ap (λ (z : Bool). if z then Some batch else None) (sym c.may_hand_over.ensures ∙ c.if-not-may_hand_over.false))

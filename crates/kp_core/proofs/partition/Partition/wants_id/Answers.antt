@@ -13,9 +13,9 @@ returns-then-is_empty c =
     let vec : vec_len c.self.inside.open_batches ≡ length c.self.inside.open_batches.items = search rules in
     elim c.if-not-self.branch [
       | then-not-self w ↦
-        let free : t.fenced ≡ false = sym fenced ∙ w.if-not-self.true in
-        let none : (length t.open_batches == 0) ≡ true = (ap (λ (n : ℕ). n == 0) (sym (vec ∙ ap length opens)) ∙ sym w.is_empty.ensures ∙ sym w.value-is ∙ c.if-is_empty.true) in
-        c.is_spent.ensures ∙ sym (wants_id-free c.args.config.now t free none)
+          let free : t.fenced ≡ false = sym fenced ∙ w.if-not-self.true in
+          let none : (length t.open_batches == 0) ≡ true = (ap (λ (n : ℕ). n == 0) (sym (vec ∙ ap length opens)) ∙ sym w.is_empty.ensures ∙ sym w.value-is ∙ c.if-is_empty.true) in
+          c.is_spent.ensures ∙ sym (wants_id-free c.args.config.now t free none)
       | else-not-self w ↦ absurd (true≢false (sym c.if-is_empty.true ∙ w.value-is ∙ ap not w.if-not-self.false))
     ]
 
@@ -27,7 +27,7 @@ returns-else-is_empty c =
     let vec : vec_len c.self.inside.open_batches ≡ length c.self.inside.open_batches.items = search rules in
     elim c.if-not-self.branch [
       | then-not-self w ↦
-        let some : (length t.open_batches == 0) ≡ false = (ap (λ (n : ℕ). n == 0) (sym (vec ∙ ap length opens)) ∙ sym w.is_empty.ensures ∙ sym w.value-is ∙ c.if-is_empty.false) in
-        c.if-is_empty.false ∙ sym (wants_id-open c.args.config.now t some)
+          let some : (length t.open_batches == 0) ≡ false = (ap (λ (n : ℕ). n == 0) (sym (vec ∙ ap length opens)) ∙ sym w.is_empty.ensures ∙ sym w.value-is ∙ c.if-is_empty.false) in
+          c.if-is_empty.false ∙ sym (wants_id-open c.args.config.now t some)
       | else-not-self w ↦ c.if-is_empty.false ∙ sym (wants_id-fenced c.args.config.now t (sym fenced ∙ w.if-not-self.false))
     ]
