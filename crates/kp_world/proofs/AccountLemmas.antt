@@ -7,8 +7,8 @@ use Rattle.std.proofs.lemmas.List.{append-nil, map-append}
 use Rattle.std.proofs.lemmas.List.Concat.{flat_map-append}
 use Rattle.std.proofs.lemmas.List.Elements.{filter-append}
 use Rattle.kp_accum.specs.declared.item.Item.{Item}
-use Rattle.kp_core.specs.Partitions.{partition_at, items_queued, untold}
-use Rattle.kp_core.specs.Records.{HandedBatch, Core, Told}
+use Rattle.kp_rules.specs.Partitions.{partition_at, items_queued, untold}
+use Rattle.kp_rules.specs.Records.{HandedBatch, Core, Told}
 use Rattle.kp_world.specs.Accepting.{for_partition}
 use Rattle.kp_world.specs.Accounts.{of_sender, told_in, unsent_among, is_unsent}
 use Rattle.kp_world.specs.Client.{handed_at}

@@ -7,20 +7,20 @@ use Rattle.std.proofs.lemmas.List.{length-replicate, get_or-replicate}
 use Rattle.kp_accum.specs.declared.config.Config.{Config}
 use Rattle.kp_accum.specs.declared.item.Item.{Item}
 use Rattle.kp_log.proofs.PlaceLemmas.{In, In-head, In-tail}
-use Rattle.kp_core.proofs.CallLemmas.{at_append}
-use Rattle.kp_core.specs.Closing.{close_step, end_step}
-use Rattle.kp_core.specs.Flush.{flush_step}
-use Rattle.kp_core.specs.Replies.{response_step}
-use Rattle.kp_core.specs.Tick.{tick_step}
-use Rattle.kp_core.specs.declared.outcome.Reason.{Reason}
-use Rattle.kp_core.specs.declared.outcome.Reason.TheVariants.{Fenced, Ended}
-use Rattle.kp_core.specs.Appending.{Appends, with_queued, turn_away}
-use Rattle.kp_core.specs.Attempts.{awaits}
-use Rattle.kp_core.specs.Dropping.{disconnect_step}
-use Rattle.kp_core.specs.Opening.{new_core}
-use Rattle.kp_core.specs.Partitions.{partition_at, new_partition, items_queued, untold}
-use Rattle.kp_core.specs.Records.{HandedBatch, Open, Partition}
-use Rattle.kp_core.specs.Requesting.{Packet}
+use Rattle.kp_rules.proofs.CallLemmas.{at_append}
+use Rattle.kp_rules.specs.Closing.{close_step, end_step}
+use Rattle.kp_rules.specs.Flush.{flush_step}
+use Rattle.kp_rules.specs.Replies.{response_step}
+use Rattle.kp_rules.specs.Tick.{tick_step}
+use Rattle.kp_rules.specs.declared.outcome.Reason.{Reason}
+use Rattle.kp_rules.specs.declared.outcome.Reason.TheVariants.{Fenced, Ended}
+use Rattle.kp_rules.specs.Appending.{Appends, with_queued, turn_away}
+use Rattle.kp_rules.specs.Attempts.{awaits}
+use Rattle.kp_rules.specs.Dropping.{disconnect_step}
+use Rattle.kp_rules.specs.Opening.{new_core}
+use Rattle.kp_rules.specs.Partitions.{partition_at, new_partition, items_queued, untold}
+use Rattle.kp_rules.specs.Records.{HandedBatch, Open, Partition}
+use Rattle.kp_rules.specs.Requesting.{Packet}
 use Rattle.kp_world.specs.declared.event.Event.{Event}
 use Rattle.kp_world.specs.Accepting.{for_partition, item_for, accepted_by, with_accepted, with_taken, taken_by, taking_of, taking}
 use Rattle.kp_world.specs.Accounts.{of_sender, told_in}
@@ -35,14 +35,14 @@ use Rattle.kp_world.proofs.EventLemmas.{OfEvent, at_step, at_run}
 use Rattle.kp_world.proofs.AccountLemmas.{items_of, taken_of, Accepts, IsAccounted, accounts_only, accounts_noted, accounts_call}
 use Rattle.kp_world.proofs.ConservationLemmas.{attempts_of, attempt_count}
 use Rattle.kp_world.proofs.FateLemmas.{Fates}
-use Rattle.kp_core.specs.declared.attempt.Attempt.TheVariants.{InFlight}
+use Rattle.kp_rules.specs.declared.attempt.Attempt.TheVariants.{InFlight}
 use Rattle.kp_world.proofs.DeliveredLemmas.{heard}
 use Rattle.kp_world.proofs.FlightLemmas.{flies_same}
 use Rattle.kp_world.proofs.HearingLemmas.{answered_batch, same_correlation}
 use Rattle.kp_world.proofs.LawfulLemmas.{IsLawful}
 use Rattle.kp_world.proofs.LeavingLemmas.{Rising, awaits_is}
 use Rattle.kp_world.proofs.RunLemmas.{lawful_step, lawful_opening, within_five}
-use Rattle.kp_core.proofs.ListLemmas.{all_say}
+use Rattle.kp_rules.proofs.ListLemmas.{all_say}
 use Rattle.kp_world.proofs.ListLemmas.{all_at, all_in, in_at}
 use Rattle.kp_world.proofs.WeightLemmas.{weigh, weigh_flat, weigh_none}
 use Rattle.kp_world.proofs.HandingLemmas.{accounts_sending}

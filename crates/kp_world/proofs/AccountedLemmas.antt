@@ -6,15 +6,15 @@ use Rattle.std.proofs.lemmas.Bool.{and_right, eqb-true, eqb-false, eq-eqb, ne_eq
 use Rattle.std.proofs.lemmas.List.{append-nil, take-append-drop}
 use Rattle.std.proofs.lemmas.List.Elements.{filter-append}
 use Rattle.kp_accum.specs.declared.item.Item.{Item}
-use Rattle.kp_core.specs.InOrder.{AreRising}
-use Rattle.kp_core.specs.Partitions.{partition_at, items_open, items_queued, untold}
-use Rattle.kp_core.specs.Records.{Partition}
+use Rattle.kp_rules.specs.InOrder.{AreRising}
+use Rattle.kp_rules.specs.Partitions.{partition_at, items_open, items_queued, untold}
+use Rattle.kp_rules.specs.Records.{Partition}
 use Rattle.kp_world.specs.Accepting.{accepted_by, for_partition, taken_by}
 use Rattle.kp_world.specs.Accounts.{is_same, is_among, of_sender, items_handed, told_unsent, not_taken, queued_at, has_left, AreAccountedFor, AreInOrder}
 use Rattle.kp_world.specs.World.{World}
 use Rattle.kp_world.proofs.AccountLemmas.{taken_for, IsAccounted, partition-append}
 use Rattle.kp_world.proofs.FateLemmas.{all_both, filter_agrees, filter_none, filter_passes, filter_same, filter_twice, has_number, is_out, AreNumbered, in_itself, numbered_rise, fates_rise, fates_handed, Rising, rising_apart, fates_apart}
-use Rattle.kp_core.proofs.ListLemmas.{all_back, all_filter, all_front, all_take, all_weaker}
+use Rattle.kp_rules.proofs.ListLemmas.{all_back, all_filter, all_front, all_take, all_weaker}
 use Rattle.kp_wire.proofs.ListLemmas.{all_drop}
 
 -- ---- of one sender and partition

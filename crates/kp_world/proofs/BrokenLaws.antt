@@ -18,15 +18,15 @@ use Rattle.kp_batch.specs.declared.record.Record.{Record}
 use Rattle.kp_log.specs.History.{stored_of, own, is_under, NO_ID}
 use Rattle.kp_log.specs.Log.{stored_as}
 use Rattle.kp_log.specs.declared.stored.Stored.{Stored}
-use Rattle.kp_core.specs.declared.attempt.Attempt.{Attempt}
-use Rattle.kp_core.specs.declared.attempt.Attempt.TheVariants.{InFlight, Waiting}
-use Rattle.kp_core.specs.declared.outcome.Outcome.{Outcome}
-use Rattle.kp_core.specs.declared.outcome.Outcome.TheVariants.{Delivered, DeliveredNoOffset, Unknown, Rejected, Unsent}
-use Rattle.kp_core.specs.Attempts.{is_waiting}
-use Rattle.kp_core.specs.OutcomeRule.{Telling, Append, Tick, Reply as ToReply, End, MayTell}
-use Rattle.kp_core.specs.Partitions.{partition_at}
-use Rattle.kp_core.specs.Records.{Core, Partition, HandedBatch, Told}
-use Rattle.kp_core.proofs.ListLemmas.{contains_head, contains_tail}
+use Rattle.kp_rules.specs.declared.attempt.Attempt.{Attempt}
+use Rattle.kp_rules.specs.declared.attempt.Attempt.TheVariants.{InFlight, Waiting}
+use Rattle.kp_rules.specs.declared.outcome.Outcome.{Outcome}
+use Rattle.kp_rules.specs.declared.outcome.Outcome.TheVariants.{Delivered, DeliveredNoOffset, Unknown, Rejected, Unsent}
+use Rattle.kp_rules.specs.Attempts.{is_waiting}
+use Rattle.kp_rules.specs.OutcomeRule.{Telling, Append, Tick, Reply as ToReply, End, MayTell}
+use Rattle.kp_rules.specs.Partitions.{partition_at}
+use Rattle.kp_rules.specs.Records.{Core, Partition, HandedBatch, Told}
+use Rattle.kp_rules.proofs.ListLemmas.{contains_head, contains_tail}
 use Rattle.kp_world.specs.declared.event.Event.{Event}
 use Rattle.kp_world.specs.Accounts.{items_handed, is_among, is_same, told_unsent, IsNeverSent}
 use Rattle.kp_world.specs.Delivering.{log_at}

@@ -15,10 +15,10 @@ use Rattle.kp_log.specs.Log.{count_of}
 use Rattle.kp_log.proofs.KeepingLemmas.{came_appended}
 use Rattle.kp_log.proofs.LogLemmas.{count_of-append, count_of_own}
 use Rattle.kp_log.proofs.PlaceLemmas.{In, In-nil, In-cons, In-head, In-tail, cut_cases, contains_from_In}
-use Rattle.kp_core.specs.Next.{Sending}
-use Rattle.kp_core.specs.Partitions.{partition_at}
-use Rattle.kp_core.specs.Records.{HandedBatch, Partition, Core}
-use Rattle.kp_core.specs.Requesting.{Packet}
+use Rattle.kp_rules.specs.Next.{Sending}
+use Rattle.kp_rules.specs.Partitions.{partition_at}
+use Rattle.kp_rules.specs.Records.{HandedBatch, Partition, Core}
+use Rattle.kp_rules.specs.Requesting.{Packet}
 use Rattle.kp_world.specs.Client.{handed_at}
 use Rattle.kp_world.specs.Delivering.{log_at, PartDelivers, PartsDeliver}
 use Rattle.kp_world.specs.Message.{sent_of}
@@ -26,7 +26,7 @@ use Rattle.kp_world.specs.World.{PartAnswer, Reply}
 use Rattle.kp_world.proofs.FlightLemmas.{Carried, PartHolds, Steady, part_grown, steady_grown}
 use Rattle.kp_world.proofs.PrefixLemmas.{Cut, Grown, lands, lands_at, grown_same, grown_appended}
 use Rattle.kp_world.proofs.SoundLemmas.{Sound, sents, sound_history}
-use Rattle.kp_core.proofs.ListLemmas.{at_set}
+use Rattle.kp_rules.proofs.ListLemmas.{at_set}
 use Rattle.kp_world.proofs.ListLemmas.{In-map}
 
 -- ---- a batch that is old

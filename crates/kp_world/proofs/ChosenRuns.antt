@@ -8,9 +8,9 @@ use Rattle.std.proofs.lemmas.Int.{ints}
 use Rattle.kp_log.specs.BrokerStep.{Answered, BrokerStep}
 use Rattle.kp_log.specs.History.{History, stored_of, of_id, with_batch}
 use Rattle.kp_log.specs.Log.{KEPT, count_of}
-use Rattle.kp_core.specs.Next.{Sending}
-use Rattle.kp_core.specs.Records.{Demand, Produce, InitProducerId}
-use Rattle.kp_core.specs.Requesting.{Packet}
+use Rattle.kp_rules.specs.Next.{Sending}
+use Rattle.kp_rules.specs.Records.{Demand, Produce, InitProducerId}
+use Rattle.kp_rules.specs.Requesting.{Packet}
 use Rattle.kp_world.specs.declared.event.Event.{Event}
 use Rattle.kp_world.specs.declared.event.Event.TheVariants as event
 use Rattle.kp_world.specs.declared.event.Treatment.TheVariants.{Judged}

@@ -10,33 +10,33 @@ use Rattle.kp_accum.specs.declared.item.Item.{Item}
 use Rattle.kp_accum.specs.Queue.{Pending, marked_by_flush}
 use Rattle.kp_accum.specs.Ready.{is_late}
 use Rattle.kp_frames.specs.declared.produce.PartitionProduceResponse.{PartitionProduceResponse}
-use Rattle.kp_core.proofs.OutcomeLemmas.{by_attempt}
-use Rattle.kp_core.specs.Fence.{fence, give_up}
-use Rattle.kp_core.specs.Tick.{heed_deadlines}
-use Rattle.kp_core.specs.declared.outcome.Outcome.{Outcome}
-use Rattle.kp_core.specs.declared.outcome.Outcome.TheVariants.{Unknown, DeliveredNoOffset, Delivered, Rejected, Unsent}
-use Rattle.kp_core.specs.declared.outcome.Reason.{Reason}
-use Rattle.kp_core.specs.declared.outcome.Reason.TheVariants as reason
-use Rattle.kp_core.specs.declared.meaning.Meaning.{Meaning}
-use Rattle.kp_core.specs.declared.meaning.Meaning.TheVariants.{Stored, Duplicate, Retry, Reject}
-use Rattle.kp_core.specs.Attempts.{awaits, awaiting}
-use Rattle.kp_core.specs.Dropping.{drop_attempt, drop_attempts}
-use Rattle.kp_core.specs.Flush.{mark_open, mark}
-use Rattle.kp_core.specs.Partitions.{items_open, items_queued, untold}
-use Rattle.kp_core.specs.Records.{HandedBatch, Open, Partition, Told}
-use Rattle.kp_core.specs.Settling.{without_attempt, retry_later, put_off, meaning_of, acknowledge, settle_by, settle_batch}
-use Rattle.kp_core.specs.Telling.{told_all, told_offsets}
-use Rattle.kp_core.specs.Tick.{late_front, behind_late, expire_front, is_open_late}
+use Rattle.kp_rules.proofs.OutcomeLemmas.{by_attempt}
+use Rattle.kp_rules.specs.Fence.{fence, give_up}
+use Rattle.kp_rules.specs.Tick.{heed_deadlines}
+use Rattle.kp_rules.specs.declared.outcome.Outcome.{Outcome}
+use Rattle.kp_rules.specs.declared.outcome.Outcome.TheVariants.{Unknown, DeliveredNoOffset, Delivered, Rejected, Unsent}
+use Rattle.kp_rules.specs.declared.outcome.Reason.{Reason}
+use Rattle.kp_rules.specs.declared.outcome.Reason.TheVariants as reason
+use Rattle.kp_rules.specs.declared.meaning.Meaning.{Meaning}
+use Rattle.kp_rules.specs.declared.meaning.Meaning.TheVariants.{Stored, Duplicate, Retry, Reject}
+use Rattle.kp_rules.specs.Attempts.{awaits, awaiting}
+use Rattle.kp_rules.specs.Dropping.{drop_attempt, drop_attempts}
+use Rattle.kp_rules.specs.Flush.{mark_open, mark}
+use Rattle.kp_rules.specs.Partitions.{items_open, items_queued, untold}
+use Rattle.kp_rules.specs.Records.{HandedBatch, Open, Partition, Told}
+use Rattle.kp_rules.specs.Settling.{without_attempt, retry_later, put_off, meaning_of, acknowledge, settle_by, settle_batch}
+use Rattle.kp_rules.specs.Telling.{told_all, told_offsets}
+use Rattle.kp_rules.specs.Tick.{late_front, behind_late, expire_front, is_open_late}
 use Rattle.kp_world.specs.Accounts.{is_unsent, unsent_among}
 use Rattle.std.proofs.lemmas.List.Concat.{flat_map-append}
 use Rattle.kp_world.proofs.KeepingLemmas.{same_waiting}
 use Rattle.kp_world.proofs.FateLemmas.{filter_all, filter_none}
-use Rattle.kp_core.proofs.OutcomeLemmas.{all_enumerated, all_told}
+use Rattle.kp_rules.proofs.OutcomeLemmas.{all_enumerated, all_told}
 use Rattle.kp_log.proofs.PlaceLemmas.{In, In-from_contains}
 use Rattle.std.proofs.lemmas.Bool.{not_from_false}
 use Rattle.kp_world.proofs.WeightLemmas.{weigh, weigh-append, none_counted}
-use Rattle.kp_core.proofs.ListLemmas.{all_flat_map}
-use Rattle.kp_core.proofs.ListLemmas.{all_back, all_front, all_say, all_weaker}
+use Rattle.kp_rules.proofs.ListLemmas.{all_flat_map}
+use Rattle.kp_rules.proofs.ListLemmas.{all_back, all_front, all_say, all_weaker}
 use Rattle.kp_world.proofs.ListLemmas.{found_in, left_in}
 use Rattle.kp_wire.proofs.ListLemmas.{all_append}
 

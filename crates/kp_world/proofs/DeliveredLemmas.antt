@@ -11,15 +11,15 @@ use Rattle.kp_log.specs.BrokerStep.{Stands}
 use Rattle.kp_log.specs.History.{History}
 use Rattle.kp_log.proofs.OffsetLemmas.{stands_still}
 use Rattle.kp_log.proofs.PlaceLemmas.{In, In-nil, In-from_contains}
-use Rattle.kp_core.proofs.OutcomeLemmas.{entries_of_one}
-use Rattle.kp_core.specs.declared.attempt.Attempt.TheVariants.{InFlight}
-use Rattle.kp_core.specs.declared.outcome.Outcome.TheVariants.{Delivered, DeliveredNoOffset}
-use Rattle.kp_core.specs.Causes.{IsAnswered}
-use Rattle.kp_core.specs.OutcomeRule.{Telling, TellsBy, IsDelivered, IsDuplicate, MayTell}
-use Rattle.kp_core.specs.Partitions.{partition_at}
-use Rattle.kp_core.specs.Records.{HandedBatch, Open, Partition, Core, Told}
-use Rattle.kp_core.specs.Settling.{meaning_of}
-use Rattle.kp_core.specs.OutcomeRule as call
+use Rattle.kp_rules.proofs.OutcomeLemmas.{entries_of_one}
+use Rattle.kp_rules.specs.declared.attempt.Attempt.TheVariants.{InFlight}
+use Rattle.kp_rules.specs.declared.outcome.Outcome.TheVariants.{Delivered, DeliveredNoOffset}
+use Rattle.kp_rules.specs.Causes.{IsAnswered}
+use Rattle.kp_rules.specs.OutcomeRule.{Telling, TellsBy, IsDelivered, IsDuplicate, MayTell}
+use Rattle.kp_rules.specs.Partitions.{partition_at}
+use Rattle.kp_rules.specs.Records.{HandedBatch, Open, Partition, Core, Told}
+use Rattle.kp_rules.specs.Settling.{meaning_of}
+use Rattle.kp_rules.specs.OutcomeRule as call
 use Rattle.kp_world.specs.Accounts.{items_handed}
 use Rattle.kp_world.specs.Client.{handed_at}
 use Rattle.kp_world.specs.Delivering.{log_at}

@@ -4,7 +4,7 @@ use Rattle.kp_log.specs.BrokerStep.{offered_to}
 use Rattle.kp_log.specs.History.{own_offsets}
 use Rattle.kp_log.specs.KeptBatches.{kept_in}
 use Rattle.kp_log.specs.SequenceRule.{judged}
-use Rattle.kp_core.proofs.Evaluation as sender
+use Rattle.kp_rules.proofs.Evaluation as sender
 use Rattle.kp_world.specs.Client.{with_sendings, client}
 use Rattle.kp_world.specs.Loopback.{logs_with, answers_to, delivered}
 use Rattle.kp_world.specs.Lines.{lines}

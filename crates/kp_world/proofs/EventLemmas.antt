@@ -4,15 +4,15 @@ use Rattle.std.specs.Prelude.{Result, Ok, Err, Option, if◌then◌else◌, ◌&
 use Rattle.std.proofs.lemmas.Bool.{and_parts, ltb-true}
 use Rattle.kp_accum.specs.declared.fault.AppendFault.{AppendFault}
 use Rattle.kp_accum.specs.declared.item.Item.{Item}
-use Rattle.kp_core.specs.Flush.{flush_step}
-use Rattle.kp_core.specs.Replies.{response_step}
-use Rattle.kp_core.specs.Requesting.{request_step}
-use Rattle.kp_core.specs.declared.fault.CoreFault.{CoreFault}
-use Rattle.kp_core.specs.declared.fault.CoreFault.TheVariants as fault
-use Rattle.kp_core.specs.Appending.{append_step}
-use Rattle.kp_core.specs.Dropping.{disconnect_step}
-use Rattle.kp_core.specs.Records.{Core}
-use Rattle.kp_core.specs.Requesting.{Packet}
+use Rattle.kp_rules.specs.Flush.{flush_step}
+use Rattle.kp_rules.specs.Replies.{response_step}
+use Rattle.kp_rules.specs.Requesting.{request_step}
+use Rattle.kp_rules.specs.declared.fault.CoreFault.{CoreFault}
+use Rattle.kp_rules.specs.declared.fault.CoreFault.TheVariants as fault
+use Rattle.kp_rules.specs.Appending.{append_step}
+use Rattle.kp_rules.specs.Dropping.{disconnect_step}
+use Rattle.kp_rules.specs.Records.{Core}
+use Rattle.kp_rules.specs.Requesting.{Packet}
 use Rattle.kp_world.specs.declared.event.Event.{Event}
 use Rattle.kp_world.specs.declared.event.Event.TheVariants as event
 use Rattle.kp_world.specs.Accepting.{with_taken, taking_of, accepted_by, taken_by, item_for, is_large, with_accepted, accepting, taking}

@@ -8,7 +8,7 @@ use Rattle.std.proofs.lemmas.List.{append-nil}
 use Rattle.std.proofs.lemmas.List.Elements.{filter-append}
 use Rattle.std.proofs.lemmas.List.Folds.{list_any-append}
 use Rattle.kp_accum.specs.declared.item.Item.{Item}
-use Rattle.kp_core.proofs.ListLemmas.{all_back, all_filter, all_front, all_say, all_weaker}
+use Rattle.kp_rules.proofs.ListLemmas.{all_back, all_filter, all_front, all_say, all_weaker}
 use Rattle.kp_world.proofs.ListLemmas.{all_in}
 use Rattle.kp_world.proofs.ListLemmas.{left_in}
 use Rattle.kp_wire.proofs.ListLemmas.{all_append}

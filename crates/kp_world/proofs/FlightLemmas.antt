@@ -11,16 +11,16 @@ use Rattle.kp_log.specs.HandedOver.{IsStored}
 use Rattle.kp_log.specs.History.{History, empty_history}
 use Rattle.kp_log.proofs.OffsetLemmas.{stands_still, stored_still}
 use Rattle.kp_log.proofs.PlaceLemmas.{In, In-nil, In-cons, In-head, In-tail, In-append_left, In-append_right}
-use Rattle.kp_core.proofs.SendingLemmas.{all_again}
-use Rattle.kp_core.specs.Replies.{go_on_under}
-use Rattle.kp_core.specs.declared.attempt.Attempt.TheVariants.{InFlight}
-use Rattle.kp_core.specs.Attempts.{is_waiting, lowest_waiting}
-use Rattle.kp_core.specs.HandingOver.{again_in, send_again_in, opened_in, hand_over_in}
-use Rattle.kp_core.specs.MaySend.{is_confirmed, is_in_span, new_batch}
-use Rattle.kp_core.specs.Next.{Sending}
-use Rattle.kp_core.specs.Partitions.{new_partition, present_id}
-use Rattle.kp_core.specs.Records.{Demand, Produce, InitProducerId, HandedBatch, Open, Partition}
-use Rattle.kp_core.specs.Requesting.{Packet}
+use Rattle.kp_rules.proofs.SendingLemmas.{all_again}
+use Rattle.kp_rules.specs.Replies.{go_on_under}
+use Rattle.kp_rules.specs.declared.attempt.Attempt.TheVariants.{InFlight}
+use Rattle.kp_rules.specs.Attempts.{is_waiting, lowest_waiting}
+use Rattle.kp_rules.specs.HandingOver.{again_in, send_again_in, opened_in, hand_over_in}
+use Rattle.kp_rules.specs.MaySend.{is_confirmed, is_in_span, new_batch}
+use Rattle.kp_rules.specs.Next.{Sending}
+use Rattle.kp_rules.specs.Partitions.{new_partition, present_id}
+use Rattle.kp_rules.specs.Records.{Demand, Produce, InitProducerId, HandedBatch, Open, Partition}
+use Rattle.kp_rules.specs.Requesting.{Packet}
 use Rattle.kp_world.specs.Message.{sent_of}
 use Rattle.kp_world.specs.World.{PartAnswer, ReplyContent, Batches, Id, Reply}
 use Rattle.kp_world.proofs.LeavingLemmas.{Rising, CameFrom, IsOpen, Leaves}

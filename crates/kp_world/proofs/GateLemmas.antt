@@ -1,7 +1,7 @@
 -- Once the gate is shut nothing is accepted.
 use Rattle.std.proofs.Common.{◌≡◌, true, List, ◌∷◌, refl, sym, ap, ◌∙◌}
-use Rattle.kp_core.specs.Requesting.{request_step}
-use Rattle.kp_core.specs.Records.{Core, Told}
+use Rattle.kp_rules.specs.Requesting.{request_step}
+use Rattle.kp_rules.specs.Records.{Core, Told}
 use Rattle.kp_world.specs.declared.event.Event.{Event}
 use Rattle.kp_world.specs.declared.event.Event.TheVariants as event
 use Rattle.kp_world.specs.Client.{client, closing}

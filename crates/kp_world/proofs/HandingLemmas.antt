@@ -10,16 +10,16 @@ use Rattle.kp_accum.specs.declared.flags.Flags.{Flags}
 use Rattle.kp_accum.specs.declared.item.Item.{Item}
 use Rattle.kp_accum.specs.Queue.{Pending}
 use Rattle.kp_log.proofs.PlaceLemmas.{In}
-use Rattle.kp_core.proofs.CallLemmas.{at_request}
-use Rattle.kp_core.proofs.SendingLemmas.{demand_is_sent, demand_is_distinct}
-use Rattle.kp_core.specs.Requesting.{request_step}
-use Rattle.kp_core.specs.Attempts.{is_waiting}
-use Rattle.kp_core.specs.HandingOver.{again_in, opened_in, hand_over_in, send_again_in, send_in}
-use Rattle.kp_core.specs.MaySend.{sends}
-use Rattle.kp_core.specs.Next.{Sending, flags_of, next_demand}
-use Rattle.kp_core.specs.Partitions.{new_partition, partition_at, items_open, items_queued, untold}
-use Rattle.kp_core.specs.Records.{Demand, Produce, InitProducerId, HandedBatch, Open, Partition, Core, Told}
-use Rattle.kp_core.specs.Requesting.{Requested, partitions_in, sent_out}
+use Rattle.kp_rules.proofs.CallLemmas.{at_request}
+use Rattle.kp_rules.proofs.SendingLemmas.{demand_is_sent, demand_is_distinct}
+use Rattle.kp_rules.specs.Requesting.{request_step}
+use Rattle.kp_rules.specs.Attempts.{is_waiting}
+use Rattle.kp_rules.specs.HandingOver.{again_in, opened_in, hand_over_in, send_again_in, send_in}
+use Rattle.kp_rules.specs.MaySend.{sends}
+use Rattle.kp_rules.specs.Next.{Sending, flags_of, next_demand}
+use Rattle.kp_rules.specs.Partitions.{new_partition, partition_at, items_open, items_queued, untold}
+use Rattle.kp_rules.specs.Records.{Demand, Produce, InitProducerId, HandedBatch, Open, Partition, Core, Told}
+use Rattle.kp_rules.specs.Requesting.{Requested, partitions_in, sent_out}
 use Rattle.kp_world.specs.Accepting.{for_partition}
 use Rattle.kp_world.specs.Accounts.{of_sender, told_in, unsent_among}
 use Rattle.kp_world.specs.Client.{grown_by, handed_at, with_sendings, with_packet, sent_line, sending}
@@ -32,7 +32,7 @@ use Rattle.kp_world.proofs.TakingLemmas.{weigh_same}
 use Rattle.kp_world.proofs.WeightLemmas.{weigh}
 use Rattle.kp_world.proofs.FateLemmas.{Fates, fates_handed_over}
 use Rattle.kp_world.proofs.RequestLemmas.{length-with_sendings, at_sent_out}
-use Rattle.kp_core.proofs.PartitionLemmas.{length-changed_at}
+use Rattle.kp_rules.proofs.PartitionLemmas.{length-changed_at}
 use Rattle.kp_world.proofs.RequestLemmas.{grown_known, grown_new}
 use Rattle.kp_world.proofs.SendingLemmas.{find_open}
 use Rattle.kp_world.proofs.SoundLemmas.{Sound}

@@ -1,16 +1,16 @@
 -- What holds of every world of a run holds still when a reply came that was ever given.
-use Rattle.kp_core.specs.MaySend.{is_within_limit}
+use Rattle.kp_rules.specs.MaySend.{is_within_limit}
 use Rattle.kp_accum.specs.Queue.{Pending}
-use Rattle.kp_core.specs.Partitions.{changed_at}
-use Rattle.kp_core.specs.Attempts.{is_live}
-use Rattle.kp_core.specs.Mismatch.{entries_for}
-use Rattle.kp_core.specs.Partitions.{new_partition}
-use Rattle.kp_core.specs.Partitions.{with_partition}
-use Rattle.kp_core.specs.Replies.{settle_batches}
-use Rattle.kp_core.specs.Replies.{settle_id}
-use Rattle.kp_core.specs.Attempts.{asks_for_id}
-use Rattle.kp_core.specs.Mismatch.{entries_of}
-use Rattle.kp_core.specs.Replies.{give_id}
+use Rattle.kp_rules.specs.Partitions.{changed_at}
+use Rattle.kp_rules.specs.Attempts.{is_live}
+use Rattle.kp_rules.specs.Mismatch.{entries_for}
+use Rattle.kp_rules.specs.Partitions.{new_partition}
+use Rattle.kp_rules.specs.Partitions.{with_partition}
+use Rattle.kp_rules.specs.Replies.{settle_batches}
+use Rattle.kp_rules.specs.Replies.{settle_id}
+use Rattle.kp_rules.specs.Attempts.{asks_for_id}
+use Rattle.kp_rules.specs.Mismatch.{entries_of}
+use Rattle.kp_rules.specs.Replies.{give_id}
 use Rattle.std.proofs.Common.{filter}
 use Rattle.std.proofs.Common.{◌≡◌, ℕ, ◌+◌, ◌<◌, ◌≤◌, Bool, true, false, not, List, [], ◌∷◌, length, map, ℤ, pos, negsuc, Some, refl, sym, ap, ◌∙◌, subst, ⊎_elim, arith}
 use Rattle.std.specs.Prelude.{if◌then◌else◌, ◌&&◌, nat_abs}
@@ -27,30 +27,30 @@ use Rattle.kp_log.specs.BrokerStep.{Stands, NO_ERROR, DUPLICATE_SEQUENCE_NUMBER}
 use Rattle.kp_log.specs.HandedOver.{IsStored}
 use Rattle.kp_log.specs.History.{History}
 use Rattle.kp_log.proofs.PlaceLemmas.{In, In-nil, In-cons, In-head, In-tail}
-use Rattle.kp_core.proofs.CallLemmas.{at_response_going, OfResponse}
-use Rattle.kp_core.specs.Replies.{response_step, go_on_under}
-use Rattle.kp_core.proofs.OutcomeLemmas.{by_entries, in_flight}
-use Rattle.kp_core.proofs.ListLemmas.{at_set}
+use Rattle.kp_rules.proofs.CallLemmas.{at_response_going, OfResponse}
+use Rattle.kp_rules.specs.Replies.{response_step, go_on_under}
+use Rattle.kp_rules.proofs.OutcomeLemmas.{by_entries, in_flight}
+use Rattle.kp_rules.proofs.ListLemmas.{at_set}
 use Rattle.std.proofs.lemmas.List.{append-nil, length-set}
 use Rattle.kp_log.proofs.PlaceLemmas.{In-from_contains}
-use Rattle.kp_core.specs.declared.attempt.Attempt.TheVariants.{InFlight}
-use Rattle.kp_core.specs.declared.meaning.Meaning.TheVariants.{Stored, Duplicate, Retry, Reject}
-use Rattle.kp_core.specs.MaySend.{wants_id}
-use Rattle.kp_core.specs.Mismatch.{is_for, is_given, answers_id}
-use Rattle.kp_core.specs.Partitions.{partition_at, is_empty}
-use Rattle.kp_core.specs.Records.{HandedBatch, Open, Partition, Demand, Request, Core}
-use Rattle.kp_core.specs.Records as demand
-use Rattle.kp_core.specs.Replies.{awaited, Replies}
-use Rattle.kp_core.specs.Requesting.{Packet}
-use Rattle.kp_core.specs.Settling.{meaning_of, retried_codes}
-use Rattle.kp_core.specs.Telling.{at_these, with_partitions}
+use Rattle.kp_rules.specs.declared.attempt.Attempt.TheVariants.{InFlight}
+use Rattle.kp_rules.specs.declared.meaning.Meaning.TheVariants.{Stored, Duplicate, Retry, Reject}
+use Rattle.kp_rules.specs.MaySend.{wants_id}
+use Rattle.kp_rules.specs.Mismatch.{is_for, is_given, answers_id}
+use Rattle.kp_rules.specs.Partitions.{partition_at, is_empty}
+use Rattle.kp_rules.specs.Records.{HandedBatch, Open, Partition, Demand, Request, Core}
+use Rattle.kp_rules.specs.Records as demand
+use Rattle.kp_rules.specs.Replies.{awaited, Replies}
+use Rattle.kp_rules.specs.Requesting.{Packet}
+use Rattle.kp_rules.specs.Settling.{meaning_of, retried_codes}
+use Rattle.kp_rules.specs.Telling.{at_these, with_partitions}
 use Rattle.kp_world.specs.Client.{handed_at}
 use Rattle.kp_world.specs.Delivering.{log_at, given}
 use Rattle.kp_world.specs.Message.{sent_of, part_response, epoch_for, body_of_reply, response_of}
 use Rattle.kp_world.specs.World.{PartAnswer, ReplyContent, Batches as Parts, Id as GivenId, Reply, names}
 use Rattle.kp_world.proofs.BrokerLemmas.{PartAgrees}
 use Rattle.kp_world.proofs.FlightLemmas.{PartHolds, ContentHolds, Steady, flies_same, steady_fresh}
-use Rattle.kp_core.proofs.PartitionLemmas.{length-changed_at}
+use Rattle.kp_rules.proofs.PartitionLemmas.{length-changed_at}
 use Rattle.kp_world.proofs.LawfulLemmas.{Lawful, StoredAt, lawful_core}
 use Rattle.kp_world.proofs.LeavingLemmas.{Leaves, leaves_same, leaves_answered, SettlesOnly, at_some, left_alike}
 use Rattle.kp_world.proofs.PrefixLemmas.{follows}

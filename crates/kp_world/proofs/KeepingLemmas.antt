@@ -8,19 +8,19 @@ use Rattle.kp_accum.specs.Queue.{Pending, joins, with_item, joined_by, begun_by,
 use Rattle.kp_accum.specs.Ready.{is_late}
 use Rattle.kp_frames.specs.declared.produce.PartitionProduceResponse.{PartitionProduceResponse}
 use Rattle.kp_log.proofs.PlaceLemmas.{In}
-use Rattle.kp_core.specs.Fence.{fence, give_up}
-use Rattle.kp_core.specs.declared.attempt.Attempt.TheVariants.{Waiting}
-use Rattle.kp_core.specs.declared.meaning.Meaning.{Meaning}
-use Rattle.kp_core.specs.declared.outcome.Reason.{Reason}
-use Rattle.kp_core.specs.declared.meaning.Meaning.TheVariants.{Stored, Duplicate, Retry, Reject}
-use Rattle.kp_core.specs.Appending.{enqueue}
-use Rattle.kp_core.specs.Attempts.{awaits}
-use Rattle.kp_core.specs.Dropping.{drop_attempt, drop_attempts}
-use Rattle.kp_core.specs.Flush.{mark_open, mark}
-use Rattle.kp_core.specs.Records.{HandedBatch, Open, Partition, Told}
-use Rattle.kp_core.specs.Settling.{without_attempt, put_off, acknowledge, settle_by}
-use Rattle.kp_core.specs.Tick.{behind_late, expire_front}
-use Rattle.kp_core.proofs.ListLemmas.{all_filter, all_map}
+use Rattle.kp_rules.specs.Fence.{fence, give_up}
+use Rattle.kp_rules.specs.declared.attempt.Attempt.TheVariants.{Waiting}
+use Rattle.kp_rules.specs.declared.meaning.Meaning.{Meaning}
+use Rattle.kp_rules.specs.declared.outcome.Reason.{Reason}
+use Rattle.kp_rules.specs.declared.meaning.Meaning.TheVariants.{Stored, Duplicate, Retry, Reject}
+use Rattle.kp_rules.specs.Appending.{enqueue}
+use Rattle.kp_rules.specs.Attempts.{awaits}
+use Rattle.kp_rules.specs.Dropping.{drop_attempt, drop_attempts}
+use Rattle.kp_rules.specs.Flush.{mark_open, mark}
+use Rattle.kp_rules.specs.Records.{HandedBatch, Open, Partition, Told}
+use Rattle.kp_rules.specs.Settling.{without_attempt, put_off, acknowledge, settle_by}
+use Rattle.kp_rules.specs.Tick.{behind_late, expire_front}
+use Rattle.kp_rules.proofs.ListLemmas.{all_filter, all_map}
 
 -- ---- one partition
 

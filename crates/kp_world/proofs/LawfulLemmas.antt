@@ -1,8 +1,8 @@
 -- What holds of every world of a run, for any honest broker; and that it holds still when the core was
 -- called, and when a request has gone out.
-use Rattle.kp_core.specs.Attempts.{asks_for_id}
-use Rattle.kp_core.specs.Records.{Request}
-use Rattle.kp_core.specs.Requesting.{go_out}
+use Rattle.kp_rules.specs.Attempts.{asks_for_id}
+use Rattle.kp_rules.specs.Records.{Request}
+use Rattle.kp_rules.specs.Requesting.{go_out}
 use Rattle.std.proofs.Common.{◌≡◌, ◌⊎◌, ℕ, ◌+◌, ◌<◌, ◌≤◌, Bool, true, false, List, [], ◌∷◌, ◌++◌, length, Some, None, refl, sym, ap, ◌∙◌, subst, inl, inr, ⊎_elim, arith}
 use Rattle.std.specs.Prelude.{Option, if◌then◌else◌, ◌&&◌}
 use Rattle.std.specs.List.{AllByRecursion}
@@ -14,16 +14,16 @@ use Rattle.kp_accum.specs.Ready.{is_ready}
 use Rattle.kp_log.specs.HandedOver.{IsStored}
 use Rattle.kp_log.specs.History.{History}
 use Rattle.kp_log.proofs.PlaceLemmas.{In, In-head, In-append_left, In-append_right}
-use Rattle.kp_core.proofs.CallLemmas.{at_request}
-use Rattle.kp_core.proofs.SendingLemmas.{IsSent, demand_is_sent}
-use Rattle.kp_core.specs.Requesting.{request_step}
-use Rattle.kp_core.specs.Attempts.{lowest_waiting}
-use Rattle.kp_core.specs.HandingOver.{hand_over_in, send_in}
-use Rattle.kp_core.specs.MaySend.{is_rested, is_confirmed, is_in_span, is_within_limit, may_hand_over, new_batch, sends}
-use Rattle.kp_core.specs.Next.{Sending, flags_of, next_demand}
-use Rattle.kp_core.specs.Partitions.{partition_at, is_in}
-use Rattle.kp_core.specs.Records.{Demand, Produce, InitProducerId, HandedBatch, Open, Partition, Core}
-use Rattle.kp_core.specs.Requesting.{Packet, Requested, partitions_in, sent_out}
+use Rattle.kp_rules.proofs.CallLemmas.{at_request}
+use Rattle.kp_rules.proofs.SendingLemmas.{IsSent, demand_is_sent}
+use Rattle.kp_rules.specs.Requesting.{request_step}
+use Rattle.kp_rules.specs.Attempts.{lowest_waiting}
+use Rattle.kp_rules.specs.HandingOver.{hand_over_in, send_in}
+use Rattle.kp_rules.specs.MaySend.{is_rested, is_confirmed, is_in_span, is_within_limit, may_hand_over, new_batch, sends}
+use Rattle.kp_rules.specs.Next.{Sending, flags_of, next_demand}
+use Rattle.kp_rules.specs.Partitions.{partition_at, is_in}
+use Rattle.kp_rules.specs.Records.{Demand, Produce, InitProducerId, HandedBatch, Open, Partition, Core}
+use Rattle.kp_rules.specs.Requesting.{Packet, Requested, partitions_in, sent_out}
 use Rattle.kp_world.specs.Client.{grown_by, handed_at, with_sendings, sending}
 use Rattle.kp_world.specs.Delivering.{log_at, given}
 use Rattle.kp_world.specs.Message.{sent_of}
@@ -31,12 +31,12 @@ use Rattle.kp_world.specs.Noting.{noted}
 use Rattle.kp_world.specs.World.{Reply, World}
 use Rattle.kp_world.proofs.BrokerLemmas.{AllAgree, Agrees, PartAgrees}
 use Rattle.kp_world.proofs.FlightLemmas.{sent_again_in, Says, Steady, steady_kept, steady_passed_by, steady_again, steady_handed, Carries, says_same}
-use Rattle.kp_core.proofs.PartitionLemmas.{length-changed_at}
+use Rattle.kp_rules.proofs.PartitionLemmas.{length-changed_at}
 use Rattle.kp_world.proofs.LeavingLemmas.{CoreLeaves}
 use Rattle.kp_world.proofs.RequestLemmas.{Only, not_in_request, at_sent_out, grown_known, grown_new, length-with_sendings}
 use Rattle.kp_world.proofs.SendingLemmas.{find_open, opens_again}
 use Rattle.kp_world.proofs.SoundLemmas.{Sound, sound_kept, sound_handed}
-use Rattle.kp_core.proofs.ListLemmas.{all_weaker}
+use Rattle.kp_rules.proofs.ListLemmas.{all_weaker}
 use Rattle.kp_world.proofs.ListLemmas.{all_at, all_in, one_more}
 
 -- ---- packets and replies

@@ -1,13 +1,13 @@
 -- What a call on the core leaves of each partition, where it acknowledges only batches that are stored: the other batches
 -- stay open unless the partition is fenced, in their order, and none is in flight that was not. Only handing over, and a
 -- fresh id, do more.
-use Rattle.kp_core.specs.Closing.{end_all}
-use Rattle.kp_core.specs.Attempts.{is_live}
-use Rattle.kp_core.specs.Records.{Request, quietly}
-use Rattle.kp_core.proofs.OutcomeLemmas.{by_attempt}
-use Rattle.kp_core.proofs.PartitionLemmas.{one_changed}
-use Rattle.kp_core.specs.Records.{Called}
-use Rattle.kp_core.specs.Tick.{tick_partitions}
+use Rattle.kp_rules.specs.Closing.{end_all}
+use Rattle.kp_rules.specs.Attempts.{is_live}
+use Rattle.kp_rules.specs.Records.{Request, quietly}
+use Rattle.kp_rules.proofs.OutcomeLemmas.{by_attempt}
+use Rattle.kp_rules.proofs.PartitionLemmas.{one_changed}
+use Rattle.kp_rules.specs.Records.{Called}
+use Rattle.kp_rules.specs.Tick.{tick_partitions}
 use Rattle.std.proofs.Common.{◌≡◌, ◌⊎◌, ℕ, ◌<◌, Bool, true, false, not, cond, List, [], ◌∷◌, length, map, Some, None, refl, sym, ap, ◌∙◌, subst, inl, inr, ⊎_elim}
 use Rattle.std.specs.Prelude.{Option, if◌then◌else◌, ◌==◌, ◌||◌}
 use Rattle.std.specs.List.{AllByRecursion, filter, list_any}
@@ -17,31 +17,31 @@ use Rattle.kp_accum.specs.declared.config.Config.{Config}
 use Rattle.kp_accum.specs.declared.item.Item.{Item}
 use Rattle.kp_frames.specs.declared.produce.PartitionProduceResponse.{PartitionProduceResponse}
 use Rattle.kp_log.proofs.PlaceLemmas.{In, In-nil, In-cons, In-head, In-tail, In-filter}
-use Rattle.kp_core.proofs.CallLemmas.{at_append, at_tick}
-use Rattle.kp_core.specs.declared.outcome.Reason.{Reason}
-use Rattle.kp_core.specs.declared.outcome.Reason.TheVariants as reason
-use Rattle.kp_core.specs.Appending.{append_step}
-use Rattle.kp_core.specs.Closing.{close_step, end_step}
-use Rattle.kp_core.specs.Dropping.{drop_requests}
-use Rattle.kp_core.specs.Fence.{fence, give_up}
-use Rattle.kp_core.specs.Flush.{flush_step}
-use Rattle.kp_core.specs.Tick.{tick_step, heed_deadlines}
-use Rattle.kp_core.specs.declared.attempt.Attempt.{Attempt}
-use Rattle.kp_core.specs.declared.attempt.Attempt.TheVariants.{InFlight, Waiting}
-use Rattle.kp_core.specs.declared.meaning.Meaning.{Meaning}
-use Rattle.kp_core.specs.declared.meaning.Meaning.TheVariants.{Stored, Duplicate, Retry, Reject}
-use Rattle.kp_core.specs.Appending.{Appends, turn_away, enqueue}
-use Rattle.kp_core.specs.Attempts.{awaits, awaiting}
-use Rattle.kp_core.specs.Dropping.{drop_attempt, drop_attempts, disconnect_step}
-use Rattle.kp_core.specs.Flush.{mark_open, mark}
-use Rattle.kp_core.specs.Partitions.{partition_at, changed_at, new_partition, is_in, present_id}
-use Rattle.kp_core.specs.Records.{HandedBatch, Open, Partition, Core}
-use Rattle.kp_core.specs.Settling.{without_attempt, put_off, is_first_under_id, meaning_of, settle_by, settle_batch}
-use Rattle.kp_core.specs.Telling.{with_partitions, at_each}
-use Rattle.kp_core.specs.Tick.{Ticks, expire_front, is_open_late}
-use Rattle.kp_core.proofs.PartitionLemmas.{length-changed_at, at-changed_at}
+use Rattle.kp_rules.proofs.CallLemmas.{at_append, at_tick}
+use Rattle.kp_rules.specs.declared.outcome.Reason.{Reason}
+use Rattle.kp_rules.specs.declared.outcome.Reason.TheVariants as reason
+use Rattle.kp_rules.specs.Appending.{append_step}
+use Rattle.kp_rules.specs.Closing.{close_step, end_step}
+use Rattle.kp_rules.specs.Dropping.{drop_requests}
+use Rattle.kp_rules.specs.Fence.{fence, give_up}
+use Rattle.kp_rules.specs.Flush.{flush_step}
+use Rattle.kp_rules.specs.Tick.{tick_step, heed_deadlines}
+use Rattle.kp_rules.specs.declared.attempt.Attempt.{Attempt}
+use Rattle.kp_rules.specs.declared.attempt.Attempt.TheVariants.{InFlight, Waiting}
+use Rattle.kp_rules.specs.declared.meaning.Meaning.{Meaning}
+use Rattle.kp_rules.specs.declared.meaning.Meaning.TheVariants.{Stored, Duplicate, Retry, Reject}
+use Rattle.kp_rules.specs.Appending.{Appends, turn_away, enqueue}
+use Rattle.kp_rules.specs.Attempts.{awaits, awaiting}
+use Rattle.kp_rules.specs.Dropping.{drop_attempt, drop_attempts, disconnect_step}
+use Rattle.kp_rules.specs.Flush.{mark_open, mark}
+use Rattle.kp_rules.specs.Partitions.{partition_at, changed_at, new_partition, is_in, present_id}
+use Rattle.kp_rules.specs.Records.{HandedBatch, Open, Partition, Core}
+use Rattle.kp_rules.specs.Settling.{without_attempt, put_off, is_first_under_id, meaning_of, settle_by, settle_batch}
+use Rattle.kp_rules.specs.Telling.{with_partitions, at_each}
+use Rattle.kp_rules.specs.Tick.{Ticks, expire_front, is_open_late}
+use Rattle.kp_rules.proofs.PartitionLemmas.{length-changed_at, at-changed_at}
 use Rattle.kp_world.proofs.KeepingLemmas.{Keeps, keeps_same, keeps_more, keeps_dropped, keeps_marked, keeps_queued, keeps_fenced, keeps_given_up, keeps_expired, keeps_without, keeps_settled}
-use Rattle.kp_core.proofs.ListLemmas.{all_filter, all_map}
+use Rattle.kp_rules.proofs.ListLemmas.{all_filter, all_map}
 use Rattle.kp_world.proofs.ListLemmas.{found_in, left_in}
 
 -- ---- open batches

@@ -3,7 +3,7 @@ use Rattle.std.proofs.Common.{◌≡◌, ◌⊎◌, ℕ, suc, zero, Bool, true, 
 use Rattle.std.specs.Prelude.{find, filter, slice_get}
 use Rattle.std.specs.List.{AllByRecursion}
 use Rattle.std.proofs.lemmas.List.{map-append}
-use Rattle.kp_core.proofs.ListLemmas.{found, filtered}
+use Rattle.kp_rules.proofs.ListLemmas.{found, filtered}
 use Rattle.kp_log.proofs.PlaceLemmas.{In-from_contains, contains_from_In, In, In-nil, In-cons, In-head, In-tail, In-append_cases}
 
 pub In-map : {A B : Type 0} (f : A → B) (x : A) (xs : List A) → In x xs → In (f x) (map f xs)

@@ -5,10 +5,10 @@ use Rattle.kp_accum.specs.declared.config.Config.{Config}
 use Rattle.kp_log.specs.BrokerStep.{MayAppend}
 use Rattle.kp_log.specs.History.{with_batch, records_of}
 use Rattle.kp_log.proofs.PlaceLemmas.{In, In-from_contains}
-use Rattle.kp_core.specs.Attempts.{awaits, awaiting}
-use Rattle.kp_core.specs.Next.{Sending}
-use Rattle.kp_core.specs.Partitions.{present_id}
-use Rattle.kp_core.specs.Records.{Produce, Open}
+use Rattle.kp_rules.specs.Attempts.{awaits, awaiting}
+use Rattle.kp_rules.specs.Next.{Sending}
+use Rattle.kp_rules.specs.Partitions.{present_id}
+use Rattle.kp_rules.specs.Records.{Produce, Open}
 use Rattle.kp_world.specs.declared.event.Event.{Event}
 use Rattle.kp_world.specs.Client.{handed_at}
 use Rattle.kp_world.specs.Delivering.{log_at}

@@ -18,11 +18,11 @@ use Rattle.kp_log.specs.History.{History, stored_of, records_of, with_batch, wit
 use Rattle.kp_log.specs.Log.{count_of, stored_as}
 use Rattle.kp_log.proofs.LogLemmas.{count_of-append, count_of_own, int_eq_same}
 use Rattle.kp_log.proofs.PlaceLemmas.{In, In-nil, In-cons, In-append_right, cut_cases}
-use Rattle.kp_core.specs.Replies.{go_on_under}
-use Rattle.kp_core.specs.HandingOver.{hand_over_in}
-use Rattle.kp_core.specs.MaySend.{is_confirmed, new_batch}
-use Rattle.kp_core.specs.Partitions.{new_partition, present_id}
-use Rattle.kp_core.specs.Records.{HandedBatch, Open, Partition}
+use Rattle.kp_rules.specs.Replies.{go_on_under}
+use Rattle.kp_rules.specs.HandingOver.{hand_over_in}
+use Rattle.kp_rules.specs.MaySend.{is_confirmed, new_batch}
+use Rattle.kp_rules.specs.Partitions.{new_partition, present_id}
+use Rattle.kp_rules.specs.Records.{HandedBatch, Open, Partition}
 use Rattle.kp_world.specs.Message.{sent_of}
 use Rattle.kp_world.proofs.LeavingLemmas.{Leaves}
 use Rattle.kp_world.proofs.SoundLemmas.{Sound, sents, last_is}

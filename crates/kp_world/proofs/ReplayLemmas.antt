@@ -8,11 +8,11 @@ use Rattle.kp_log.specs.BrokerStep.{BrokerStep}
 use Rattle.kp_log.specs.History.{History}
 use Rattle.kp_log.proofs.LoopbackLemmas.{loopback_step, late_step}
 use Rattle.kp_log.proofs.PlaceLemmas.{In, In-head, In-tail, contains_from_In, In-append_left}
-use Rattle.kp_core.specs.Requesting.{request_step}
-use Rattle.kp_core.specs.Next.{Sending}
-use Rattle.kp_core.specs.Partitions.{partition_at}
-use Rattle.kp_core.specs.Records.{Demand, Produce, InitProducerId, HandedBatch, Partition, Core}
-use Rattle.kp_core.specs.Requesting.{Packet}
+use Rattle.kp_rules.specs.Requesting.{request_step}
+use Rattle.kp_rules.specs.Next.{Sending}
+use Rattle.kp_rules.specs.Partitions.{partition_at}
+use Rattle.kp_rules.specs.Records.{Demand, Produce, InitProducerId, HandedBatch, Partition, Core}
+use Rattle.kp_rules.specs.Requesting.{Packet}
 use Rattle.kp_world.specs.declared.event.Event.{Event}
 use Rattle.kp_world.specs.declared.event.Event.TheVariants as event
 use Rattle.kp_world.specs.declared.event.Treatment.{Treatment}
@@ -31,7 +31,7 @@ use Rattle.kp_world.proofs.FlightLemmas.{Carried}
 use Rattle.kp_world.proofs.LawfulLemmas.{IsLawfulWithin}
 use Rattle.kp_world.proofs.RunLemmas.{parts_known, lawful_step, lawful_opening_within}
 use Rattle.kp_world.proofs.SoundLemmas.{Sound, sents}
-use Rattle.kp_core.proofs.ListLemmas.{all_weaker}
+use Rattle.kp_rules.proofs.ListLemmas.{all_weaker}
 use Rattle.kp_world.proofs.ListLemmas.{In-map, in_at}
 use Rattle.kp_wire.proofs.ListLemmas.{all_append}
 

@@ -5,16 +5,16 @@ use Rattle.std.specs.List.{AllByRecursion}
 use Rattle.std.proofs.lemmas.Bool.{eqb-true, eq-eqb, eqb-false}
 use Rattle.std.proofs.lemmas.List.{length-set, get_or-set_same, get_or-set_other}
 use Rattle.kp_log.proofs.PlaceLemmas.{In, In-nil, In-cons, In-head, In-tail}
-use Rattle.kp_core.proofs.SendingLemmas.{IsSent}
-use Rattle.kp_core.specs.HandingOver.{send_in}
-use Rattle.kp_core.specs.MaySend.{sends}
-use Rattle.kp_core.specs.Next.{Sending, flags_of}
-use Rattle.kp_core.specs.Partitions.{partition_at, is_in}
-use Rattle.kp_core.specs.Records.{Produce, HandedBatch, Partition, Core}
-use Rattle.kp_core.specs.Requesting.{partitions_in, sent_out}
+use Rattle.kp_rules.proofs.SendingLemmas.{IsSent}
+use Rattle.kp_rules.specs.HandingOver.{send_in}
+use Rattle.kp_rules.specs.MaySend.{sends}
+use Rattle.kp_rules.specs.Next.{Sending, flags_of}
+use Rattle.kp_rules.specs.Partitions.{partition_at, is_in}
+use Rattle.kp_rules.specs.Records.{Produce, HandedBatch, Partition, Core}
+use Rattle.kp_rules.specs.Requesting.{partitions_in, sent_out}
 use Rattle.kp_world.specs.Client.{grown_by, handed_at, with_sending, with_sendings}
-use Rattle.kp_core.proofs.PartitionLemmas.{at-changed_at}
-use Rattle.kp_core.proofs.ListLemmas.{all_weaker}
+use Rattle.kp_rules.proofs.PartitionLemmas.{at-changed_at}
+use Rattle.kp_rules.proofs.ListLemmas.{all_weaker}
 use Rattle.kp_world.proofs.ListLemmas.{all_at, all_in}
 
 -- ---- which partitions are in a request

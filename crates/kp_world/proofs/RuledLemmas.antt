@@ -1,10 +1,10 @@
 -- Whatever an event tells is told by a call on the core, and so a case of the outcome rule.
 use Rattle.std.proofs.Common.{◌≡◌, true, List, [], ◌∷◌, refl, ap, ◌++◌}
-use Rattle.kp_core.specs.Requesting.{request_step}
-use Rattle.kp_core.specs.Dropping.{disconnect_step}
-use Rattle.kp_core.specs.Flush.{flush_step}
-use Rattle.kp_core.specs.OutcomeRule.{Telling, MayTell, told_in}
-use Rattle.kp_core.specs.Records.{Core, Told}
+use Rattle.kp_rules.specs.Requesting.{request_step}
+use Rattle.kp_rules.specs.Dropping.{disconnect_step}
+use Rattle.kp_rules.specs.Flush.{flush_step}
+use Rattle.kp_rules.specs.OutcomeRule.{Telling, MayTell, told_in}
+use Rattle.kp_rules.specs.Records.{Core, Told}
 use Rattle.kp_world.specs.declared.event.Event.{Event}
 use Rattle.kp_world.specs.Accepting.{item_for, with_accepted, with_taken}
 use Rattle.kp_world.specs.Client.{with_packet, flush_line}
@@ -14,11 +14,11 @@ use Rattle.kp_world.specs.Noting.{noted, ends_flush}
 use Rattle.kp_world.specs.Run.{with_delivery, Steps}
 use Rattle.kp_world.specs.World.{Reply, World, Happened}
 use Rattle.std.specs.List.{AllByRecursion}
-use Rattle.kp_core.specs.OutcomeRule as call
-use Rattle.kp_core.proofs.OutcomeLemmas.{each_outcome}
+use Rattle.kp_rules.specs.OutcomeRule as call
+use Rattle.kp_rules.proofs.OutcomeLemmas.{each_outcome}
 use Rattle.kp_world.specs.Causes.{MayBeTold, TellsByRule}
 use Rattle.kp_world.specs.Message.{response_of}
-use Rattle.kp_core.proofs.ListLemmas.{all_weaker}
+use Rattle.kp_rules.proofs.ListLemmas.{all_weaker}
 use Rattle.kp_world.proofs.EventLemmas.{at_sent, at_taken, OfEvent, at_step}
 use Rattle.kp_world.proofs.ListLemmas.{in_at}
 use Rattle.kp_log.proofs.PlaceLemmas.{In}

@@ -12,16 +12,16 @@ use Rattle.kp_accum.specs.Config.{is_outside, checked}
 use Rattle.kp_log.specs.History.{History, empty_history, with_others}
 use Rattle.kp_log.proofs.KeepingLemmas.{came_others}
 use Rattle.kp_log.proofs.PlaceLemmas.{In, In-nil, In-head, In-append_left, In-append_right}
-use Rattle.kp_core.specs.Closing.{close_step, end_step}
-use Rattle.kp_core.specs.Flush.{flush_step}
-use Rattle.kp_core.specs.Tick.{tick_step}
-use Rattle.kp_core.specs.Appending.{append_step}
-use Rattle.kp_core.specs.Dropping.{disconnect_step}
-use Rattle.kp_core.specs.Next.{Sending}
-use Rattle.kp_core.specs.Opening.{new_core}
-use Rattle.kp_core.specs.Partitions.{partition_at, new_partition}
-use Rattle.kp_core.specs.Records.{Demand, Produce, InitProducerId, HandedBatch, Partition, Core}
-use Rattle.kp_core.specs.Requesting.{Packet}
+use Rattle.kp_rules.specs.Closing.{close_step, end_step}
+use Rattle.kp_rules.specs.Flush.{flush_step}
+use Rattle.kp_rules.specs.Tick.{tick_step}
+use Rattle.kp_rules.specs.Appending.{append_step}
+use Rattle.kp_rules.specs.Dropping.{disconnect_step}
+use Rattle.kp_rules.specs.Next.{Sending}
+use Rattle.kp_rules.specs.Opening.{new_core}
+use Rattle.kp_rules.specs.Partitions.{partition_at, new_partition}
+use Rattle.kp_rules.specs.Records.{Demand, Produce, InitProducerId, HandedBatch, Partition, Core}
+use Rattle.kp_rules.specs.Requesting.{Packet}
 use Rattle.kp_world.specs.declared.event.Event.{Event}
 use Rattle.kp_world.specs.Accepting.{taking}
 use Rattle.kp_world.specs.Client.{handed_at}

@@ -3,10 +3,10 @@
 use Rattle.std.proofs.Common.{◌≡◌, ℕ, List, Some}
 use Rattle.std.specs.Prelude.{find}
 use Rattle.kp_log.proofs.PlaceLemmas.{In}
-use Rattle.kp_core.proofs.SendingLemmas.{all_again}
-use Rattle.kp_core.specs.Attempts.{is_waiting}
-use Rattle.kp_core.specs.HandingOver.{send_again_in}
-use Rattle.kp_core.specs.Records.{HandedBatch, Open}
+use Rattle.kp_rules.proofs.SendingLemmas.{all_again}
+use Rattle.kp_rules.specs.Attempts.{is_waiting}
+use Rattle.kp_rules.specs.HandingOver.{send_again_in}
+use Rattle.kp_rules.specs.Records.{HandedBatch, Open}
 use Rattle.kp_world.proofs.KeepingLemmas.{OpenIn}
 use Rattle.kp_world.proofs.ListLemmas.{all_at}
 use Rattle.kp_world.proofs.ListLemmas.{found_in}

@@ -13,14 +13,14 @@ use Rattle.kp_log.proofs.KeepingLemmas.{nothing_handed, one_more_handed, came_em
 use Rattle.kp_log.proofs.LogLemmas.{count_of-append, count_of_own, count_of_others}
 use Rattle.kp_log.proofs.PlaceLemmas.{In, In-nil, In-head, In-tail, In-append_left, In-append_right}
 use Rattle.kp_log.proofs.SequenceLemmas.{ids_apart}
-use Rattle.kp_core.specs.Replies.{go_on_under}
-use Rattle.kp_core.specs.HandingOver.{opened_in, hand_over_in}
-use Rattle.kp_core.specs.MaySend.{new_batch}
-use Rattle.kp_core.specs.Partitions.{new_partition, present_id}
-use Rattle.kp_core.specs.Records.{HandedBatch, Open, Partition}
+use Rattle.kp_rules.specs.Replies.{go_on_under}
+use Rattle.kp_rules.specs.HandingOver.{opened_in, hand_over_in}
+use Rattle.kp_rules.specs.MaySend.{new_batch}
+use Rattle.kp_rules.specs.Partitions.{new_partition, present_id}
+use Rattle.kp_rules.specs.Records.{HandedBatch, Open, Partition}
 use Rattle.kp_world.specs.Message.{sent_of}
 use Rattle.kp_world.proofs.KeepingLemmas.{HasItems, OpenIn, Keeps}
-use Rattle.kp_core.proofs.ListLemmas.{all_weaker}
+use Rattle.kp_rules.proofs.ListLemmas.{all_weaker}
 use Rattle.kp_world.proofs.ListLemmas.{one_more}
 use Rattle.kp_wire.proofs.ListLemmas.{all_append}
 

@@ -16,7 +16,7 @@ use Rattle.kp_log.specs.History.{History, stored_of, records_of, own, is_under}
 use Rattle.kp_log.specs.Log.{count_of, stored_as}
 use Rattle.kp_log.proofs.LogLemmas.{length-stored_as, int_eq_same}
 use Rattle.kp_log.proofs.PlaceLemmas.{In, In-from_contains, contains_from_In, cut_cases}
-use Rattle.kp_core.specs.Records.{HandedBatch, Partition, Told}
+use Rattle.kp_rules.specs.Records.{HandedBatch, Partition, Told}
 use Rattle.kp_world.specs.declared.event.Event.{Event}
 use Rattle.kp_world.specs.Client.{handed_at}
 use Rattle.kp_world.specs.Delivering.{log_at}

@@ -1,6 +1,6 @@
 -- What was taken is accounted for still when an item is accepted, and when one is taken.
 use Rattle.kp_world.proofs.TellingLemmas.{HasDistinct}
-use Rattle.kp_core.proofs.PartitionLemmas.{one_changed}
+use Rattle.kp_rules.proofs.PartitionLemmas.{one_changed}
 use Rattle.std.proofs.Common.{◌≡◌, ℕ, zero, suc, ◌+◌, ◌<◌, ◌≤◌, Bool, true, false, cond, List, [], ◌∷◌, ◌++◌, length, get_or, take, Some, refl, sym, ap, ◌∙◌, subst, arith, append_assoc, length-append}
 use Rattle.std.specs.Prelude.{flat_map, if◌then◌else◌, slice_get, slice_set, slice_index, slice_index_or, ◌==◌, ◌||◌}
 use Rattle.std.specs.List.{AllByRecursion, range_with_len}
@@ -9,12 +9,12 @@ use Rattle.std.proofs.lemmas.List.{append-nil, length-set, get_or-set_same, get_
 use Rattle.kp_accum.specs.declared.config.Config.{Config}
 use Rattle.kp_accum.specs.declared.item.Item.{Item}
 use Rattle.kp_accum.specs.Queue.{Pending, joins, joined_by, begun_by, with_item}
-use Rattle.kp_core.specs.declared.outcome.Outcome.TheVariants.{Unsent}
-use Rattle.kp_core.specs.declared.outcome.Reason.{Reason}
-use Rattle.kp_core.specs.Appending.{enqueue, with_queued}
-use Rattle.kp_core.specs.Partitions.{new_partition, partition_at, changed_at, is_in, items_open, items_queued, untold}
-use Rattle.kp_core.specs.Records.{HandedBatch, Partition, Core, Told}
-use Rattle.kp_core.specs.Telling.{told_all}
+use Rattle.kp_rules.specs.declared.outcome.Outcome.TheVariants.{Unsent}
+use Rattle.kp_rules.specs.declared.outcome.Reason.{Reason}
+use Rattle.kp_rules.specs.Appending.{enqueue, with_queued}
+use Rattle.kp_rules.specs.Partitions.{new_partition, partition_at, changed_at, is_in, items_open, items_queued, untold}
+use Rattle.kp_rules.specs.Records.{HandedBatch, Partition, Core, Told}
+use Rattle.kp_rules.specs.Telling.{told_all}
 use Rattle.kp_world.specs.Accepting.{for_partition}
 use Rattle.kp_world.specs.Accounts.{of_sender, unsent_among}
 use Rattle.kp_world.specs.Client.{handed_at}
@@ -22,10 +22,10 @@ use Rattle.kp_world.proofs.AccountLemmas.{items_of, taken_for, taken_of, all_tak
 use Rattle.kp_world.proofs.ConservationLemmas.{items_told, unsent-append}
 use Rattle.kp_world.proofs.WeightLemmas.{weigh, weigh-append, weigh_at, weigh_flat, weigh_none}
 use Rattle.kp_world.proofs.FateLemmas.{filter_same, AreNumbered, numbered_more, numbered_back, Fates, fates_queued, fates_turned_away}
-use Rattle.kp_core.proofs.PartitionLemmas.{length-changed_at, at-changed_at}
+use Rattle.kp_rules.proofs.PartitionLemmas.{length-changed_at, at-changed_at}
 use Rattle.kp_world.proofs.TellingLemmas.{home_past, weigh_places}
 use Rattle.kp_log.proofs.PlaceLemmas.{In}
-use Rattle.kp_core.proofs.ListLemmas.{all_filter, all_say}
+use Rattle.kp_rules.proofs.ListLemmas.{all_filter, all_say}
 use Rattle.kp_world.proofs.ListLemmas.{all_at}
 use Rattle.kp_wire.proofs.ListLemmas.{all_append}
 

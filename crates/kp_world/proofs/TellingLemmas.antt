@@ -1,16 +1,16 @@
 -- What a call on the core tells of each partition's items, and what it keeps.
-use Rattle.kp_core.proofs.ListLemmas.{at_set}
-use Rattle.kp_core.specs.Attempts.{asks_for_id}
-use Rattle.kp_core.specs.Attempts.{partitions_of}
-use Rattle.kp_core.specs.Records.{Called}
-use Rattle.kp_core.specs.Records.{Demand}
+use Rattle.kp_rules.proofs.ListLemmas.{at_set}
+use Rattle.kp_rules.specs.Attempts.{asks_for_id}
+use Rattle.kp_rules.specs.Attempts.{partitions_of}
+use Rattle.kp_rules.specs.Records.{Called}
+use Rattle.kp_rules.specs.Records.{Demand}
 use Rattle.std.proofs.Common.{length-set}
-use Rattle.kp_core.specs.Fence.{give_up}
-use Rattle.kp_core.specs.InOrder.{AreDistinct}
-use Rattle.kp_core.specs.Mismatch.{entries_for}
-use Rattle.kp_core.specs.Partitions.{with_partition}
-use Rattle.kp_core.specs.Replies.{give_id}
-use Rattle.kp_core.specs.Replies.{settle_id}
+use Rattle.kp_rules.specs.Fence.{give_up}
+use Rattle.kp_rules.specs.InOrder.{AreDistinct}
+use Rattle.kp_rules.specs.Mismatch.{entries_for}
+use Rattle.kp_rules.specs.Partitions.{with_partition}
+use Rattle.kp_rules.specs.Replies.{give_id}
+use Rattle.kp_rules.specs.Replies.{settle_id}
 use Rattle.std.proofs.Common.{not}
 use Rattle.std.proofs.Common.{◌≡◌, ℕ, zero, suc, ◌+◌, ◌<◌, ◌≤◌, Bool, true, false, cond, List, [], ◌∷◌, ◌++◌, length, get_or, map, pos, Some, refl, sym, ap, ◌∙◌, subst, arith}
 use Rattle.std.specs.Prelude.{if◌then◌else◌, flat_map, nat_abs, ◌==◌, ◌||◌}
@@ -22,32 +22,32 @@ use Rattle.kp_accum.specs.declared.item.Item.{Item}
 use Rattle.kp_frames.specs.declared.producer_id.InitProducerIdResponse.{InitProducerIdResponse}
 use Rattle.kp_frames.specs.declared.produce.ProduceResponse.{ProduceResponse}
 use Rattle.kp_frames.specs.declared.response.Response.{Response}
-use Rattle.kp_core.proofs.CallLemmas.{at_close, at_disconnect, at_end_step, at_response, at_tick}
-use Rattle.kp_core.proofs.OutcomeLemmas.{by_entries, answered_so, in_flight}
-use Rattle.kp_core.specs.declared.outcome.Reason.TheVariants as reason
-use Rattle.kp_core.specs.Closing.{close_step, end_step}
-use Rattle.kp_core.specs.Flush.{flush_step}
-use Rattle.kp_core.specs.Replies.{response_step, go_on_under}
-use Rattle.kp_core.specs.Tick.{tick_step, heed_deadlines}
-use Rattle.kp_core.specs.Attempts.{awaiting, is_live}
-use Rattle.kp_core.specs.Causes.{IsAnswered}
-use Rattle.kp_core.specs.Dropping.{drop_attempts, disconnect_step, drop_requests}
-use Rattle.kp_core.specs.Flush.{mark}
-use Rattle.kp_core.specs.MaySend.{wants_id}
-use Rattle.kp_core.specs.Mismatch.{is_given}
-use Rattle.kp_core.specs.Partitions.{partition_at, changed_at, new_partition, is_in, untold}
-use Rattle.kp_core.specs.Records.{Open, Partition, Request, Core, Told, Effect}
-use Rattle.kp_core.specs.Replies.{Replies}
-use Rattle.kp_core.specs.Telling.{with_partitions, at_each, at_these}
-use Rattle.kp_core.specs.Tick.{Ticks}
+use Rattle.kp_rules.proofs.CallLemmas.{at_close, at_disconnect, at_end_step, at_response, at_tick}
+use Rattle.kp_rules.proofs.OutcomeLemmas.{by_entries, answered_so, in_flight}
+use Rattle.kp_rules.specs.declared.outcome.Reason.TheVariants as reason
+use Rattle.kp_rules.specs.Closing.{close_step, end_step}
+use Rattle.kp_rules.specs.Flush.{flush_step}
+use Rattle.kp_rules.specs.Replies.{response_step, go_on_under}
+use Rattle.kp_rules.specs.Tick.{tick_step, heed_deadlines}
+use Rattle.kp_rules.specs.Attempts.{awaiting, is_live}
+use Rattle.kp_rules.specs.Causes.{IsAnswered}
+use Rattle.kp_rules.specs.Dropping.{drop_attempts, disconnect_step, drop_requests}
+use Rattle.kp_rules.specs.Flush.{mark}
+use Rattle.kp_rules.specs.MaySend.{wants_id}
+use Rattle.kp_rules.specs.Mismatch.{is_given}
+use Rattle.kp_rules.specs.Partitions.{partition_at, changed_at, new_partition, is_in, untold}
+use Rattle.kp_rules.specs.Records.{Open, Partition, Request, Core, Told, Effect}
+use Rattle.kp_rules.specs.Replies.{Replies}
+use Rattle.kp_rules.specs.Telling.{with_partitions, at_each, at_these}
+use Rattle.kp_rules.specs.Tick.{Ticks}
 use Rattle.kp_world.proofs.ConservationLemmas.{items_told, attempt_count, Tells, tells_same, tells_both, tells_nothing, tells_dropped, tells_marked, tells_given_up, tells_passed, tells_answered}
 use Rattle.kp_world.proofs.FateLemmas.{filter_other, filter_same}
 use Rattle.kp_world.proofs.WeightLemmas.{weigh, weigh-append, weigh_at, weigh_none}
-use Rattle.kp_core.proofs.PartitionLemmas.{at-changed_at, length-changed_at}
+use Rattle.kp_rules.proofs.PartitionLemmas.{at-changed_at, length-changed_at}
 use Rattle.kp_frames.specs.declared.produce.PartitionProduceResponse.{PartitionProduceResponse}
-use Rattle.kp_core.proofs.OutcomeLemmas.{all_places}
-use Rattle.kp_core.proofs.ListLemmas.{all_flat_map}
-use Rattle.kp_core.proofs.ListLemmas.{all_filter, all_say, all_weaker}
+use Rattle.kp_rules.proofs.OutcomeLemmas.{all_places}
+use Rattle.kp_rules.proofs.ListLemmas.{all_flat_map}
+use Rattle.kp_rules.proofs.ListLemmas.{all_filter, all_say, all_weaker}
 use Rattle.kp_world.proofs.ListLemmas.{all_at}
 use Rattle.kp_log.proofs.PlaceLemmas.{In-from_contains}
 

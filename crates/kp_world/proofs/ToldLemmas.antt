@@ -6,14 +6,14 @@ use Rattle.std.proofs.lemmas.Bool.{and_parts, and_right, eqb-true, eqb-false, eq
 use Rattle.std.proofs.lemmas.List.{take-append-drop}
 use Rattle.kp_accum.specs.declared.item.Item.{Item}
 use Rattle.kp_accum.specs.Queue.{charge_of}
-use Rattle.kp_core.specs.Partitions.{untold, used}
+use Rattle.kp_rules.specs.Partitions.{untold, used}
 use Rattle.kp_world.specs.Accepting.{accepted_by, for_partition, taken_by}
 use Rattle.kp_world.specs.Accounts.{is_same, is_among, told_items, items_taken, IsToldOnce, IsUsedByUntold}
 use Rattle.kp_world.specs.World.{World}
 use Rattle.kp_world.proofs.AccountLemmas.{IsAccounted, partition-append}
 use Rattle.kp_world.proofs.FateLemmas.{any_itself, any_none, AreNumbered, numbered_above, numbered_front}
 use Rattle.kp_world.proofs.WeightLemmas.{weigh, none_counted, weigh_agrees, weigh_beyond, weigh_flat, weigh_none, sum_is}
-use Rattle.kp_core.proofs.ListLemmas.{all_say, all_take, all_weaker}
+use Rattle.kp_rules.proofs.ListLemmas.{all_say, all_take, all_weaker}
 
 -- ---- counting an item
 

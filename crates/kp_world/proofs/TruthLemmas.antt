@@ -6,10 +6,10 @@ use Rattle.kp_accum.specs.declared.config.Config.{Config}
 use Rattle.kp_log.specs.declared.stored.Stored.{Stored}
 use Rattle.kp_log.specs.History.{History, empty_history, with_others, NO_ID}
 use Rattle.kp_log.specs.Log.{stored_as}
-use Rattle.kp_core.specs.Requesting.{request_step}
-use Rattle.kp_core.specs.Next.{Sending}
-use Rattle.kp_core.specs.Records.{Demand, Produce, InitProducerId, HandedBatch}
-use Rattle.kp_core.specs.Requesting.{Packet}
+use Rattle.kp_rules.specs.Requesting.{request_step}
+use Rattle.kp_rules.specs.Next.{Sending}
+use Rattle.kp_rules.specs.Records.{Demand, Produce, InitProducerId, HandedBatch}
+use Rattle.kp_rules.specs.Requesting.{Packet}
 use Rattle.kp_world.specs.declared.event.Event.{Event}
 use Rattle.kp_world.specs.Delivering.{log_at, Delivery, Delivers}
 use Rattle.kp_world.specs.Loopback.{other_record, logs_with_others}
@@ -26,7 +26,7 @@ use Rattle.kp_world.proofs.DeliveredLemmas.{Truly, AllTruly, truly_grown, truly_
 use Rattle.kp_world.proofs.EventLemmas.{at_sent, at_taken, OfEvent, at_step, at_run}
 use Rattle.kp_world.proofs.LawfulLemmas.{IsLawful}
 use Rattle.kp_world.proofs.RuledLemmas.{MayBeToldIn, TellsIn, told_step}
-use Rattle.kp_core.proofs.ListLemmas.{at_set}
+use Rattle.kp_rules.proofs.ListLemmas.{at_set}
 use Rattle.kp_world.proofs.ListLemmas.{all_at, in_at, one_more}
 
 -- ---- what was handed over stays

@@ -4,8 +4,8 @@ use Rattle.kp_batch.specs.declared.record.Record.{Record}
 use Rattle.kp_accum.specs.declared.fault.AppendFault.{AppendFault}
 use Rattle.kp_accum.specs.declared.item.Item.{Item}
 use Rattle.kp_accum.specs.Queue.{charge_of}
-use Rattle.kp_core.specs.Appending.{append_step}
-use Rattle.kp_core.specs.Records.{Core, Told}
+use Rattle.kp_rules.specs.Appending.{append_step}
+use Rattle.kp_rules.specs.Records.{Core, Told}
 use Rattle.kp_world.specs.Line.{Closed, Large, Empty, Full}
 use Rattle.kp_world.specs.Noting.{noted, only_noted}
 use Rattle.kp_world.specs.World.{World}

@@ -3,11 +3,11 @@ use Rattle.std.specs.Prelude.{◌≡◌, ℕ, Bool, true, false, List, map, filt
 use Rattle.std.specs.List.{AllByRecursion, IsDistinct, list_any, range_with_len, sum_by}
 use Rattle.kp_accum.specs.declared.item.Item.{Item}
 use Rattle.kp_accum.specs.Queue.{charge_of}
-use Rattle.kp_core.specs.declared.outcome.Outcome.{Outcome}
-use Rattle.kp_core.specs.declared.outcome.Outcome.TheVariants.{Unsent}
-use Rattle.kp_core.specs.InOrder.{AreRising}
-use Rattle.kp_core.specs.Partitions.{partition_at, items_queued, used}
-use Rattle.kp_core.specs.Records.{Told}
+use Rattle.kp_rules.specs.declared.outcome.Outcome.{Outcome}
+use Rattle.kp_rules.specs.declared.outcome.Outcome.TheVariants.{Unsent}
+use Rattle.kp_rules.specs.InOrder.{AreRising}
+use Rattle.kp_rules.specs.Partitions.{partition_at, items_queued, used}
+use Rattle.kp_rules.specs.Records.{Told}
 use Rattle.kp_world.specs.Accepting.{accepted_by, for_partition, taken_by}
 use Rattle.kp_world.specs.Client.{handed_at}
 use Rattle.kp_world.specs.World.{World, Happened}

@@ -1,8 +1,8 @@
 -- Why an item is told what it is told, in every step that a world may take.
 use Rattle.std.specs.Prelude.{◌≡◌, [], ◌∷◌, ◌++◌}
 use Rattle.std.specs.List.{AllByRecursion}
-use Rattle.kp_core.specs.OutcomeRule.{Telling, MayTell}
-use Rattle.kp_core.specs.Records.{Core, Told}
+use Rattle.kp_rules.specs.OutcomeRule.{Telling, MayTell}
+use Rattle.kp_rules.specs.Records.{Core, Told}
 use Rattle.kp_world.specs.World.{World, Happened}
 
 -- some call on the core may tell it, by the outcome rule

@@ -1,18 +1,18 @@
 -- The producer's events. Each is a function of the world; None where it names what isn't there, or
 -- is the broker's.
 use Rattle.std.specs.Prelude.{ℕ, Bool, true, not, List, [], ◌∷◌, ◌++◌, map, length, Option, Some, None, Result, Ok, Err, slice_get, slice_set, slice_index_or, nat_lt, ◌==◌, ◌&&◌, if◌then◌else◌}
-use Rattle.kp_core.specs.declared.fault.CoreFault.{CoreFault}
-use Rattle.kp_core.specs.declared.fault.CoreFault.TheVariants as fault
-use Rattle.kp_core.specs.declared.ticked.Replied.{Replied}
-use Rattle.kp_core.specs.Closing.{close_step, end_step}
-use Rattle.kp_core.specs.Dropping.{disconnect_step}
-use Rattle.kp_core.specs.Flush.{flush_step}
-use Rattle.kp_core.specs.Next.{Sending}
-use Rattle.kp_core.specs.Partitions.{is_empty, all_untold}
-use Rattle.kp_core.specs.Records.{Demand, Produce, InitProducerId, HandedBatch, Core}
-use Rattle.kp_core.specs.Replies.{response_step}
-use Rattle.kp_core.specs.Requesting.{Packet, request_step}
-use Rattle.kp_core.specs.Tick.{Ticks, tick_step}
+use Rattle.kp_rules.specs.declared.fault.CoreFault.{CoreFault}
+use Rattle.kp_rules.specs.declared.fault.CoreFault.TheVariants as fault
+use Rattle.kp_rules.specs.declared.ticked.Replied.{Replied}
+use Rattle.kp_rules.specs.Closing.{close_step, end_step}
+use Rattle.kp_rules.specs.Dropping.{disconnect_step}
+use Rattle.kp_rules.specs.Flush.{flush_step}
+use Rattle.kp_rules.specs.Next.{Sending}
+use Rattle.kp_rules.specs.Partitions.{is_empty, all_untold}
+use Rattle.kp_rules.specs.Records.{Demand, Produce, InitProducerId, HandedBatch, Core}
+use Rattle.kp_rules.specs.Replies.{response_step}
+use Rattle.kp_rules.specs.Requesting.{Packet, request_step}
+use Rattle.kp_rules.specs.Tick.{Ticks, tick_step}
 use Rattle.kp_world.specs.declared.event.Event.{Event}
 use Rattle.kp_world.specs.declared.event.Event.TheVariants as event
 use Rattle.kp_world.specs.Accepting.{accepting, item_for, accepted_by, taking, taken_by}

@@ -3,8 +3,8 @@ use Rattle.std.specs.Prelude.{◌≡◌, ◌⊎◌, ℕ, pos, List, [], ◌∷�
 use Rattle.std.specs.List.{AllByRecursion}
 use Rattle.kp_log.specs.BrokerStep.{BrokerStep}
 use Rattle.kp_log.specs.History.{History, empty_history}
-use Rattle.kp_core.specs.Next.{Sending}
-use Rattle.kp_core.specs.Records.{Demand, Produce, InitProducerId}
+use Rattle.kp_rules.specs.Next.{Sending}
+use Rattle.kp_rules.specs.Records.{Demand, Produce, InitProducerId}
 use Rattle.kp_world.specs.Message.{sent_of}
 use Rattle.kp_world.specs.World.{PartAnswer, ReplyContent, Batches, Id, World}
 

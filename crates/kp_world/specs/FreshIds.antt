@@ -2,8 +2,8 @@
 use Rattle.std.specs.Prelude.{◌≡◌, ℕ, pos, ◌<◌, List, ◌++◌, length, map, Contains}
 use Rattle.kp_log.specs.HandedOver.{AreInSequence}
 use Rattle.kp_log.specs.Log.{count_of}
-use Rattle.kp_core.specs.Partitions.{present_id}
-use Rattle.kp_core.specs.Records.{HandedBatch}
+use Rattle.kp_rules.specs.Partitions.{present_id}
+use Rattle.kp_rules.specs.Records.{HandedBatch}
 use Rattle.kp_world.specs.Client.{handed_at}
 use Rattle.kp_world.specs.Delivering.{log_at}
 use Rattle.kp_world.specs.LogLaws.{partition_of, own_records, as_stored}

@@ -1,7 +1,7 @@
 -- The lines in which a world tells what happened, and what it comes to.
 use Rattle.std.specs.Prelude.{ℕ, List, ℤ}
-use Rattle.kp_core.specs.declared.audit.Run.{Run}
-use Rattle.kp_core.specs.declared.outcome.Report.{Report}
+use Rattle.kp_rules.specs.declared.run.Run.{Run}
+use Rattle.kp_rules.specs.declared.outcome.Report.{Report}
 
 -- A part of a packet: its partition, base sequence and count. A part of a reply: its partition,
 -- code and base offset.

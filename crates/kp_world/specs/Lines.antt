@@ -3,9 +3,9 @@ use Rattle.std.specs.Prelude.{ℕ, List, [], ◌∷◌, ◌++◌, map, flat_map,
 use Rattle.std.specs.List.{enumerate_from, range_with_len}
 use Rattle.kp_log.specs.declared.stored.Stored.{Stored}
 use Rattle.kp_log.specs.History.{History, is_under}
-use Rattle.kp_core.specs.Partitions.{partition_at}
-use Rattle.kp_core.specs.Records.{Partition, Told}
-use Rattle.kp_core.specs.Reports.{reports_to}
+use Rattle.kp_rules.specs.Partitions.{partition_at}
+use Rattle.kp_rules.specs.Records.{Partition, Told}
+use Rattle.kp_rules.specs.Reports.{reports_to}
 use Rattle.kp_world.specs.Line.{Line, Reported, Logged, LoggedOther, Audited, Flushed}
 use Rattle.kp_world.specs.World.{World, Happened}
 
@@ -32,7 +32,7 @@ abbrev pub log_lines : List Partition → (ℕ × History) → List Line
 log_lines ts x = map (log_line x.0 (partition_at x.0 ts)) (enumerate_from 0 x.1.records)
 
 abbrev pub audit_lines : (ℕ × Partition) → List Line
-audit_lines x = map (Audited x.0) x.1.audit
+audit_lines x = map (Audited x.0) (unwrap_or x.1.audit [])
 
 -- ---- all
 

@@ -4,12 +4,12 @@ use Rattle.kp_accum.specs.declared.item.Item.{Item}
 use Rattle.kp_log.specs.declared.stored.Stored.{Stored}
 use Rattle.kp_log.specs.BrokerStep.{Answered, BrokerStep, DUPLICATE_SEQUENCE_NUMBER}
 use Rattle.kp_log.specs.History.{History, records_of, own}
-use Rattle.kp_core.specs.declared.outcome.Outcome.TheVariants.{Delivered, DeliveredNoOffset}
-use Rattle.kp_core.specs.Attempts.{awaiting}
-use Rattle.kp_core.specs.Next.{Sending}
-use Rattle.kp_core.specs.Partitions.{partition_at, present_id}
-use Rattle.kp_core.specs.Records.{Produce, HandedBatch, Partition, Told}
-use Rattle.kp_core.specs.Requesting.{Packet}
+use Rattle.kp_rules.specs.declared.outcome.Outcome.TheVariants.{Delivered, DeliveredNoOffset}
+use Rattle.kp_rules.specs.Attempts.{awaiting}
+use Rattle.kp_rules.specs.Next.{Sending}
+use Rattle.kp_rules.specs.Partitions.{partition_at, present_id}
+use Rattle.kp_rules.specs.Records.{Produce, HandedBatch, Partition, Told}
+use Rattle.kp_rules.specs.Requesting.{Packet}
 use Rattle.kp_world.specs.Accounts.{items_handed}
 use Rattle.kp_world.specs.Client.{handed_at}
 use Rattle.kp_world.specs.Delivering.{log_at}

@@ -4,8 +4,8 @@ use Rattle.std.specs.Prelude.{ℕ, ◌+◌, ℤ, negsuc, List, [], ◌∷◌, �
 use Rattle.kp_batch.specs.declared.record.Record.{Record}
 use Rattle.kp_log.specs.BrokerStep.{Offered, offered_to, refused_unseen, offered_late}
 use Rattle.kp_log.specs.History.{Sent, History, with_others}
-use Rattle.kp_core.specs.Next.{Sending}
-use Rattle.kp_core.specs.Records.{Demand, Produce, InitProducerId}
+use Rattle.kp_rules.specs.Next.{Sending}
+use Rattle.kp_rules.specs.Records.{Demand, Produce, InitProducerId}
 use Rattle.kp_world.specs.declared.event.Treatment.{Treatment}
 use Rattle.kp_world.specs.declared.event.Treatment.TheVariants.{Judged, Refused, Late}
 use Rattle.kp_world.specs.Accepting.{record_at}

@@ -7,7 +7,7 @@ use Rattle.kp_frames.specs.declared.response.Response.{Response}
 use Rattle.kp_frames.specs.declared.response.ResponseBody.{ResponseBody}
 use Rattle.kp_frames.specs.declared.response.ResponseBody.TheVariants.{Produce, InitProducerId}
 use Rattle.kp_log.specs.History.{Sent}
-use Rattle.kp_core.specs.Records.{HandedBatch}
+use Rattle.kp_rules.specs.Records.{HandedBatch}
 use Rattle.kp_world.specs.World.{PartAnswer, ReplyContent, Batches, Id, Reply, names}
 
 -- a batch as a broker sees it

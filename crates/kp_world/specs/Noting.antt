@@ -1,7 +1,7 @@
 -- How an event is noted in a world.
 use Rattle.std.specs.Prelude.{Bool, not, List, [], ◌∷◌, ◌++◌, ◌&&◌}
-use Rattle.kp_core.specs.Flush.{is_flushed}
-use Rattle.kp_core.specs.Records.{Core, Told}
+use Rattle.kp_rules.specs.Flush.{is_flushed}
+use Rattle.kp_rules.specs.Records.{Core, Told}
 use Rattle.kp_world.specs.Line.{Line}
 use Rattle.kp_world.specs.World.{World}
 

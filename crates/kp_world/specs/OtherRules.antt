@@ -4,18 +4,18 @@ use Rattle.std.specs.List.{enumerate_from, list_any}
 use Rattle.kp_accum.specs.declared.config.Config.{Config}
 use Rattle.kp_accum.specs.Config.{default_config}
 use Rattle.kp_accum.specs.Ready.{is_ready}
-use Rattle.kp_core.specs.declared.outcome.Outcome.TheVariants.{Unsent}
-use Rattle.kp_core.specs.declared.outcome.Reason.TheVariants.{Expired}
-use Rattle.kp_core.specs.Attempts.{awaiting}
-use Rattle.kp_core.specs.HandingOver.{again_in}
-use Rattle.kp_core.specs.MaySend.{HandOverRule, is_confirmed, is_in_span, is_within_limit, sends_by}
-use Rattle.kp_core.specs.Next.{Sending, batches_by, demand_with}
-use Rattle.kp_core.specs.Partitions.{items_open, changed_at}
-use Rattle.kp_core.specs.Records.{Demand, Produce, InitProducerId, Partition, Request, Core, Open}
-use Rattle.kp_core.specs.Replies.{awaited}
-use Rattle.kp_core.specs.Requesting.{Packet, Requested, request_for, partitions_in}
-use Rattle.kp_core.specs.Telling.{told_all}
-use Rattle.kp_core.specs.Tick.{TickRule, is_open_late, expire_front, tick_by}
+use Rattle.kp_rules.specs.declared.outcome.Outcome.TheVariants.{Unsent}
+use Rattle.kp_rules.specs.declared.outcome.Reason.TheVariants.{Expired}
+use Rattle.kp_rules.specs.Attempts.{awaiting}
+use Rattle.kp_rules.specs.HandingOver.{again_in}
+use Rattle.kp_rules.specs.MaySend.{HandOverRule, is_confirmed, is_in_span, is_within_limit, sends_by}
+use Rattle.kp_rules.specs.Next.{Sending, batches_by, demand_with}
+use Rattle.kp_rules.specs.Partitions.{items_open, changed_at}
+use Rattle.kp_rules.specs.Records.{Demand, Produce, InitProducerId, Partition, Request, Core, Open}
+use Rattle.kp_rules.specs.Replies.{awaited}
+use Rattle.kp_rules.specs.Requesting.{Packet, Requested, request_for, partitions_in}
+use Rattle.kp_rules.specs.Telling.{told_all}
+use Rattle.kp_rules.specs.Tick.{TickRule, is_open_late, expire_front, tick_by}
 use Rattle.kp_world.specs.declared.event.Event.{Event}
 use Rattle.kp_world.specs.declared.event.Event.TheVariants as event
 use Rattle.kp_world.specs.declared.event.Treatment.TheVariants.{Judged}

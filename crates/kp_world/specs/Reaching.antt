@@ -1,7 +1,7 @@
 -- Schedules that bring about each outcome: what holds of every run is said of some.
 use Rattle.std.specs.Prelude.{◌≡◌, ℕ, pos, List, [], ◌∷◌, ◌++◌, map, flat_map}
 use Rattle.kp_accum.specs.Config.{default_config}
-use Rattle.kp_core.specs.declared.outcome.Outcome.{Outcome}
+use Rattle.kp_rules.specs.declared.outcome.Outcome.{Outcome}
 use Rattle.kp_world.specs.declared.event.Event.{Event}
 use Rattle.kp_world.specs.declared.event.Event.TheVariants.{Accept, Take, Now, Tick, Send, Deliver, Reply, Drop, Other, Close, End, Flush}
 use Rattle.kp_world.specs.declared.event.Treatment.TheVariants.{Judged, Refused}

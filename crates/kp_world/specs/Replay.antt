@@ -1,7 +1,7 @@
 -- What a schedule brings about with the loopback broker.
 use Rattle.std.specs.Prelude.{◌≢◌, ℤ, ℕ, ◌+◌, List, [], ◌∷◌, Option, Some, None, Result, Ok, Err, slice_get}
 use Rattle.kp_log.specs.BrokerStep.{NO_ERROR, DUPLICATE_SEQUENCE_NUMBER}
-use Rattle.kp_core.specs.Requesting.{Packet}
+use Rattle.kp_rules.specs.Requesting.{Packet}
 use Rattle.kp_world.specs.declared.event.Event.{Event}
 use Rattle.kp_world.specs.declared.event.Event.TheVariants.{Deliver, Other}
 use Rattle.kp_world.specs.declared.event.Treatment.{Treatment}

@@ -2,9 +2,9 @@
 use Rattle.std.specs.Prelude.{ℕ, List, [], ◌∷◌, ◌++◌, flat_map, codes, decimal}
 use Rattle.std.specs.Fmt.{signed_decimal}
 use Rattle.kp_wire.specs.Printed.{printed}
-use Rattle.kp_core.specs.declared.outcome.Outcome.{Outcome}
-use Rattle.kp_core.specs.declared.outcome.Outcome.TheVariants.{Delivered, DeliveredNoOffset, Unknown, Rejected, Unsent}
-use Rattle.kp_core.specs.declared.outcome.Reason.TheVariants.{Expired, Fenced, Ended}
+use Rattle.kp_rules.specs.declared.outcome.Outcome.{Outcome}
+use Rattle.kp_rules.specs.declared.outcome.Outcome.TheVariants.{Delivered, DeliveredNoOffset, Unknown, Rejected, Unsent}
+use Rattle.kp_rules.specs.declared.outcome.Reason.TheVariants.{Expired, Fenced, Ended}
 use Rattle.kp_world.specs.Line.{Line, SentPart, AnswerPart}
 use Rattle.kp_world.specs.Line as line
 use Rattle.kp_world.specs.Lines.{lines}

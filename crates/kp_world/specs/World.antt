@@ -5,10 +5,10 @@ use Rattle.kp_accum.specs.declared.config.Config.{Config}
 use Rattle.kp_accum.specs.declared.item.Item.{Item}
 use Rattle.kp_log.specs.BrokerStep.{Answered}
 use Rattle.kp_log.specs.History.{History, empty_history}
-use Rattle.kp_core.specs.declared.names.Names.{Names}
-use Rattle.kp_core.specs.Opening.{new_core}
-use Rattle.kp_core.specs.Records.{HandedBatch, Core, Told}
-use Rattle.kp_core.specs.Requesting.{Packet}
+use Rattle.kp_rules.specs.declared.names.Names.{Names}
+use Rattle.kp_rules.specs.Opening.{new_core}
+use Rattle.kp_rules.specs.Records.{HandedBatch, Core, Told}
+use Rattle.kp_rules.specs.Requesting.{Packet}
 use Rattle.kp_world.specs.Line.{Line}
 
 -- ---- replies

@@ -4,9 +4,9 @@ ghost use Rattle.std.specs.Prelude.{◌≡◌, ℕ};
 ghost use Rattle.kp_accum.specs.Queue.{Pending};
 ghost use Rattle.kp_accum.specs.declared.config.Config.{Config};
 ghost use Rattle.kp_accum.specs.declared.flags.Flags.{Flags};
-ghost use Rattle.kp_core.specs.MaySend.{is_in_span, may_hand_over};
-ghost use Rattle.kp_core.specs.Records.{Partition};
-ghost use Rattle.kp_core.specs.Tick.{heed_deadlines};
+ghost use Rattle.kp_rules.specs.MaySend.{is_in_span, may_hand_over};
+ghost use Rattle.kp_rules.specs.Records.{Partition};
+ghost use Rattle.kp_rules.specs.Tick.{heed_deadlines};
 ghost use Rattle.kp_world.specs.Accounts.{IsNeverSent};
 ghost use Rattle.kp_world.specs.Client.{client};
 ghost use Rattle.kp_world.specs.LogLaws.{EachDeliveryHasItsOffset, IsPrefix, ToldOffsetsStand};
@@ -17,7 +17,7 @@ ghost use Rattle.kp_world.specs.declared.event.Event.TheVariants.{Reply};
 
 /// Where the rule for handing over, the replies as they are heard, or the rule for a tick are as they are, these producers
 /// are the producer.
-#[tactic(auto, unfolding(crate::specs::Client::client, kp_core::specs::Requesting::request_step, kp_core::specs::Next::next_demand, kp_core::specs::Next::next_batches, kp_core::specs::MaySend::sends, kp_core::specs::Tick::tick_step))]
+#[tactic(auto, unfolding(crate::specs::Client::client, kp_rules::specs::Requesting::request_step, kp_rules::specs::Next::next_demand, kp_rules::specs::Next::next_batches, kp_rules::specs::MaySend::sends, kp_rules::specs::Tick::tick_step))]
 pub fn only_one_rule_is_changed()
     ensures handing_over { (e : Event) (w : World) → sending_by may_hand_over e w ≡ client e w }
     ensures window { (c : Config) (flags : Flags) (now : ℕ) (t : Partition) (front : Pending)

@@ -1,8 +1,8 @@
 //! That the laws of every run are said of some: runs in which each outcome is told.
 
 ghost use Rattle.std.specs.Prelude.{pos, [], ◌∷◌};
-ghost use Rattle.kp_core.specs.declared.outcome.Outcome.TheVariants as outcome;
-ghost use Rattle.kp_core.specs.declared.outcome.Reason.TheVariants as reason;
+ghost use Rattle.kp_rules.specs.declared.outcome.Outcome.TheVariants as outcome;
+ghost use Rattle.kp_rules.specs.declared.outcome.Reason.TheVariants as reason;
 ghost use Rattle.kp_world.specs.Reaching.{Tells, stored_and_repeated, sent_and_late, refused_and_followed, queued_and_late, queued_and_ended};
 
 /// Each outcome is told in some run, but for a delivery without an offset, which none is told; and each kind of event

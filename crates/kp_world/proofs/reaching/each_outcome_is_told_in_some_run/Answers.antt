@@ -1,7 +1,7 @@
 use Rattle.std.proofs.Common.{refl, pos, [], ◌∷◌, arith}
 use Rattle.std.proofs.lemmas.Int.{ints}
-use Rattle.kp_core.specs.declared.outcome.Outcome.TheVariants.{Delivered, Unknown, Rejected, Unsent}
-use Rattle.kp_core.specs.declared.outcome.Reason.TheVariants.{Expired, Fenced, Ended}
+use Rattle.kp_rules.specs.declared.outcome.Outcome.TheVariants.{Delivered, Unknown, Rejected, Unsent}
+use Rattle.kp_rules.specs.declared.outcome.Reason.TheVariants.{Expired, Fenced, Ended}
 use Rattle.kp_world.specs.Reaching.{Tells, stored_and_repeated, sent_and_late, refused_and_followed, queued_and_late, queued_and_ended}
 use Rattle.kp_world.specs.Replay.{MayAnswer}
 use Rattle.kp_world.proofs.Evaluation.{evaluated}

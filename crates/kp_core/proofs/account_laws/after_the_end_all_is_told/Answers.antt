@@ -1,5 +1,0 @@
-use Rattle.kp_core.proofs.LifeLemmas.{all_told}
-use Rattle.kp_core.proofs.account_laws.after_the_end_all_is_told.Goals as goal
-
-pub returns : goal.returns
-returns c = all_told

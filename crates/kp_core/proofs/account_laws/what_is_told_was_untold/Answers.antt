@@ -1,5 +1,0 @@
-use Rattle.kp_core.proofs.AccountingLemmas.{told_was_untold}
-use Rattle.kp_core.proofs.account_laws.what_is_told_was_untold.Goals as goal
-
-pub returns : goal.returns
-returns c = told_was_untold

@@ -1,5 +1,0 @@
-use Rattle.kp_core.proofs.LifeLemmas.{told_or_untold}
-use Rattle.kp_core.proofs.account_laws.what_was_appended_is_told_or_untold.Goals as goal
-
-pub returns : goal.returns
-returns c = told_or_untold

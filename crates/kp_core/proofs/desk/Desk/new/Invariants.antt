@@ -1,6 +1,0 @@
-use Rattle.std.proofs.Common.{◌≡◌, replicate}
-use Rattle.kp_core.specs.Desk.{no_line}
-use Rattle.kp_core.proofs.desk.Desk.new.Given as goal
-
-abbrev pub invariant-loop : goal.invariant-loop
-invariant-loop l = l.lines.items ≡ replicate l.counter no_line

@@ -1,5 +1,0 @@
-use Rattle.kp_core.proofs.OutcomeLemmas.{each_outcome}
-use Rattle.kp_core.proofs.laws.each_outcome_has_its_cause.Goals as goal
-
-pub returns : goal.returns
-returns c = each_outcome

@@ -1,5 +1,0 @@
-use Rattle.kp_core.proofs.OrderedCallLemmas.{new_in_order}
-use Rattle.kp_core.proofs.order_laws.a_new_core_is_in_order.Goals as goal
-
-pub returns : goal.returns
-returns c = new_in_order

@@ -1,5 +1,0 @@
-use Rattle.kp_core.proofs.FittingLemmas.{request_fits}
-use Rattle.kp_core.proofs.request_laws.a_request_always_fits.Goals as goal
-
-pub returns : goal.returns
-returns c = request_fits

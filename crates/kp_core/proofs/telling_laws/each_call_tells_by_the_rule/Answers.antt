@@ -1,5 +1,0 @@
-use Rattle.kp_core.proofs.CallTellingLemmas.{each_call_tells}
-use Rattle.kp_core.proofs.telling_laws.each_call_tells_by_the_rule.Goals as goal
-
-pub returns : goal.returns
-returns c = each_call_tells

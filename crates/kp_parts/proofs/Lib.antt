@@ -1,0 +1,12 @@
+pub mod DeskLemmas
+pub mod DeskKeeping
+pub mod AuditLemmas
+pub mod FramingLemmas
+pub mod FramingFacts
+pub mod PartitionRoomLemmas
+pub mod SendsLemmas
+pub mod HandingLemmas
+pub mod MomentLemmas
+pub mod TellingLemmas
+pub mod FencingLemmas
+pub mod SettlingLemmas

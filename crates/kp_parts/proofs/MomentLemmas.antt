@@ -1,0 +1,63 @@
+-- The earliest of some moments.
+use Rattle.std.proofs.Common.{◌≡◌, ◌∙◌, ℕ, ◌+◌, ◌^◌, ◌≤◌, ◌<◌, true, false, List, [], ◌∷◌, ◌++◌, map, min, Option, Some, None, refl, sym, ap, arith}
+use Rattle.std.specs.Prelude.{filter, fold}
+use Rattle.std.specs.List.{reduce}
+use Rattle.std.proofs.lemmas.Bool.Decides.{nat_tests}
+use Rattle.std.proofs.lemmas.List.Elements.{filter-append}
+use Rattle.kp_accum.specs.declared.config.Config.{Config}
+use Rattle.kp_rules.specs.Attempts.{lowest_waiting}
+use Rattle.kp_rules.specs.Due.{comes, earliest, front_moments, retry_moments, partition_moments}
+use Rattle.kp_parts.specs.PartitionRooms.{sooner}
+use Rattle.kp_rules.specs.Records.{Open, Partition}
+
+fold_min-min : (a b : ℕ) (xs : List ℕ) → fold min (min a b) xs ≡ min a (fold min b xs)
+fold_min-min a b [] = refl
+fold_min-min a b (x ∷ xs) =
+    let same : min (min a b) x ≡ min a (min b x) = omega arith in
+    ap (λ (z : ℕ). fold min z xs) same ∙ fold_min-min a (min b x) xs
+
+fold_min-append : (a : ℕ) (xs ys : List ℕ) → Some (fold min a (xs ++ ys)) ≡ sooner (Some (fold min a xs)) (reduce min ys)
+fold_min-append a [] [] = refl
+fold_min-append a [] (y ∷ ys) = ap Some (fold_min-min a y ys)
+fold_min-append a (x ∷ xs) ys = fold_min-append (min a x) xs ys
+
+reduce_min-append : (xs ys : List ℕ) → reduce min (xs ++ ys) ≡ sooner (reduce min xs) (reduce min ys)
+reduce_min-append [] ys = refl
+reduce_min-append (x ∷ xs) ys = fold_min-append x xs ys
+
+pub earliest-append : (xs ys : List ℕ) → earliest (xs ++ ys) ≡ sooner (earliest xs) (earliest ys)
+earliest-append xs ys = ap (reduce min) (filter-append comes xs ys) ∙ reduce_min-append (filter comes xs) (filter comes ys)
+
+pub earliest-one : (n : ℕ) → n < 2 ^ 64 → earliest (n ∷ []) ≡ Some n
+earliest-one n lt = let e : comes n ≡ true = comes-so n lt in rw e refl
+  where
+    comes-so : (m : ℕ) → m < 2 ^ 64 → comes m ≡ true
+    comes-so m l = grind (arith, nat_tests)
+
+pub earliest-none : (n : ℕ) → 2 ^ 64 ≤ n → earliest (n ∷ []) ≡ None
+earliest-none n le = let e : comes n ≡ false = comes-not n le in rw e refl
+  where
+    comes-not : (m : ℕ) → 2 ^ 64 ≤ m → comes m ≡ false
+    comes-not m l = grind (arith, nat_tests)
+
+-- the deadlines of open batches
+abbrev deadlines : Config → List Open → List ℕ
+deadlines c os = map (λ o. o.begun + c.delivery_timeout_ms) os
+
+pub partition_moments-is : (c : Config) (t : Partition)
+    → partition_moments c t ≡ deadlines c t.open_batches ++ front_moments c t.queue ++ retry_moments c (lowest_waiting t)
+unfolding partition_moments
+partition_moments-is c t = refl
+
+pub earliest-parts : (c : Config) (t : Partition) (a b d : Option ℕ)
+    → a ≡ earliest (map (λ o. o.begun + c.delivery_timeout_ms) t.open_batches)
+    → b ≡ earliest (front_moments c t.queue)
+    → d ≡ earliest (retry_moments c (lowest_waiting t))
+    → sooner (sooner a b) d ≡ earliest (partition_moments c t)
+earliest-parts c t a b d e f g =
+    ap (λ (z : Option ℕ). sooner (sooner z b) d) e
+    ∙ ap (λ (z : Option ℕ). sooner (sooner (earliest (deadlines c t.open_batches)) z) d) f
+    ∙ ap (λ (z : Option ℕ). sooner z d) (sym (earliest-append (deadlines c t.open_batches) (front_moments c t.queue)))
+    ∙ ap (sooner (earliest (deadlines c t.open_batches ++ front_moments c t.queue))) g
+    ∙ sym (earliest-append (deadlines c t.open_batches ++ front_moments c t.queue) (retry_moments c (lowest_waiting t)))
+    ∙ ap earliest (sym (partition_moments-is c t))
