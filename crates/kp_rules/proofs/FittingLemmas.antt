@@ -30,12 +30,12 @@ use Rattle.kp_rules.proofs.SendingLemmas.{IsSent, at_sends, demand_is_next, dema
 
 -- ---- a batch that is sent has records, and numbers that fit
 
-record IsFit (c : Config) (b : HandedBatch) : Type 0 where
-  some : 0 < length b.items
-  size : size_of b.items ≤ c.max_request_size
-  records : AllByRecursion IsRecord (map body_of b.items)
-  id : b.id < 2 ^ 63
-  sequence : b.sequence + length b.items ≤ c.sequence_limit
+pub record IsFit (c : Config) (b : HandedBatch) : Type 0 where
+  pub some : 0 < length b.items
+  pub size : size_of b.items ≤ c.max_request_size
+  pub records : AllByRecursion IsRecord (map body_of b.items)
+  pub id : b.id < 2 ^ 63
+  pub sequence : b.sequence + length b.items ≤ c.sequence_limit
 
 records_of : (senders p : ℕ) (items : List Item) → AllByRecursion (IsItemOf senders p) items → AllByRecursion IsRecord (map body_of items)
 records_of senders p items h = all_map (IsItemOf senders p) IsRecord body_of (λ i is. is.body) items h
@@ -77,7 +77,7 @@ fit_spelled c most b fit =
 
 -- ---- the batches of a request
 
-sending_fits : (now : ℕ) (s : Core) → IsInOrder s → (x : Sending) → IsSent now s x → IsFit s.config x.batch
+pub sending_fits : (now : ℕ) (s : Core) → IsInOrder s → (x : Sending) → IsSent now s x → IsFit s.config x.batch
 sending_fits now s order x is = sent_fits s.config (length s.reports) s.correlation x.partition (flags_of s) now (partition_at x.partition s.partitions)
     (places s order x.partition is.there) x.batch is.sends
 
@@ -140,7 +140,7 @@ bytes_are (x ∷ xs) =
 
 -- ---- the request
 
-demand_fits : (now : ℕ) (s : Core) → IsInOrder s → (d : Demand Sending) → next_demand now s ≡ Some d → s.correlation < 2 ^ 31
+pub demand_fits : (now : ℕ) (s : Core) → IsInOrder s → (d : Demand Sending) → next_demand now s ≡ Some d → s.correlation < 2 ^ 31
     → FitsPacket s.config s.names (record { correlation = s.correlation; demand = d })
 unfolding message_of
 demand_fits now s order (InitProducerId p) e small =

@@ -13,6 +13,7 @@ use Rattle.kp_accum.specs.Queue.{Pending, size_of, charge_of, joins, joined_by, 
 use Rattle.kp_accum.specs.declared.flags.Flags.{Flags}
 use Rattle.kp_accum.specs.Ready.{is_late}
 use Rattle.kp_frames.specs.declared.produce.PartitionProduceResponse.{PartitionProduceResponse}
+use Rattle.kp_rules.specs.Auditing.{unaudited}
 use Rattle.kp_rules.specs.declared.attempt.Attempt.{Attempt}
 use Rattle.kp_rules.specs.declared.attempt.Attempt.TheVariants.{InFlight, Waiting}
 use Rattle.kp_rules.specs.declared.meaning.Meaning.{Meaning}
@@ -274,6 +275,20 @@ pub shrinks_marked : (t : Partition) → Shrinks t (mark t)
 shrinks_marked t = shrinks_to t (map marked_by_flush t.queue) (map mark_open t.open_batches) t.acknowledged
     (left_map SameItems marked_by_flush (λ b. refl) t.queue)
     (left_map KeepsOpen mark_open (λ o. record { batch = refl; attempt = (keeps_open o).attempt }) t.open_batches)
+
+pub shrinks_unaudited : (t : Partition) → Shrinks t (unaudited t)
+shrinks_unaudited t =
+    let same = shrinks_same t in
+    record {
+      queue = same.queue;
+      opens = same.opens;
+      attempts = same.attempts;
+      ids = refl;
+      next_number = refl;
+      next_sequence = refl;
+      attempts_sent = refl;
+      fenced = λ e. inl e;
+    }
 
 pub shrinks_given_up : (why : Reason) (t : Partition) → Shrinks t (give_up why t).after
 unfolding give_up

@@ -45,6 +45,7 @@ use Rattle.kp_rules.specs.declared.outcome.Reason.TheVariants as reason
 use Rattle.kp_rules.specs.declared.outcome.Report.{Report}
 use Rattle.kp_rules.specs.Appending.{Appends, enqueue, turn_away, with_queued, may_append, would_exhaust, append_step}
 use Rattle.kp_rules.specs.Attempts.{asks_for_id, has_window, is_live, partitions_of}
+use Rattle.kp_rules.specs.Auditing.{unaudited, without_audits}
 use Rattle.kp_rules.specs.Calls as call
 use Rattle.kp_rules.specs.Calls.{Call, Step}
 use Rattle.kp_rules.specs.Closing.{close_step, end_all, end_step}
@@ -67,7 +68,7 @@ use Rattle.kp_rules.specs.Telling.{with_partitions, at_each, at_these}
 use Rattle.kp_rules.specs.Tick.{Ticks, heed_deadlines, tick_step}
 use Rattle.kp_rules.proofs.CallLemmas.{at_append, at_id, at_reply, at_request, by_entries, idle, at_response_going, at_tick, at_end_step, at_disconnect, at_close}
 use Rattle.kp_rules.proofs.ListLemmas.{all_by, all_map, all_say, all_weaker, at_contained, at_put, sum_by-flat_map, sum_by-flat_map-set}
-use Rattle.kp_rules.proofs.OrderLemmas.{Left, Same, left_same, left_nothing, left_filter, left_mapped, left_same_all, left_none, left_length, left_distinct, distinct_more, Shrinks, shrinks_same, shrinks_dropped, shrinks_marked, shrinks_given_up, given_up_empty, shrinks_passed, shrinks_entries, emptied, shrunk, load, lighter, later, gone_on, IsNew, enqueued, heavier, goes_out, as_heavy}
+use Rattle.kp_rules.proofs.OrderLemmas.{Left, Same, left_same, left_nothing, left_filter, left_mapped, left_same_all, left_none, left_length, left_distinct, distinct_more, Shrinks, shrinks_same, shrinks_dropped, shrinks_marked, shrinks_given_up, given_up_empty, shrinks_passed, shrinks_entries, emptied, shrunk, load, lighter, later, gone_on, IsNew, enqueued, heavier, goes_out, as_heavy, shrinks_unaudited}
 use Rattle.kp_rules.proofs.PartitionLemmas.{at_changed, length-changed_at, numbered}
 use Rattle.kp_rules.proofs.SendingLemmas.{IsSent, has_part, demand_is_sent, demand_is_distinct}
 
@@ -224,6 +225,19 @@ order_flushed s = order_kept s (flush_step s) (record {
   correlation = refl;
   count = length-map s.partitions mark;
   each = shrinks_map mark shrinks_marked s.partitions;
+  requests = same_requests s;
+  ended = λ e. e;
+})
+
+pub order_unaudited : (s : Core) → IsInOrder s → IsInOrder (without_audits s)
+unfolding without_audits
+order_unaudited s = order_kept s (without_audits s) (record {
+  config = refl;
+  names = refl;
+  senders = refl;
+  correlation = refl;
+  count = length-map s.partitions unaudited;
+  each = shrinks_map unaudited shrinks_unaudited s.partitions;
   requests = same_requests s;
   ended = λ e. e;
 })

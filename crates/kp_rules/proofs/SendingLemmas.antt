@@ -153,19 +153,23 @@ sending_is now s y x place e = at_option (sends s.config (flags_of s) now y.1) r
               ∙ is;
         })
 
-all_sent : (now : ℕ) (s : Core) → AllByRecursion (IsSent now s) (next_batches now s)
-unfolding next_batches
-all_sent now s =
+-- what all partitions send, in turn
+pub all_sending : (now : ℕ) (s : Core) → AllByRecursion (IsSent now s) (filter_map (sending_by sends s now) (in_turn s))
+all_sending now s =
     let all : AllByRecursion (IsPlace 0 s.partitions (new_partition 0))
     (enumerate_from 0 s.partitions) = places 0 s.partitions (new_partition 0) in
     let n = used_up_to s.last_used in
-    all_fitting (IsSent now s) s.config.max_request_size (filter_map (sending_by sends s now) (in_turn s))
-    (all_filter_map (IsSent now s) (IsPlace 0 s.partitions (new_partition 0)) (sending_by sends s now)
+    all_filter_map (IsSent now s) (IsPlace 0 s.partitions (new_partition 0)) (sending_by sends s now)
     (sending_is now s) (in_turn s)
     (all_append (IsPlace 0 s.partitions (new_partition 0)) (drop n (enumerate_from 0 s.partitions))
     (take n (enumerate_from 0 s.partitions))
     (all_drop (IsPlace 0 s.partitions (new_partition 0)) n (enumerate_from 0 s.partitions) all)
-    (all_take (IsPlace 0 s.partitions (new_partition 0)) n (enumerate_from 0 s.partitions) all)))
+    (all_take (IsPlace 0 s.partitions (new_partition 0)) n (enumerate_from 0 s.partitions) all))
+
+all_sent : (now : ℕ) (s : Core) → AllByRecursion (IsSent now s) (next_batches now s)
+unfolding next_batches
+all_sent now s =
+    all_fitting (IsSent now s) s.config.max_request_size (filter_map (sending_by sends s now) (in_turn s)) (all_sending now s)
 
 -- ---- the next demand
 

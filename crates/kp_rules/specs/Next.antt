@@ -1,6 +1,6 @@
 -- What the next request asks for: a fresh producer id, or the batches of all partitions that may
 -- send.
-use Rattle.std.specs.Prelude.{ℕ, ◌+◌, ◌-◌, Bool, true, not, List, [], ◌∷◌, ◌++◌, Option, Some, None, option_map, drop, take, find, filter_map, ◌&&◌, nat_le, if◌then◌else◌}
+use Rattle.std.specs.Prelude.{ℕ, ◌+◌, ◌-◌, true, not, List, [], ◌∷◌, ◌++◌, Option, Some, None, option_map, drop, take, find, filter_map, ◌&&◌, nat_le, if◌then◌else◌}
 use Rattle.std.specs.List.{enumerate_from}
 use Rattle.kp_accum.specs.declared.config.Config.{Config}
 use Rattle.kp_accum.specs.declared.flags.Flags.{Flags}

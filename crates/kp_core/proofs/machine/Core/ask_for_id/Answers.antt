@@ -1,0 +1,23 @@
+use Rattle.std.proofs.Common.{◌≡◌, ◌∙◌, Ok, Some, sym, ap}
+use Rattle.kp_rules.specs.declared.outgoing.Outgoing.{Outgoing}
+use Rattle.kp_rules.specs.Framing.{frame_of}
+use Rattle.kp_rules.specs.Records.{Core, InitProducerId}
+use Rattle.kp_core.proofs.RequestStepLemmas.{answers_memory, answers_out, answers_spent}
+use Rattle.kp_core.proofs.machine.Core.ask_for_id.Goals as goal
+
+pub returns-then-is_spent : goal.returns-then-is_spent
+returns-then-is_spent c =
+    answers_spent c.args.now c.args.self.now (InitProducerId c.args.partition) c.requires.going c.requires.demand (sym c.is_spent.ensures ∙ c.if-is_spent.true)
+
+pub returns-in-Err : goal.returns-in-Err
+returns-in-Err c =
+    answers_memory c.args.now c.args.self.now (InitProducerId c.args.partition) c.requires.going c.requires.demand (sym c.is_spent.ensures ∙ c.if-is_spent.false)
+
+pub returns-in-Ok : goal.returns-in-Ok
+returns-in-Ok c =
+    let s = c.args.self.now in
+    let d = InitProducerId c.args.partition in
+    let bytes : c.in-Ok.bytes ≡ frame_of s.config s.names (record { correlation = s.correlation; demand = d }) =
+    c.in-Ok.ensures s.config c.args.partition ∙ ap (λ (x : Core). frame_of s.config x.names (record { correlation = x.correlation; demand = d })) c.self.view_is in
+    let step = answers_out c.args.now s c.commit_asking.new.self d c.in-Ok.bytes c.requires.going c.requires.demand (sym c.is_spent.ensures ∙ c.if-is_spent.false) bytes c.commit_asking.ensures.after in
+    (step.0 ∙ ap (λ (out : Outgoing). Ok (Some out)) (sym c.commit_asking.ensures.out), step.1)

@@ -1,0 +1,6 @@
+pub mod Answers
+pub mod Requests
+pub mod Keeping
+pub mod Choosing
+pub mod Matching
+pub mod Hearing

@@ -1,0 +1,197 @@
+//! The sender core: one value, on which each call is one step of its rules.
+
+ghost use Rattle.std.specs.Prelude.{◌≡◌, ◌<◌, true, length, IfOk, IfErr};
+ghost use Rattle.kp_rules.specs.Appending.{may_append};
+ghost use Rattle.kp_rules.specs.Auditing.{opened};
+ghost use Rattle.kp_rules.specs.Calls.{Append, Close, Disconnect, End, Fetch, Flush, Reply, Request as Requested, Tick, Step};
+ghost use Rattle.kp_rules.specs.Opening.{MayOpen, new_core};
+ghost use Rattle.kp_core.specs.Answers.{answer_of};
+
+mod appending;
+mod choosing;
+mod committing;
+mod counting;
+mod due;
+mod ending;
+mod matching;
+mod opening;
+mod replying;
+mod ticking;
+
+use crate::requests::Request;
+use kp_accum::{AppendFault, Config, Item};
+use kp_parts::{Desk, Partition};
+use kp_rules::{CoreFault, Names, Outgoing, Replied, Report, Ticked};
+use std::alloc::{AllocError, Global};
+use std::marker::Model;
+
+/// The sender core.
+#[derive(Debug, Drop)]
+pub struct Core {
+    alloc: Global,
+    config: Config,
+    names: Names,
+    partitions: Vec<Partition>,
+    /// Those in flight. There is room for as many as may be from the beginning.
+    requests: Vec<Request>,
+    /// The moment at which an id was refused, or its request dropped.
+    id_waits: Option<u64>,
+    /// The next request's.
+    correlation: u32,
+    /// The partition whose batch was the last to go out.
+    last_used: Option<u32>,
+    /// An append was refused for want of buffer memory; none was given back since.
+    exhausted: bool,
+    closing: bool,
+    ended: bool,
+    desk: Desk,
+}
+
+impl Model for Core {
+    ghost use Rattle.kp_rules.specs.Records as seen;
+
+    ghost Value = { seen.Core };
+
+    ghost use Rattle.std.specs.Prelude.{vec_capacity};
+    ghost use Rattle.kp_core.specs.Keeping.{IsKept, seen_of};
+
+    ghost view = { seen_of };
+
+    ghost invariant = { λ c. IsKept (seen_of c) c.desk (vec_capacity c.requests) };
+}
+
+impl Core {
+    /// A core of which nothing was asked yet, for one topic with so many partitions and so many senders, numbered from
+    /// 0. Its batches go out under this producer id, its first request under this correlation id. With `audits` it keeps
+    /// a list of the items that were handed over, which grows as long as the core lives.
+    pub fn new(
+        alloc: Global,
+        config: Config,
+        names: Names,
+        partitions: u32,
+        senders: u32,
+        producer_id: u64,
+        first_correlation: u32,
+        audits: bool,
+    ) -> Result<Core, AllocError>
+        requires { MayOpen config names partitions senders producer_id first_correlation }
+        ensures { IfOk result (λ core. core ≡
+            opened audits (new_core config names partitions senders producer_id first_correlation)) }
+    {
+        Core::open(
+            alloc,
+            config,
+            names,
+            partitions,
+            senders,
+            producer_id,
+            first_correlation,
+            audits,
+        )
+    }
+
+    /// Whether the item is of a sender and a partition that are there, and a request can hold it, and the memory too.
+    pub fn may_append(&self, item: &Item) -> bool
+        ensures { result ≡ may_append item.now self.now }
+    {
+        if item.sender as usize >= self.desk.senders() {
+            return false;
+        }
+        if item.partition as usize >= self.partitions.len() {
+            return false;
+        }
+        let limit = self.config.max_request_size.min(self.config.buffer_memory);
+        item.charge() <= limit
+    }
+
+    /// Puts the item last in its partition's queue, and keeps a place for its report; where the core has ended, or the
+    /// partition is fenced, its sender is told so at once. What is refused comes back: BufferFull where the memory does
+    /// not hold it, and every batch is ready to go out then; OutOfMemory only where it is not BufferFull, and nothing
+    /// has changed.
+    pub fn append(&mut self, item: Item) -> Result<(), (AppendFault, Item)>
+        requires { may_append item self.old ≡ true }
+        ensures step { Step self.old (Append item (answer_of result)) self.new }
+        ensures back { IfErr result (λ refused. refused.1 ≡ item) }
+    {
+        self.append_item(item)
+    }
+
+    /// The next request that is to go out at this moment: for a fresh producer id, or for the batches of all partitions
+    /// that may send. Ended where the core has ended; None where there is none; CorrelationSpent where each correlation
+    /// id was used; OutOfMemory, where a request would go out. After a fault nothing has changed.
+    pub fn next_request(&mut self, now: u64) -> Result<Option<Outgoing>, CoreFault>
+        ensures { Step self.old (Requested now result) self.new }
+    {
+        if self.ended {
+            return Err(CoreFault::Ended);
+        }
+        self.request(now)
+    }
+
+    /// Hears the content of a response, without its size, at this moment. Ended where the core has ended; Short where
+    /// there is no correlation id; not known where it names no request in flight; else the fault of reading it, or
+    /// Mismatch where it is not one to its request. OutOfMemory only where it names a request in flight. After a fault
+    /// nothing has changed; after ReplyFault the connection is of no use.
+    pub fn on_reply(&mut self, content: &[u8], now: u64) -> Result<Replied, CoreFault>
+        ensures { Step self.old (Reply now content.now result) self.new }
+    {
+        self.hear(content, now)
+    }
+
+    /// The time is this: requests time out, and what is late is given up.
+    pub fn tick(&mut self, now: u64) -> Ticked
+        ensures { Step self.old (Tick now result) self.new }
+    {
+        if self.ended {
+            return Ticked {
+                reports: 0,
+                reconnect: false,
+            };
+        }
+        self.look_at(now)
+    }
+
+    /// The connection is lost: what was in flight is sent again, once `retry.backoff.ms` has passed from this moment.
+    pub fn on_disconnect(&mut self, now: u64)
+        ensures { Step self.old (Disconnect now) self.new }
+    {
+        if !self.ended {
+            self.drop_requests(now);
+        }
+    }
+
+    /// Every batch is ready from now on, however short it has lingered.
+    pub fn close(&mut self)
+        ensures { Step self.old Close self.new }
+    {
+        if !self.ended {
+            self.closing = true;
+        }
+    }
+
+    /// All that waits now goes out, without lingering.
+    pub fn flush(&mut self)
+        ensures { Step self.old Flush self.new }
+    {
+        self.mark_all();
+    }
+
+    /// Gives up all that is left: what is open may stand in the log or not, what is queued was never sent. How many items
+    /// were told of. A second end changes nothing.
+    pub fn end(&mut self) -> usize
+        ensures { Step self.old (End result) self.new }
+    {
+        if self.ended {
+            return 0;
+        }
+        self.end_all()
+    }
+
+    /// The sender's oldest report that was not fetched.
+    pub fn next_report(&mut self, sender: u32) -> Option<Report>
+        requires { sender < length self.old.reports }
+        ensures { Step self.old (Fetch sender result) self.new }
+    {
+        self.desk.next(sender)
+    }
+}

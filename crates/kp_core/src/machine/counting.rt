@@ -1,0 +1,136 @@
+//! What is to be seen of a core, and counted, without memory.
+
+ghost use Rattle.std.specs.Prelude.{◌≡◌, ◌<◌, length, min};
+ghost use Rattle.std.specs.List.{list_any};
+ghost use Rattle.std.specs.Option.{option_copied};
+ghost use Rattle.kp_rules.specs.Counts.{attempts_sent, batches_handed_over, batches_in_flight};
+ghost use Rattle.kp_rules.specs.Flush.{has_marks, is_flushed};
+ghost use Rattle.kp_rules.specs.Partitions.{all_untold, partition_at, used};
+
+use crate::machine::Core;
+use kp_accum::Config;
+use kp_parts::Partition;
+use kp_rules::Run;
+
+impl Core {
+    pub fn config(&self) -> &Config
+        ensures { result.now ≡ self.now.config }
+    {
+        &self.config
+    }
+
+    /// How many partitions there are.
+    pub fn partitions(&self) -> usize
+        ensures { result ≡ length self.now.partitions }
+    {
+        self.partitions.len()
+    }
+
+    /// How many senders there are.
+    pub fn senders(&self) -> usize
+        ensures { result ≡ length self.now.reports }
+    {
+        self.desk.senders()
+    }
+
+    pub fn is_closing(&self) -> bool
+        ensures { result ≡ self.now.closing }
+    {
+        self.closing
+    }
+
+    pub fn has_ended(&self) -> bool
+        ensures { result ≡ self.now.ended }
+    {
+        self.ended
+    }
+
+    /// The memory that is used: the charges of the items that are not told.
+    pub fn used(&self) -> u64
+        ensures { result ≡ used self.now }
+    {
+        self.desk.used()
+    }
+
+    /// How many items were appended and are not told.
+    pub fn untold(&self) -> u64
+        ensures { result ≡ length (all_untold self.now) }
+    {
+        self.desk.untold()
+    }
+
+    /// How many requests are in flight.
+    pub fn requests_in_flight(&self) -> usize
+        ensures { result ≡ length self.now.requests }
+    {
+        self.requests.len()
+    }
+
+    /// How many batches await a reply; the greatest number, where there are more.
+    #[tactic(auto, unfolding(kp_rules::specs::Counts::batches_in_flight))]
+    pub fn batches_in_flight(&self) -> u64
+        ensures { result ≡ min (batches_in_flight self.now) u64.MAX }
+    {
+        let mut sum: u64 = 0;
+        for partition in &self.partitions {
+            sum = sum.saturating_add(partition.batches_in_flight());
+        }
+        sum
+    }
+
+    /// How many batches were handed over; the greatest number, where there were more.
+    #[tactic(auto, unfolding(kp_rules::specs::Counts::batches_handed_over))]
+    pub fn batches_handed_over(&self) -> u64
+        ensures { result ≡ min (batches_handed_over self.now) u64.MAX }
+    {
+        let mut sum: u64 = 0;
+        for partition in &self.partitions {
+            sum = sum.saturating_add(partition.batches_handed_over());
+        }
+        sum
+    }
+
+    /// How often batches went out, first or again; the greatest number, where it was oftener.
+    #[tactic(auto, unfolding(kp_rules::specs::Counts::attempts_sent))]
+    pub fn attempts_sent(&self) -> u64
+        ensures { result ≡ min (attempts_sent self.now) u64.MAX }
+    {
+        let mut sum: u64 = 0;
+        for partition in &self.partitions {
+            sum = sum.saturating_add(partition.attempts_sent());
+        }
+        sum
+    }
+
+    /// Whether everything that was appended before the last flush is told.
+    #[tactic(auto, unfolding(kp_rules::specs::Flush::is_flushed))]
+    pub fn flushed(&self) -> bool
+        ensures { result ≡ is_flushed self.now }
+    {
+        !any_marked(&self.partitions)
+    }
+
+    /// The partition's producer ids, the present one last.
+    pub fn ids(&self, partition: u32) -> &[u64]
+        requires { partition < length self.now.partitions }
+        ensures { result.now ≡ (partition_at partition self.now.partitions).ids }
+    {
+        self.partitions[partition as usize].ids()
+    }
+
+    /// The items that were handed over for the partition, in order: neighbours of one sender with successive numbers
+    /// are one run. None where no audit is kept.
+    pub fn audit(&self, partition: u32) -> Option<&[Run]>
+        requires { partition < length self.now.partitions }
+        ensures { option_copied result ≡ (partition_at partition self.now.partitions).audit }
+    {
+        self.partitions[partition as usize].audit()
+    }
+}
+
+/// Whether a flush waits for a batch of one of the partitions.
+fn any_marked(partitions: &[Partition]) -> bool
+    ensures { result ≡ list_any has_marks partitions.now }
+{
+    partitions.iter().any(|partition| partition.has_marks())
+}
