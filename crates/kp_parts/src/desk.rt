@@ -1,6 +1,6 @@
 //! What all telling touches: the senders' reports that are not fetched, and the memory that items take.
 
-ghost use Rattle.std.specs.Prelude.{◌≡◌, ◌+◌, ◌-◌, ◌≤◌, ◌<◌, ◌^◌, ◌∷◌, [], pos, ◌+ℤ◌, ◌≤ℤ◌, length, drop, sum_by, IfOk, OnOk, OnErr, slice_get, nat_le, nat_lt};
+ghost use Rattle.std.specs.Prelude.{◌≡◌, ◌+◌, ◌-◌, ◌≤◌, ◌<◌, ◌^◌, ◌∷◌, [], pos, ◌+ℤ◌, ◌≤ℤ◌, length, drop, sum_by, IfOk, OnOk, OnErr, slice_get, nat_le};
 ghost use Rattle.kp_accum.specs.Queue.{charge_of};
 ghost use Rattle.kp_parts.specs.Desk.{no_line, line_of, put, new_desk, with_place, without_place, fetched, told_lines, tell_desk, tell_free, HavePlaces, Covers};
 ghost use Rattle.kp_rules.specs.Telling.{told_all, told_offsets};
@@ -70,13 +70,6 @@ impl Line {
     {
         self.room -= 1;
         self.reports.push_back_reserved(report);
-    }
-
-    /// How many reports there are.
-    pub fn len(&self) -> usize
-        ensures { result ≡ length self.now.reports }
-    {
-        self.reports.len()
     }
 
     /// Takes the first report away.
@@ -216,22 +209,6 @@ impl Desk {
         ensures { self.new ≡ without_place sender self.old }
     {
         self.lines[sender as usize].give_back();
-    }
-
-    /// How many reports the sender has that are not fetched.
-    pub fn waiting(&self, sender: u32) -> usize
-        requires { sender < length self.now.lines }
-        ensures { result ≡ length (line_of sender self.now.lines).reports }
-    {
-        self.lines[sender as usize].len()
-    }
-
-    /// Whether the sender has a report that is not fetched.
-    pub fn has_reports(&self, sender: u32) -> bool
-        requires { sender < length self.now.lines }
-        ensures { result ≡ nat_lt 0 (length (line_of sender self.now.lines).reports) }
-    {
-        self.waiting(sender) > 0
     }
 
     /// Takes the sender's oldest report away.
