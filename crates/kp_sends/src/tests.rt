@@ -1,0 +1,16 @@
+//! Schedules of a producer of the topic "t", each worked out by hand.
+
+mod asking;
+mod counting;
+mod deadlines;
+mod fences;
+mod flushing;
+mod ids;
+mod memory;
+mod replying;
+mod requests;
+mod samples;
+mod scene;
+mod sending;
+mod steps;
+mod wire;
