@@ -13,6 +13,9 @@ pub mod BatchFitLemmas
 pub mod RequestFitLemmas
 pub mod HearingLemmas
 pub mod FetchedLemmas
+pub mod AuditLemmas
+pub mod UnauditedLemmas
+pub mod LeadingOnLemmas
 pub mod CallTellingLemmas
 pub mod FencingLemmas
 pub mod UsedLemmas

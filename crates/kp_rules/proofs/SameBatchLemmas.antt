@@ -20,7 +20,7 @@ use Rattle.kp_rules.specs.declared.names.Names.{Names}
 use Rattle.kp_rules.specs.declared.outcome.Reason.TheVariants.{Ended}
 use Rattle.kp_rules.specs.Appending.{Appends, enqueue, append_step}
 use Rattle.kp_rules.specs.Attempts.{is_waiting}
-use Rattle.kp_rules.specs.Calls.{Call, Append, Request, Reply, Tick, Disconnect, Close, Flush, End, Fetch, Step, answered_as, packet_in, packets_by, Life, life_with, Lives, WentOut}
+use Rattle.kp_rules.specs.Calls.{Call, Append, Request, Reply, Tick, Disconnect, Close, Flush, End, Fetch, Step, answered_as, packet_in, packets_by, Life, life_of, followed_by, Lives, WentOut}
 use Rattle.kp_rules.specs.Closing.{close_step, end_step}
 use Rattle.kp_rules.specs.Dropping.{drop_attempts, drop_requests, disconnect_step}
 use Rattle.kp_rules.specs.Fence.{give_up}
@@ -379,7 +379,7 @@ kept_by W s (Fetch sender answer) t step h = kept_after W s (fetch_step sender s
 
 -- ---- all calls, one after the other
 
-went_apart : (s : Core) (call : Call) (later life : Life) (x : Sending) → life ≡ life_with s call later → WentOut life x
+went_apart : (s : Core) (call : Call) (later life : Life) (x : Sending) → life ≡ followed_by (life_of s call) later → WentOut life x
     → WentOut (only (packets_by s call)) x ⊎ WentOut later x
 went_apart s call later life x is w =
     ⊎_elim

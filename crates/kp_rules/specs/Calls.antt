@@ -101,18 +101,27 @@ pub record Life : Type 0 where
   pub told : List Told
   pub packets : List Packet
 
-abbrev pub life_with : Core → Call → Life → Life
-life_with s call later = record {
-  appended = appended_by call ++ later.appended;
-  told = told_by s call ++ later.told;
-  packets = packets_by s call ++ later.packets;
+-- of one call
+abbrev pub life_of : Core → Call → Life
+life_of s call = record {
+  appended = appended_by call;
+  told = told_by s call;
+  packets = packets_by s call;
+}
+
+-- first one, and then the other
+abbrev pub followed_by : Life → Life → Life
+followed_by life later = record {
+  appended = life.appended ++ later.appended;
+  told = life.told ++ later.told;
+  packets = life.packets ++ later.packets;
 }
 
 unfoldable pub Lives : Core → List Call → Life → Core → Type 0
 Lives s [] life t = (life ≡ record { appended = []; told = []; packets = [] }) × (t ≡ s)
 Lives s (call ∷ calls) life t =
     (middle : Core) × (later : Life) × Step s call middle × Lives middle calls later t
-    × (life ≡ life_with s call later)
+    × (life ≡ followed_by (life_of s call) later)
 
 -- this batch went out for the partition
 pub record WentOut (life : Life) (x : Sending) : Type 0 where

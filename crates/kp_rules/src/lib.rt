@@ -6,6 +6,7 @@ pub mod account_laws;
 mod attempt;
 mod fault;
 pub mod laws;
+pub mod life_laws;
 mod meaning;
 mod names;
 pub mod order_laws;
