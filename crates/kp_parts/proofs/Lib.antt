@@ -5,6 +5,7 @@ pub mod FramingLemmas
 pub mod FramingFacts
 pub mod PartitionRoomLemmas
 pub mod SendsLemmas
+pub mod IdleLemmas
 pub mod HandingLemmas
 pub mod MomentLemmas
 pub mod TellingLemmas

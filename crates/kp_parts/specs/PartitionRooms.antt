@@ -4,7 +4,7 @@ use Rattle.std.specs.Prelude.{◌≡◌, ℕ, ◌*◌, ◌≤◌, ◌<◌, ◌^�
 use Rattle.std.specs.List.{AllByRecursion}
 use Rattle.kp_accum.specs.Queue.{Pending}
 use Rattle.kp_rules.specs.declared.run.Run.{Run}
-use Rattle.kp_rules.specs.Partitions.{items_queued}
+use Rattle.kp_rules.specs.Partitions.{is_empty, items_queued}
 use Rattle.kp_rules.specs.Records.{Partition}
 
 -- ---- the audit
@@ -37,6 +37,10 @@ pub record HasRooms (queue : List Pending) (capacity : ℕ) (ids : List ℕ) (ne
   pub known : 0 < length ids
   pub queued : items ≡ length (items_queued queue)
   pub audit : IfSome kept (IsAuditFor items next_number)
+
+-- nothing is queued or open
+unfoldable pub is_idle : Partition → Bool
+is_idle t = is_empty t.open_batches && is_empty t.queue
 
 -- ---- a batch goes out
 

@@ -1,6 +1,7 @@
 //! An item is appended.
 
 ghost use Rattle.std.specs.Prelude.{◌≡◌, true, false, IfErr};
+ghost use Rattle.kp_accum.specs.Queue.{charge_of};
 ghost use Rattle.kp_rules.specs.Appending.{append_step, may_append, turn_away, would_exhaust};
 ghost use Rattle.kp_rules.specs.Calls.{Append, Step};
 ghost use Rattle.kp_rules.specs.Held.{IsRecord};
@@ -34,11 +35,12 @@ impl Core {
         if self.partitions[item.partition as usize].is_fenced() {
             return self.turn_away(item, Reason::Fenced);
         }
-        if !self.desk.has_room(item.charge()) {
+        let charge = item.charge();
+        if !self.desk.has_room(charge) {
             self.exhausted = true;
             return Err((AppendFault::BufferFull, item));
         }
-        self.enqueue(item)
+        self.enqueue(item, charge)
     }
 
     /// The item's sender is told at once that it was not sent.
@@ -55,9 +57,10 @@ impl Core {
         Ok(())
     }
 
-    /// The item joins its partition's queue, and has a place for its report.
-    fn enqueue(&mut self, item: Item) -> Result<(), (AppendFault, Item)>
+    /// The item, which has this charge, joins its partition's queue, and has a place for its report.
+    fn enqueue(&mut self, item: Item, charge: u64) -> Result<(), (AppendFault, Item)>
         requires may { may_append item self.old ≡ true }
+        requires is_its { charge ≡ charge_of item }
         requires going { self.old.ended ≡ false }
         requires free { (partition_at item.partition self.old.partitions).fenced ≡ false }
         requires room { would_exhaust item self.old ≡ false }
@@ -65,7 +68,7 @@ impl Core {
         ensures back { IfErr result (λ refused. refused.1 ≡ item) }
     {
         see_record(&item.body);
-        let (sender, charge) = (item.sender, item.charge());
+        let sender = item.sender;
         if self.desk.reserve(sender).is_err() {
             return Err((AppendFault::OutOfMemory, item));
         }

@@ -13,7 +13,18 @@ use kp_rules::Attempt;
 
 impl Partition {
     /// The earliest moment at which it is to be looked at. A moment past 64 bits never comes.
+    #[inline]
     pub fn next_moment(&self, config: &Config) -> Option<u64>
+        ensures { result ≡ earliest (partition_moments config.now self.now) }
+    {
+        if self.is_idle() {
+            return None;
+        }
+        self.earliest_moment(config)
+    }
+
+    /// The same, where something waits.
+    fn earliest_moment(&self, config: &Config) -> Option<u64>
         ensures { result ≡ earliest (partition_moments config.now self.now) }
     {
         let deadline = earliest_deadline(&self.open_batches, config);

@@ -17,7 +17,18 @@ impl Partition {
     }
 
     /// Whether a flush waits for one of its batches.
+    #[inline]
     pub fn has_marks(&self) -> bool
+        ensures { result ≡ has_marks self.now }
+    {
+        if self.is_idle() {
+            return false;
+        }
+        self.is_awaited()
+    }
+
+    /// The same, where something waits.
+    fn is_awaited(&self) -> bool
         ensures { result ≡ has_marks self.now }
     {
         self.queue.marked() > 0 || any_marked(&self.open_batches)

@@ -5,6 +5,7 @@ ghost use Rattle.std.specs.List.{last_or};
 ghost use Rattle.std.specs.Option.{option_copied};
 ghost use Rattle.kp_rules.specs.Attempts.{awaits, awaiting, is_waiting, lowest_waiting};
 ghost use Rattle.kp_rules.specs.MaySend.{is_confirmed, is_id_spent, is_in_span, is_within_limit, may_hand_over, sends, wants_id};
+ghost use Rattle.kp_parts.specs.PartitionRooms.{is_idle};
 
 use crate::handed::HandedBatch;
 use crate::open::Open;
@@ -12,6 +13,18 @@ use crate::partition::Partition;
 use kp_accum::{Config, Flags, Pending};
 
 impl Partition {
+    /// Whether nothing is queued or open, so that it needs no look.
+    #[inline]
+    #[tactic(auto, unfolding(crate::specs::PartitionRooms::is_idle))]
+    pub(super) fn is_idle(&self) -> bool
+        ensures { result ≡ is_idle self.now }
+    {
+        if !self.open_batches.is_empty() {
+            return false;
+        }
+        self.queue.len() == 0
+    }
+
     /// The batch that awaits the reply to this request.
     pub fn awaiting(&self, correlation: u32) -> Option<&Open>
         ensures { option_copied result ≡ awaiting correlation self.now }
@@ -69,7 +82,18 @@ impl Partition {
     }
 
     /// The batch that it may send, while one request more may be in flight.
+    #[inline]
     pub fn sends(&self, config: &Config, flags: Flags, now: u64) -> Option<HandedBatch<'_>>
+        ensures { result ≡ sends config.now flags now self.now }
+    {
+        if self.is_idle() {
+            return None;
+        }
+        self.next_batch(config, flags, now)
+    }
+
+    /// The same, where something waits.
+    fn next_batch(&self, config: &Config, flags: Flags, now: u64) -> Option<HandedBatch<'_>>
         ensures { result ≡ sends config.now flags now self.now }
     {
         if self.fenced {
@@ -100,7 +124,18 @@ impl Partition {
     }
 
     /// Whether it can send no more until it has a fresh producer id.
+    #[inline]
     pub fn wants_id(&self, config: &Config) -> bool
+        ensures { result ≡ wants_id config.now self.now }
+    {
+        if self.is_idle() {
+            return false;
+        }
+        self.is_stuck(config)
+    }
+
+    /// The same, where something waits.
+    fn is_stuck(&self, config: &Config) -> bool
         ensures { result ≡ wants_id config.now self.now }
     {
         !self.fenced && self.open_batches.is_empty() && self.is_id_spent(config)

@@ -43,16 +43,23 @@ returns-then-not-has_room-clause-step c =
     ap (λ (x : Core). (partition_at c.args.item.partition x.partitions).fenced) (sym c.self.view_is) ∙ ap (λ (t : Partition). t.fenced) (sym old)
     ∙ sym c.is_fenced.ensures ∙ c.if-is_fenced.false in
     let bounds = has_bounds c.self.inside.config c.self.invariant.order.config in
-    let charge = c.charge.ensures.exact (omega (arith, charge_fits c.args.item s may, bounds.request)) in
+    let charge = c.charge-charge.ensures.exact (omega (arith, charge_fits c.args.item s may, bounds.request)) in
     let full : would_exhaust c.args.item c.args.self.now ≡ true =
-    ap (would_exhaust c.args.item) (sym c.self.view_is) ∙ exhausts-is c.args.item c.charge.result c.self.invariant charge ∙ ap not (sym c.has_room.ensures ∙ c.if-not-has_room.true) in
+    ap (would_exhaust c.args.item) (sym c.self.view_is) ∙ exhausts-is c.args.item c.charge-charge.result c.self.invariant charge ∙ ap not (sym c.has_room.ensures ∙ c.if-not-has_room.true) in
     let step = answers_full c.args.item c.args.self.now c.requires going free full in
     (step.0, ap (λ (x : Core). let y : Core = record x { exhausted = true } in y) c.self.view_is ∙ step.1)
+
+pub enqueue-requires-clause-is_its : goal.enqueue-requires-clause-is_its
+enqueue-requires-clause-is_its c =
+    let s = seen_of c.self.inside in
+    let may : may_append c.args.item s ≡ true = rw (c.self.view_is) c.requires in
+    let bounds = has_bounds c.self.inside.config c.self.invariant.order.config in
+    c.charge-charge.ensures.exact (omega (arith, charge_fits c.args.item s may, bounds.request))
 
 pub enqueue-requires-clause-room : goal.enqueue-requires-clause-room
 enqueue-requires-clause-room c =
     let s = seen_of c.self.inside in
     let may : may_append c.args.item s ≡ true = rw (c.self.view_is) c.requires in
     let bounds = has_bounds c.self.inside.config c.self.invariant.order.config in
-    let charge = c.charge.ensures.exact (omega (arith, charge_fits c.args.item s may, bounds.request)) in
-    ap (would_exhaust c.args.item) (sym c.self.view_is) ∙ exhausts-is c.args.item c.charge.result c.self.invariant charge ∙ ap not (sym c.has_room.ensures ∙ c.if-not-has_room.false)
+    let charge = c.charge-charge.ensures.exact (omega (arith, charge_fits c.args.item s may, bounds.request)) in
+    ap (would_exhaust c.args.item) (sym c.self.view_is) ∙ exhausts-is c.args.item c.charge-charge.result c.self.invariant charge ∙ ap not (sym c.has_room.ensures ∙ c.if-not-has_room.false)

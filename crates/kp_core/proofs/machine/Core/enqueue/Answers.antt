@@ -28,19 +28,12 @@ index_mut-partition-requires c =
     let there : c.args.item.partition < length c.self.inside.partitions.items = is_there c.args.item (seen_of c.self.inside) may in
     search rules
 
-pub enqueue-requires-clause-is_its : goal.enqueue-requires-clause-is_its
-enqueue-requires-clause-is_its c =
-    let may : may_append c.args.item (seen_of c.self.inside) ≡ true = rw (c.self.view_is) c.requires.may in
-    let fits = charge_fits c.args.item (seen_of c.self.inside) may in
-    let bounds = has_bounds c.self.inside.config c.self.invariant.order.config in
-    c.charge-charge.ensures.exact (omega (arith, fits, bounds.request))
-
 pub enqueue-requires-clause-fits : goal.enqueue-requires-clause-fits
 enqueue-requires-clause-fits c =
     let may : may_append c.args.item (seen_of c.self.inside) ≡ true = rw (c.self.view_is) c.requires.may in
     let fits = charge_fits c.args.item (seen_of c.self.inside) may in
     let bounds = has_bounds c.self.inside.config c.self.invariant.order.config in
-    omega (arith, fits, bounds.request, c.charge-charge.ensures.exact (omega (arith, fits, bounds.request)))
+    omega (arith, fits, bounds.request, c.requires.is_its)
 
 pub give_back_place-requires : goal.give_back_place-requires
 give_back_place-requires c =
@@ -86,11 +79,8 @@ take-requires-clause-room c =
     let s = seen_of c.self.inside in
     let may : may_append c.args.item s ≡ true = rw (c.self.view_is) c.requires.may in
     let kept : c.reserve.new.self ≡ with_place c.args.item.sender c.self.inside.desk = search rules in
-    let bounds = has_bounds c.self.inside.config c.self.invariant.order.config in
-    let fits = charge_fits c.args.item s may in
-    let charge = c.charge-charge.ensures.exact (omega (arith, fits, bounds.request)) in
     let left = room_left c.args.item s (rw (c.self.view_is) c.requires.room) in
-    omega (arith, ap (λ (x : Desk). x.used) kept, ap (λ (x : Desk). x.limit) kept, charge, left, c.self.invariant.used, c.self.invariant.limit)
+    omega (arith, ap (λ (x : Desk). x.used) kept, ap (λ (x : Desk). x.limit) kept, c.requires.is_its, left, c.self.invariant.used, c.self.invariant.limit)
 
 pub take-requires-clause-count : goal.take-requires-clause-count
 take-requires-clause-count c =
@@ -105,16 +95,14 @@ invariant_of-self-2 c =
     let may : may_append i s ≡ true = rw (c.self.view_is) c.requires.may in
     let there : i.partition < length s.partitions = is_there i s may in
     let kept : c.reserve.new.self ≡ with_place i.sender d = search rules in
-    let bounds = has_bounds c.self.inside.config c.self.invariant.order.config in
-    let charge = c.charge-charge.ensures.exact (omega (arith, charge_fits i s may, bounds.request)) in
     let old : c.index_mut-partition.result.now ≡ partition_at i.partition s.partitions =
     c.index_mut-partition.ensures.value ∙ get_or_default s.partitions i.partition c.index_mut-partition.result.now (new_partition 0) there in
     let queued : c.enqueue.new.self ≡ enqueue s.config i c.index_mut-partition.result.now = search rules in
     let ts : set s.partitions i.partition c.enqueue.new.self ≡ set s.partitions i.partition (enqueue s.config i (partition_at i.partition s.partitions)) =
     ap (set s.partitions i.partition) (queued ∙ ap (enqueue s.config i) old) in
     let told : c.take.new.self ≡ record (with_place i.sender d) { untold = d.untold + 1; used = d.used + charge_of i } =
-    c.take.ensures ∙ ap (λ (x : Desk). let y : Desk = record x { untold = x.untold + 1; used = x.used + c.charge-charge.result } in y) kept
-    ∙ ap (λ (n : ℕ). let y : Desk = record (with_place i.sender d) { untold = d.untold + 1; used = d.used + n } in y) charge in
+    c.take.ensures ∙ ap (λ (x : Desk). let y : Desk = record x { untold = x.untold + 1; used = x.used + c.args.charge } in y) kept
+    ∙ ap (λ (n : ℕ). let y : Desk = record (with_place i.sender d) { untold = d.untold + 1; used = d.used + n } in y) c.requires.is_its in
     let is = queued-is i s (set s.partitions i.partition c.enqueue.new.self) d c.take.new.self refl ts told in
     let going : s.ended ≡ false = ap (λ (x : Core). x.ended) c.self.view_is ∙ c.requires.going in
     let free : (partition_at i.partition s.partitions).fenced ≡ false = ap (λ (x : Core). (partition_at i.partition x.partitions).fenced) c.self.view_is ∙ c.requires.free in
@@ -131,15 +119,13 @@ returns-clause-step c =
     let may : may_append i s ≡ true = rw (c.self.view_is) c.requires.may in
     let there : i.partition < length s.partitions = is_there i s may in
     let kept : c.reserve.new.self ≡ with_place i.sender d = search rules in
-    let bounds = has_bounds c.self.inside.config c.self.invariant.order.config in
-    let charge = c.charge-charge.ensures.exact (omega (arith, charge_fits i s may, bounds.request)) in
     let old : c.index_mut-partition.result.now ≡ partition_at i.partition s.partitions =
     c.index_mut-partition.ensures.value ∙ get_or_default s.partitions i.partition c.index_mut-partition.result.now (new_partition 0) there in
     let queued : c.enqueue.new.self ≡ enqueue s.config i c.index_mut-partition.result.now = search rules in
     let ts : set s.partitions i.partition c.enqueue.new.self ≡ set s.partitions i.partition (enqueue s.config i (partition_at i.partition s.partitions)) =
     ap (set s.partitions i.partition) (queued ∙ ap (enqueue s.config i) old) in
     let told : c.take.new.self ≡ record (with_place i.sender d) { untold = d.untold + 1; used = d.used + charge_of i } =
-    c.take.ensures ∙ ap (λ (x : Desk). let y : Desk = record x { untold = x.untold + 1; used = x.used + c.charge-charge.result } in y) kept
-    ∙ ap (λ (n : ℕ). let y : Desk = record (with_place i.sender d) { untold = d.untold + 1; used = d.used + n } in y) charge in
+    c.take.ensures ∙ ap (λ (x : Desk). let y : Desk = record x { untold = x.untold + 1; used = x.used + c.args.charge } in y) kept
+    ∙ ap (λ (n : ℕ). let y : Desk = record (with_place i.sender d) { untold = d.untold + 1; used = d.used + n } in y) c.requires.is_its in
     let is = queued-is i s (set s.partitions i.partition c.enqueue.new.self) d c.take.new.self refl ts told in
     answers_queued i c.args.self.now _ c.requires.may c.requires.going c.requires.free c.requires.room (is ∙ ap (with_queued i) c.self.view_is)
