@@ -6,7 +6,11 @@
 //! it where it comes whole, and `waiting N` takes N frames that wait, between each two of which a byte comes. `make N`
 //! makes and keeps N items of 100 bytes, and `queue N` appends as many to a partition, marks them, takes them out with
 //! their batches and releases their memory; `expire N` has them expire. `makes N`, `queues N` and `expires N` do so in 64
-//! lists and partitions.
+//! lists and partitions. `deliver N` has N items go through a sender core in rounds of a full batch: appended, sent,
+//! answered, and their reports fetched; `keep N` appends all of them first, and `leave N` fetches no report before the
+//! end. `delivers N`, `keeps N` and `leaves N` do so with 64 senders and 64 partitions, and `years N` is `deliver N` with
+//! four senders. Of a core of 1,024 partitions without an item, `tick N` tells it the time N times, `vain N` asks it for a
+//! request, and `due N` when it is next to be looked at.
 #![tactic(auto)]
 
 mod delivering;
