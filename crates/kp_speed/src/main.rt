@@ -6,18 +6,43 @@
 //! it where it comes whole, and `waiting N` takes N frames that wait, between each two of which a byte comes. `make N`
 //! makes and keeps N items of 100 bytes, and `queue N` appends as many to a partition, marks them, takes them out with
 //! their batches and releases their memory; `expire N` has them expire. `makes N`, `queues N` and `expires N` do so in 64
-//! lists and partitions.
+//! lists and partitions. `deliver N` has N items go through a sender core in rounds of a full batch: appended, sent,
+//! answered, and their reports fetched; `keep N` appends all of them first, and `leave N` fetches no report before the
+//! end. `delivers N`, `keeps N` and `leaves N` do so with 64 senders and 64 partitions, and `years N` is `deliver N` with
+//! four senders. Of a core of 1,024 partitions without an item, `tick N` tells it the time N times, `vain N` asks it for a
+//! request, and `due N` when it is next to be looked at.
 #![tactic(auto)]
 
+mod delivering;
 mod messages;
 mod queueing;
+mod samples;
 mod work;
 
+use delivering::{Course, Plan, asks_in_vain, asks_when, delivers, ticks};
 use messages::{cuts_bytes, cuts_whole, requests, responses, takes_waiting};
 use queueing::{Way, makes, queues};
 use std::alloc::{AllocError, Global};
 use std::io;
 use work::{checksums, reads, reads_and_drops, writes};
+
+fn goes_through(
+    alloc: Global,
+    senders: u32,
+    partitions: u32,
+    items: u32,
+    course: Course,
+) -> Result<u64, AllocError> {
+    delivers(
+        alloc,
+        Plan {
+            senders,
+            partitions,
+            items,
+            course,
+        },
+    )
+}
 
 /// What a line's work came to; None where the line names no work.
 fn answer(alloc: Global, line: &str) -> Result<Option<u64>, AllocError> {
@@ -43,6 +68,16 @@ fn answer(alloc: Global, line: &str) -> Result<Option<u64>, AllocError> {
         "queues" => queues(alloc, 64, times, Way::Taken).map(Some),
         "expire" => queues(alloc, 1, times, Way::Expired).map(Some),
         "expires" => queues(alloc, 64, times, Way::Expired).map(Some),
+        "deliver" => goes_through(alloc, 1, 1, times, Course::ByRounds).map(Some),
+        "delivers" => goes_through(alloc, 64, 64, times, Course::ByRounds).map(Some),
+        "keep" => goes_through(alloc, 1, 1, times, Course::Queued).map(Some),
+        "keeps" => goes_through(alloc, 64, 64, times, Course::Queued).map(Some),
+        "leave" => goes_through(alloc, 1, 1, times, Course::Unfetched).map(Some),
+        "leaves" => goes_through(alloc, 64, 64, times, Course::Unfetched).map(Some),
+        "years" => goes_through(alloc, 4, 1, times, Course::ByRounds).map(Some),
+        "tick" => ticks(alloc, times).map(Some),
+        "vain" => asks_in_vain(alloc, times).map(Some),
+        "due" => asks_when(alloc, times).map(Some),
         _ => Ok(None),
     }
 }

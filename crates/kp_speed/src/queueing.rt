@@ -1,27 +1,11 @@
 //! Items that wait in an accumulator, from their append to the release of their memory.
 
-use kp_accum::{Accum, Config, Item, Pending};
-use kp_batch::{Record, Timestamp};
-use kp_wire::{Blob, Seq};
+use crate::samples::{CONFIG, item_of};
+use kp_accum::{Accum, Item, Pending};
 use std::alloc::{AllocError, Global};
-
-/// An item's value: a hundred bytes.
-const VALUE: [u8; 100] = [b'v'; 100];
 
 /// A moment at which each batch's delivery timeout is over.
 const LATE: u64 = 200_000;
-
-const CONFIG: Config = Config {
-    batch_size: 16384,
-    linger_ms: 0,
-    buffer_memory: 1_073_741_824,
-    max_request_size: 1_048_576,
-    request_timeout_ms: 30_000,
-    delivery_timeout_ms: 120_000,
-    retry_backoff_ms: 100,
-    max_in_flight_requests_per_connection: 5,
-    sequence_limit: 2_147_483_648,
-};
 
 /// How batches come out of the accumulator.
 #[derive(Clone, Copy, PartialEq, Eq)]
@@ -37,19 +21,10 @@ fn accum_of(alloc: Global, partitions: u32) -> Result<Accum, AllocError> {
     Accum::new(alloc, CONFIG, partitions)
 }
 
-fn item_of(alloc: Global, partitions: u32, number: u32) -> Result<Item, AllocError> {
-    Ok(Item {
-        sender: 0,
-        partition: number.checked_rem(partitions).ok_or(AllocError)?,
-        number: u64::from(number),
-        at: 0,
-        body: Record {
-            timestamp: Timestamp::from_millis(0).ok_or(AllocError)?,
-            key: None,
-            value: Some(Blob::from_slice(alloc, &VALUE)?),
-            headers: Seq::new(Vec::new(alloc)),
-        },
-    })
+/// The item with this number, of those that go to so many partitions in turn.
+fn item_in_turn(alloc: Global, partitions: u32, number: u32) -> Result<Item, AllocError> {
+    let partition = number.checked_rem(partitions).ok_or(AllocError)?;
+    item_of(alloc, 0, partition, number)
 }
 
 /// So many items made, each looked at as it is before an append, kept in turn in so many lists with room for them, and
@@ -63,7 +38,7 @@ pub(crate) fn makes(alloc: Global, partitions: u32, times: u32) -> Result<u64, A
     }
     let mut sum = 0u64;
     for number in 0..times {
-        let item = item_of(alloc, partitions, number)?;
+        let item = item_in_turn(alloc, partitions, number)?;
         sum = sum.wrapping_add(u64::from(accum.may_append(&item)));
         lists
             .get_mut(item.partition as usize)
@@ -83,7 +58,7 @@ pub(crate) fn queues(
 ) -> Result<u64, AllocError> {
     let mut accum = accum_of(alloc, partitions)?;
     for number in 0..times {
-        let item = item_of(alloc, partitions, number)?;
+        let item = item_in_turn(alloc, partitions, number)?;
         if !accum.may_append(&item) || accum.append(item).is_err() {
             return Err(AllocError);
         }
