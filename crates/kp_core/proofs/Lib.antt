@@ -20,3 +20,4 @@ pub mod IdLemmas
 pub mod ReplyLemmas
 pub mod ContentLemmas
 pub mod AnsweredLemmas
+pub mod CallingLemmas

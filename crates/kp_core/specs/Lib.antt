@@ -1,4 +1,5 @@
 pub mod Answers
+pub mod Calling
 pub mod Requests
 pub mod Keeping
 pub mod Choosing

@@ -2,9 +2,11 @@
 //! producer configurations of Kafka's documentation).
 #![tactic(auto)]
 
+mod calls;
 mod machine;
 mod requests;
 
+pub use calls::{Answered, Asked};
 pub use kp_rules::{
     Attempt, CoreFault, Meaning, Names, Outcome, Outgoing, Reason, Replied, Report, Run, Ticked,
 };

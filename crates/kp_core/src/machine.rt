@@ -8,6 +8,7 @@ ghost use Rattle.kp_rules.specs.Opening.{MayOpen, new_core};
 ghost use Rattle.kp_core.specs.Answers.{answer_of};
 
 mod appending;
+mod calling;
 mod choosing;
 mod committing;
 mod counting;
