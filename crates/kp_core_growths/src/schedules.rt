@@ -28,9 +28,9 @@ const SINGLES: Config = Config {
     ..PLAIN
 };
 
-/// Batches of one record each, of which two go out under a producer id.
-const TWO: Config = Config {
-    sequence_limit: 2,
+/// Under each producer id one record goes out.
+const ONE: Config = Config {
+    sequence_limit: 1,
     ..SINGLES
 };
 
@@ -176,32 +176,47 @@ const PARTITIONS: &[Step] = &[
     Told(0, &[(1, 1, Delivered(8))]),
 ];
 
-/// The third record wants a fresh producer id, which is refused at first.
+/// Each record but the first wants a fresh producer id; the first time it is refused.
 const ID: &[Step] = &[
     Append((0, 0, 0, b'a')),
     Append((0, 0, 1, b'b')),
     Append((0, 0, 2, b'c')),
+    Append((0, 0, 3, b'd')),
+    Append((0, 0, 4, b'e')),
     Send(0, 2, &[(0, 1000, 0, b"a")]),
+    Idle(0),
     Hear(0, 2, &[(0, 0, 0)], 1),
-    Send(0, 3, &[(0, 1000, 1, b"b")]),
+    Ask(0, 3),
     Idle(0),
-    Hear(0, 3, &[(0, 0, 1)], 1),
-    Ask(0, 4),
-    Idle(0),
-    HearId(0, 4, (14, -1, -1)),
+    HearId(0, 3, (14, -1, -1)),
     Ids(0, &[1000]),
     Idle(99),
-    Ask(100, 5),
-    HearId(100, 5, (0, 1001, 0)),
+    Ask(100, 4),
+    HearId(100, 4, (0, 1001, 0)),
     Ids(0, &[1000, 1001]),
-    Send(100, 6, &[(0, 1001, 0, b"c")]),
-    Hear(100, 6, &[(0, 0, 2)], 1),
+    Send(100, 5, &[(0, 1001, 0, b"b")]),
+    Hear(100, 5, &[(0, 0, 1)], 1),
+    Ask(100, 6),
+    HearId(100, 6, (0, 1002, 0)),
+    Send(100, 7, &[(0, 1002, 0, b"c")]),
+    Hear(100, 7, &[(0, 0, 2)], 1),
+    Ask(100, 8),
+    HearId(100, 8, (0, 1003, 0)),
+    Send(100, 9, &[(0, 1003, 0, b"d")]),
+    Hear(100, 9, &[(0, 0, 3)], 1),
+    Ask(100, 10),
+    HearId(100, 10, (0, 1004, 0)),
+    Ids(0, &[1000, 1001, 1002, 1003, 1004]),
+    Send(100, 11, &[(0, 1004, 0, b"e")]),
+    Hear(100, 11, &[(0, 0, 4)], 1),
     Told(
         0,
         &[
             (0, 0, Delivered(0)),
             (0, 1, Delivered(1)),
             (0, 2, Delivered(2)),
+            (0, 3, Delivered(3)),
+            (0, 4, Delivered(4)),
         ],
     ),
     Audit(
@@ -209,7 +224,7 @@ const ID: &[Step] = &[
         &[Run {
             sender: 0,
             first: 0,
-            count: 3,
+            count: 5,
         }],
     ),
 ];
@@ -264,7 +279,7 @@ pub fn schedule_of(name: &[u8]) -> Option<Schedule> {
         b"senders" => (PLAIN, 1, 2, SENDERS),
         b"memory" => (LITTLE, 1, 1, MEMORY),
         b"partitions" => (SINGLES, 2, 1, PARTITIONS),
-        b"id" => (TWO, 1, 1, ID),
+        b"id" => (ONE, 1, 1, ID),
         b"flush" => (LINGERING, 1, 1, FLUSH),
         b"fence" => (SINGLES, 1, 2, FENCE),
         b"end" => (SINGLES, 1, 2, END),
