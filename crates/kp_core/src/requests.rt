@@ -18,7 +18,7 @@ use std::marker::Model;
 
 /// What a request asks the broker for.
 #[derive(Debug, Drop)]
-pub enum Demand {
+pub(crate) enum Demand {
     /// That the batches of these partitions be appended, in this order.
     Produce(Vec<u32>),
     /// A fresh producer id, for this partition.
@@ -27,7 +27,7 @@ pub enum Demand {
 
 /// A request in flight.
 #[derive(Debug, Drop)]
-pub struct Request {
+pub(crate) struct Request {
     correlation: u32,
     /// The moment at which it went out.
     sent: u64,
@@ -50,7 +50,7 @@ impl Model for Request {
 
 impl Request {
     /// The request under this correlation id, which goes out at this moment.
-    pub fn new(correlation: u32, sent: u64, demand: Demand) -> Request
+    pub(crate) fn new(correlation: u32, sent: u64, demand: Demand) -> Request
         ensures { result ≡ record {
           correlation = correlation;
           sent = sent;
@@ -65,34 +65,34 @@ impl Request {
     }
 
     /// The id under which its reply comes.
-    pub fn correlation(&self) -> u32
+    pub(crate) fn correlation(&self) -> u32
         ensures { result ≡ self.now.correlation }
     {
         self.correlation
     }
 
     /// Whether this is its correlation id, as a reply tells it.
-    pub fn is_under(&self, correlation: i32) -> bool
+    pub(crate) fn is_under(&self, correlation: i32) -> bool
         ensures { result ≡ int_eq (pos self.now.correlation) correlation }
     {
         i64::from(self.correlation) == i64::from(correlation)
     }
 
     /// The moment at which it went out.
-    pub fn sent(&self) -> u64
+    pub(crate) fn sent(&self) -> u64
         ensures { result ≡ self.now.sent }
     {
         self.sent
     }
 
-    pub fn demand(&self) -> &Demand
+    pub(crate) fn demand(&self) -> &Demand
         ensures { demand_of result.now ≡ self.now.demand }
     {
         &self.demand
     }
 
     /// The api as which its reply is read.
-    pub fn api(&self) -> Api
+    pub(crate) fn api(&self) -> Api
         ensures { result ≡ api_of self.now.demand }
     {
         match self.demand {
@@ -101,7 +101,7 @@ impl Request {
         }
     }
 
-    pub fn asks_for_id(&self) -> bool
+    pub(crate) fn asks_for_id(&self) -> bool
         ensures { result ≡ asks_for_id self.now }
     {
         match self.demand {
@@ -111,7 +111,7 @@ impl Request {
     }
 
     /// Whether one of its attempts is in flight, or it is one for an id.
-    pub fn is_live(&self, partitions: &[Partition]) -> bool
+    pub(crate) fn is_live(&self, partitions: &[Partition]) -> bool
         ensures { result ≡ is_live partitions.now self.now }
     {
         match &self.demand {
@@ -121,7 +121,7 @@ impl Request {
     }
 
     /// Whether it has waited for `request.timeout.ms`.
-    pub fn has_timed_out(&self, config: &Config, now: u64) -> bool
+    pub(crate) fn has_timed_out(&self, config: &Config, now: u64) -> bool
         ensures { result ≡ is_over self.now.sent config.now.request_timeout_ms now }
     {
         is_over(self.sent, config.request_timeout_ms, now)
@@ -148,14 +148,14 @@ fn awaits_at(partitions: &[Partition], place: u32, correlation: u32) -> bool
 }
 
 /// Whether one of the requests is one for an id.
-pub fn any_asks_for_id(requests: &[Request]) -> bool
+pub(crate) fn any_asks_for_id(requests: &[Request]) -> bool
     ensures { result ≡ list_any asks_for_id requests.now }
 {
     requests.iter().any(|request| request.asks_for_id())
 }
 
 /// Whether one of the requests has waited for `request.timeout.ms`.
-pub fn any_timed_out(requests: &[Request], config: &Config, now: u64) -> bool
+pub(crate) fn any_timed_out(requests: &[Request], config: &Config, now: u64) -> bool
     ensures { result ≡ list_any (λ r. is_over r.sent config.now.request_timeout_ms now) requests.now }
 {
     requests
@@ -164,7 +164,7 @@ pub fn any_timed_out(requests: &[Request], config: &Config, now: u64) -> bool
 }
 
 /// The request with this correlation id.
-pub fn find_awaited(requests: &[Request], correlation: i32) -> Option<&Request>
+pub(crate) fn find_awaited(requests: &[Request], correlation: i32) -> Option<&Request>
     ensures { option_copied result ≡ find (λ r. int_eq (pos r.correlation) correlation) requests.now }
 {
     requests
@@ -173,7 +173,7 @@ pub fn find_awaited(requests: &[Request], correlation: i32) -> Option<&Request>
 }
 
 /// The requests of which an attempt is in flight stay, and those for an id.
-pub fn keep_live(requests: &mut Vec<Request>, partitions: &[Partition])
+pub(crate) fn keep_live(requests: &mut Vec<Request>, partitions: &[Partition])
     ensures items { requests.new.items ≡ filter (is_live partitions.now) requests.old.items }
     ensures capacity { vec_capacity requests.old ≤ vec_capacity requests.new }
 {
@@ -181,7 +181,7 @@ pub fn keep_live(requests: &mut Vec<Request>, partitions: &[Partition])
 }
 
 /// The requests for batches stay.
-pub fn keep_batches(requests: &mut Vec<Request>)
+pub(crate) fn keep_batches(requests: &mut Vec<Request>)
     ensures items { requests.new.items ≡ filter (λ r. not (asks_for_id r)) requests.old.items }
     ensures capacity { vec_capacity requests.old ≤ vec_capacity requests.new }
 {
@@ -189,7 +189,7 @@ pub fn keep_batches(requests: &mut Vec<Request>)
 }
 
 /// When the first of the requests times out.
-pub fn earliest_timeout(requests: &[Request], config: &Config) -> Option<u64>
+pub(crate) fn earliest_timeout(requests: &[Request], config: &Config) -> Option<u64>
     ensures { result ≡ earliest (map (λ r. r.sent + config.now.request_timeout_ms) requests.now) }
 {
     let mut earliest = None;

@@ -12,7 +12,7 @@ use std::marker::Model;
 
 /// Which items were handed over for a partition, in order: neighbours of one sender with successive numbers are one run.
 #[derive(Debug, Drop)]
-pub struct Audit {
+pub(crate) struct Audit {
     runs: Vec<Run>,
 }
 
@@ -56,7 +56,7 @@ fn last_goes_on(runs: &[Run], item: &Item) -> bool
 
 impl Audit {
     /// No runs. It takes no memory.
-    pub fn new(alloc: Global) -> Audit
+    pub(crate) fn new(alloc: Global) -> Audit
         ensures { result.runs ≡ [] }
     {
         Audit {
@@ -65,14 +65,14 @@ impl Audit {
     }
 
     /// The runs, in the order in which they were handed over.
-    pub fn runs(&self) -> &[Run]
+    pub(crate) fn runs(&self) -> &[Run]
         ensures { result.now ≡ self.now.runs }
     {
         &self.runs
     }
 
     /// Makes room for one run more than so many, which have room.
-    pub fn reserve_beyond(&mut self, kept: usize) -> Result<(), AllocError>
+    pub(crate) fn reserve_beyond(&mut self, kept: usize) -> Result<(), AllocError>
         requires { kept ≤ self.old.room }
         ensures runs { self.new.runs ≡ self.old.runs }
         ensures ok { OnOk result (kept + 1 ≤ self.new.room) }
@@ -84,7 +84,7 @@ impl Audit {
     }
 
     /// Puts the item last: into the last run, or into a new one.
-    pub fn push(&mut self, item: &Item)
+    pub(crate) fn push(&mut self, item: &Item)
         requires room { 0 < self.old.room }
         requires counts { CountsAtMost (2 ^ 64 - 2) self.old.runs }
         ensures runs { self.new.runs ≡ with_audited item.now self.old.runs }
@@ -99,7 +99,7 @@ impl Audit {
     }
 
     /// Puts the items last, one after the other.
-    pub fn push_all(&mut self, items: &[Item])
+    pub(crate) fn push_all(&mut self, items: &[Item])
         requires room { length items.now ≤ self.old.room }
         requires counts { CountsAtMost (2 ^ 63) self.old.runs }
         requires few { length items.now < 2 ^ 63 }
@@ -113,7 +113,7 @@ impl Audit {
 }
 
 /// Makes room for one run more than so many, which have room, where an audit is kept.
-pub fn reserve_audit(audit: &mut Option<Audit>, kept: usize) -> Result<(), AllocError>
+pub(crate) fn reserve_audit(audit: &mut Option<Audit>, kept: usize) -> Result<(), AllocError>
     requires { IfSome audit.old (λ a. kept ≤ a.room) }
     ensures runs { option_map runs_of audit.new ≡ option_map runs_of audit.old }
     ensures ok { OnOk result (IfSome audit.new (λ a. kept + 1 ≤ a.room)) }
@@ -127,7 +127,7 @@ pub fn reserve_audit(audit: &mut Option<Audit>, kept: usize) -> Result<(), Alloc
 }
 
 /// Puts the items last, one after the other, where an audit is kept.
-pub fn audit_all(audit: &mut Option<Audit>, items: &[Item])
+pub(crate) fn audit_all(audit: &mut Option<Audit>, items: &[Item])
     requires room { IfSome audit.old (λ a. length items.now ≤ a.room) }
     requires counts { IfSome audit.old (λ a. CountsAtMost (2 ^ 63) a.runs) }
     requires few { length items.now < 2 ^ 63 }

@@ -33,7 +33,7 @@ impl Model for Line {
 
 impl Line {
     /// A line with no report and no place. It takes no memory.
-    pub fn new(alloc: Global) -> Line
+    fn new(alloc: Global) -> Line
         ensures { result ≡ no_line }
     {
         Line {
@@ -43,7 +43,7 @@ impl Line {
     }
 
     /// Keeps one place more.
-    pub fn reserve(&mut self) -> Result<(), AllocError>
+    fn reserve(&mut self) -> Result<(), AllocError>
         ensures ok { OnOk result (self.new ≡ record self.old { room = self.old.room + 1 }) }
         ensures err { OnErr result (self.new ≡ self.old) }
     {
@@ -56,7 +56,7 @@ impl Line {
     }
 
     /// Gives a kept place up.
-    pub fn give_back(&mut self)
+    fn give_back(&mut self)
         requires { 0 < self.old.room }
         ensures { self.new ≡ record self.old { room = self.old.room - 1 } }
     {
@@ -64,7 +64,7 @@ impl Line {
     }
 
     /// Puts the report last, into a kept place.
-    pub fn push(&mut self, report: Report)
+    fn push(&mut self, report: Report)
         requires { 0 < self.old.room }
         ensures { self.new ≡ put report self.old }
     {
@@ -73,7 +73,7 @@ impl Line {
     }
 
     /// Takes the first report away.
-    pub fn next(&mut self) -> Option<Report>
+    fn next(&mut self) -> Option<Report>
         ensures first { result ≡ slice_get self.old.reports 0 }
         ensures rest { self.new ≡ record self.old { reports = drop 1 self.old.reports } }
     {

@@ -46,7 +46,7 @@ impl Sending<'_> {
 }
 
 /// The head of a batch under this producer id, whose first record has this sequence number.
-pub fn batch_head(id: u64, sequence: u64) -> BatchHead
+pub(crate) fn batch_head(id: u64, sequence: u64) -> BatchHead
     requires id { id < 2 ^ 63 }
     requires sequence { sequence < 2 ^ 31 }
     ensures { result ≡ record {
@@ -64,7 +64,11 @@ pub fn batch_head(id: u64, sequence: u64) -> BatchHead
 
 /// The batch of these items.
 #[tactic(auto, unfolding(kp_accum::specs::Queue::size_of))]
-pub fn batch_bytes(alloc: Global, head: BatchHead, items: &[Item]) -> Result<Blob, AllocError>
+pub(crate) fn batch_bytes(
+    alloc: Global,
+    head: BatchHead,
+    items: &[Item],
+) -> Result<Blob, AllocError>
     requires some { 0 < length items.now }
     requires fits { size_of items.now ≤ SIZE_LIMIT }
     ensures { IfOk result (λ bytes. Spells bytes (written head (map body_of items.now))) }

@@ -24,9 +24,13 @@ led_on s m t [] others life later first then =
     (subst (λ (l : Life). Lives m others (followed_by l later) t) (sym first.0) then)
 led_on s m t (x ∷ calls) others life later first then =
     let middle = first.0 in
-    let rest = first.1 in
-    (middle, followed_by rest later, first.2, led_on middle m t calls others rest later first.3 then,
-    ap (λ (l : Life). followed_by l later) first.4 ∙ followed_assoc (life_of s x) rest later)
+    let rest = first.1 in (
+      middle,
+      followed_by rest later,
+      first.2,
+      led_on middle m t calls others rest later first.3 then,
+      ap (λ (l : Life). followed_by l later) first.4 ∙ followed_assoc (life_of s x) rest later,
+    )
 
 followed_by_nothing : (life : Life) → followed_by life (record { appended = []; told = []; packets = [] }) ≡ life
 followed_by_nothing life =

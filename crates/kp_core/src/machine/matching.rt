@@ -15,7 +15,7 @@ use std::alloc::{AllocError, Global};
 
 /// What a response says of one partition.
 #[derive(Clone, Copy, Debug)]
-pub enum Entry<'a> {
+pub(crate) enum Entry<'a> {
     Missing,
     One(&'a PartitionProduceResponse),
     Several,
@@ -34,7 +34,7 @@ impl<'a> Entry<'a> {
 }
 
 /// What a response says of each of so many partitions.
-pub fn entries_by_partition<'a>(
+pub(crate) fn entries_by_partition<'a>(
     alloc: Global,
     entries: &'a [PartitionProduceResponse],
     partitions: usize,
@@ -67,7 +67,7 @@ fn put_entry<'a>(found: &mut Vec<Entry<'a>>, entry: &'a PartitionProduceResponse
 }
 
 /// The entries of the one topic, which has this name.
-pub fn entries_of_topic<'a>(
+pub(crate) fn entries_of_topic<'a>(
     response: &'a ProduceResponse,
     topic: &Text,
 ) -> Option<&'a [PartitionProduceResponse]>
@@ -81,7 +81,7 @@ pub fn entries_of_topic<'a>(
 }
 
 /// Whether each of these partitions has one entry, and the offsets that it gives are there.
-pub fn answers_each(
+pub(crate) fn answers_each(
     partitions: &[Partition],
     correlation: u32,
     chosen: &[u32],
@@ -124,7 +124,7 @@ fn has_offsets(attempt: Option<&Open>, entry: &PartitionProduceResponse) -> bool
 }
 
 /// Whether a response to a request for an id is one: an id that is given is not below 0, and its epoch is 0.
-pub fn answers_id(response: &InitProducerIdResponse) -> bool
+pub(crate) fn answers_id(response: &InitProducerIdResponse) -> bool
     ensures { result ≡ answers_id response.now }
 {
     response.error_code != 0 || (response.producer_id >= 0 && response.producer_epoch == 0)
