@@ -114,6 +114,7 @@ pub(crate) fn record_fields_size(body: &Record, timestamp_delta: i64, offset_del
 
 /// The size of a record in a batch, where its timestamp and its offset are so much above those of the batch;
 /// u64::MAX where it is above the limit of a batch.
+#[inline(always)]
 pub fn record_size(body: &Record, timestamp_delta: i64, offset_delta: i32) -> u64
     ensures { result ≡ measured (length (relative_record.spell (relative_by timestamp_delta offset_delta body.now))) }
 {
