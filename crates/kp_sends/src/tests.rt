@@ -7,6 +7,7 @@ mod fences;
 mod flushing;
 mod ids;
 mod memory;
+mod refusals;
 mod replying;
 mod requests;
 mod samples;
