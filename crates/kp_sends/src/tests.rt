@@ -6,6 +6,7 @@ mod deadlines;
 mod fences;
 mod flushing;
 mod ids;
+mod many;
 mod memory;
 mod refusals;
 mod replying;
