@@ -224,6 +224,7 @@ fn a_reply_has_the_partitions_that_were_fenced_since(rt: HostRuntime) -> Result<
         Told(0, "0/0 unknown"),
         Mismatch(120_000, 2, &[(1, 0, 0)]),
         Mismatch(120_000, 2, &[(1, 0, 0), (1, 0, 0)]),
+        Mismatch(120_000, 2, &[(1, 0, 0), (2, 0, 0)]),
         Mismatch(120_000, 2, &[(0, 0, 0), (1, 0, -1)]),
         Hear(120_000, 2, &[(0, 0, -1), (1, 0, 0)], 1),
         Told(0, "1/0 delivered 0"),
