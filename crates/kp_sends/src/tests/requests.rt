@@ -1,14 +1,15 @@
 //! What a request has.
 
-use crate::tests::samples::item;
+use crate::tests::samples::{item, singles};
 use crate::tests::scene::Scene;
-use crate::tests::steps::Step::{Append, Audit, Hear, Send, Told};
-use crate::tests::steps::plays;
+use crate::tests::steps::Step::{self, Append, Audit, Counts, End, Feed, Hear, Send, Told};
+use crate::tests::steps::{play, plays};
 use crate::tests::wire::records_of;
 use kp_accum::{AppendFault, Config, Item};
 use kp_batch::{Header, Record, Timestamp};
 use kp_wire::{Blob, Seq, Text};
 use std::alloc::Global;
+use std::process::Abort;
 use std::test::Fail;
 
 fn has(bytes: &Option<Blob>, text: &[u8]) -> bool {
@@ -49,6 +50,173 @@ fn a_batch_that_does_not_fit_holds_those_behind_it(rt: HostRuntime) -> Result<()
         Send(0, "4 2:1000/0+c"),
     ];
     plays(&rt, config, 3, 1, &steps)
+}
+
+/// With batches of one record, and requests of so many bytes.
+fn narrow(max_request_size: u64) -> Config {
+    Config {
+        max_request_size,
+        ..singles()
+    }
+}
+
+/// Each of the first five partitions has a batch of 69 bytes.
+const FIVE: &[Step<'static>] = &[
+    Append(0, 0, 0, 0, "a"),
+    Append(0, 1, 0, 0, "b"),
+    Append(0, 2, 0, 0, "c"),
+    Append(0, 3, 0, 0, "d"),
+    Append(0, 4, 0, 0, "e"),
+];
+
+/// Takes the steps once five of six partitions have a batch.
+fn of_five<R: Abort + AllocGlobal>(rt: &R, config: Config, steps: &[Step<'_>]) -> Result<(), Fail> {
+    let mut scene = Scene::open(rt.alloc(), config, 6, 1)?;
+    play(rt, &mut scene, FIVE)?;
+    play(rt, &mut scene, steps)
+}
+
+/// Two have 138 bytes, three have 207. The others go in the next request, and behind the last partition comes the
+/// first.
+#[test]
+fn a_request_has_as_many_batches_as_fit(rt: HostRuntime) -> Result<(), Fail> {
+    let steps = [
+        Send(0, "2 0:1000/0+a 1:1000/0+b"),
+        Send(0, "3 2:1000/0+c 3:1000/0+d"),
+        Hear(0, 2, &[(0, 0, 0), (1, 0, 0)], 2),
+        Append(0, 0, 1, 0, "f"),
+        Append(0, 1, 1, 0, "g"),
+        Send(0, "4 4:1000/0+e 0:1000/1+f"),
+        Send(0, "5 1:1000/1+g"),
+        Send(0, "idle"),
+    ];
+    of_five(&rt, narrow(138), &steps)
+}
+
+#[test]
+fn a_request_has_not_a_byte_more_than_it_may(rt: HostRuntime) -> Result<(), Fail> {
+    let steps = [Send(0, "2 0:1000/0+a"), Send(0, "3 1:1000/0+b")];
+    of_five(&rt, narrow(137), &steps)?;
+    let steps = [
+        Send(0, "2 0:1000/0+a 1:1000/0+b"),
+        Send(0, "3 2:1000/0+c 3:1000/0+d"),
+        Send(0, "4 4:1000/0+e"),
+    ];
+    of_five(&rt, narrow(206), &steps)?;
+    let steps = [
+        Send(0, "2 0:1000/0+a 1:1000/0+b 2:1000/0+c"),
+        Send(0, "3 3:1000/0+d 4:1000/0+e"),
+    ];
+    of_five(&rt, narrow(207), &steps)
+}
+
+/// Behind the middle one comes the last, and then the first; behind the last one the first.
+#[test]
+fn the_partitions_behind_the_last_one_used_come_first(rt: HostRuntime) -> Result<(), Fail> {
+    let steps = [
+        Append(0, 1, 0, 0, "a"),
+        Send(0, "2 1:1000/0+a"),
+        Hear(0, 2, &[(1, 0, 0)], 1),
+        Append(0, 0, 0, 0, "b"),
+        Append(0, 1, 1, 0, "c"),
+        Append(0, 2, 0, 0, "d"),
+        Send(0, "3 2:1000/0+d 0:1000/0+b 1:1000/1+c"),
+        Hear(0, 3, &[(0, 0, 0), (1, 0, 1), (2, 0, 0)], 3),
+        Append(0, 0, 1, 0, "e"),
+        Append(0, 2, 1, 0, "f"),
+        Send(0, "4 2:1000/1+f 0:1000/1+e"),
+        Append(0, 2, 2, 0, "g"),
+        Send(0, "5 2:1000/2+g"),
+        Append(0, 0, 2, 0, "h"),
+        Append(0, 1, 2, 0, "i"),
+        Append(0, 2, 3, 0, "j"),
+        Send(0, "6 0:1000/2+h 1:1000/2+i 2:1000/3+j"),
+    ];
+    plays(&rt, singles(), 3, 1, &steps)
+}
+
+/// One batch fits a request.
+fn at_most(requests: u64) -> Config {
+    Config {
+        max_in_flight_requests_per_connection: requests,
+        ..narrow(100)
+    }
+}
+
+#[test]
+fn no_more_requests_are_in_flight_than_the_configuration_says(rt: HostRuntime) -> Result<(), Fail> {
+    let one = [
+        Send(0, "2 0:1000/0+a"),
+        Send(0, "idle"),
+        Counts([1, 1, 1, 1, 5, 345]),
+        Hear(0, 2, &[(0, 0, 0)], 1),
+        Send(0, "3 1:1000/0+b"),
+        Send(0, "idle"),
+    ];
+    of_five(&rt, at_most(1), &one)?;
+    let two = [
+        Send(0, "2 0:1000/0+a"),
+        Send(0, "3 1:1000/0+b"),
+        Send(0, "idle"),
+        Counts([2, 2, 2, 2, 5, 345]),
+        Hear(0, 3, &[(1, 0, 0)], 1),
+        Send(0, "4 2:1000/0+c"),
+        Send(0, "idle"),
+    ];
+    of_five(&rt, at_most(2), &two)?;
+    let five = [
+        Append(0, 5, 0, 0, "f"),
+        Send(0, "2 0:1000/0+a"),
+        Send(0, "3 1:1000/0+b"),
+        Send(0, "4 2:1000/0+c"),
+        Send(0, "5 3:1000/0+d"),
+        Send(0, "6 4:1000/0+e"),
+        Send(0, "idle"),
+        Counts([5, 5, 5, 5, 6, 414]),
+        Hear(0, 4, &[(2, 0, 0)], 1),
+        Send(0, "7 5:1000/0+f"),
+        Send(0, "idle"),
+    ];
+    of_five(&rt, at_most(5), &five)
+}
+
+/// Where nothing may be sent nothing is wanting; where something may, each id was used.
+#[test]
+fn once_the_last_correlation_id_was_used_no_request_goes_out(rt: HostRuntime) -> Result<(), Fail> {
+    let mut scene = Scene::open_from(rt.alloc(), singles(), 1, 1, 2_147_483_646)?;
+    let steps = [
+        Feed("abc"),
+        Send(0, "2147483646 0:1000/0+a"),
+        Hear(0, 2_147_483_646, &[(0, 0, 0)], 1),
+        Send(0, "2147483647 0:1000/1+b"),
+        Send(0, "CorrelationSpent"),
+        Hear(0, 2_147_483_647, &[(0, 0, 1)], 1),
+        Send(0, "CorrelationSpent"),
+        Told(0, "0/0 delivered 0, 0/1 delivered 1"),
+        Counts([0, 0, 2, 2, 1, 69]),
+        End(1),
+        Send(0, "Ended"),
+        Told(0, "0/2 ended"),
+    ];
+    play(&rt, &mut scene, &steps)
+}
+
+/// Neither one for batches nor one for an id.
+#[test]
+fn once_the_last_correlation_id_was_used_no_id_is_asked_for(rt: HostRuntime) -> Result<(), Fail> {
+    let config = Config {
+        sequence_limit: 1,
+        ..singles()
+    };
+    let mut scene = Scene::open_from(rt.alloc(), config, 1, 1, 2_147_483_647)?;
+    let steps = [
+        Feed("ab"),
+        Send(0, "2147483647 0:1000/0+a"),
+        Send(0, "idle"),
+        Hear(0, 2_147_483_647, &[(0, 0, 0)], 1),
+        Send(0, "CorrelationSpent"),
+    ];
+    play(&rt, &mut scene, &steps)
 }
 
 /// The first item, with all that a record may have.

@@ -1,7 +1,9 @@
 //! A core with what its senders hand over and are told, and what it sends and hears.
 
 use crate::tests::samples::{core_of, item, marks_of, put_report};
-use crate::tests::wire::{Answer, Given, id_content, reply_content, request_text};
+use crate::tests::wire::{
+    Answer, Given, Topic, id_content, reply_content, request_text, topics_content, topics_of,
+};
 use kp_accum::{AppendFault, Config, Item};
 use kp_core::{Core, CoreFault, Replied, Report, Run};
 use std::alloc::Global;
@@ -128,6 +130,18 @@ impl Scene {
         answers: &[Answer],
     ) -> Result<Result<Replied, CoreFault>, Fail> {
         let content = reply_content(self.alloc, correlation, "t", answers)?;
+        self.hear_content(now, content.as_slice())
+    }
+
+    /// Hears a reply to batches of these topics.
+    pub fn hear_topics(
+        &mut self,
+        now: u64,
+        correlation: i32,
+        topics: &[Topic<'_>],
+    ) -> Result<Result<Replied, CoreFault>, Fail> {
+        let topics = topics_of(self.alloc, topics)?;
+        let content = topics_content(self.alloc, correlation, topics)?;
         self.hear_content(now, content.as_slice())
     }
 

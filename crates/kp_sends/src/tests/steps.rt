@@ -2,7 +2,7 @@
 
 use crate::tests::samples::{ENDED, MISMATCH, UNKNOWN, settled};
 use crate::tests::scene::Scene;
-use crate::tests::wire::{Answer, Given};
+use crate::tests::wire::{Answer, Given, Topic};
 use kp_accum::{AppendFault, Config};
 use kp_core::{CoreFault, Replied, Run};
 use kp_frames::FrameFault;
@@ -27,14 +27,20 @@ pub enum Step<'a> {
     Stale(u64, i32, &'a [Answer]),
     /// A reply to batches is none to its request.
     Mismatch(u64, i32, &'a [Answer]),
+    /// A reply to batches, of these topics, is none to its request.
+    MismatchTopics(u64, i32, &'a [Topic<'a>]),
     /// A reply to batches comes after the end.
     HearEnded(u64, i32, &'a [Answer]),
+    /// The content of a reply comes after the end.
+    RefusedEnded(u64, &'a [u8]),
     /// A reply to a request for an id is heard.
     HearId(u64, i32, Given),
     /// A reply to a request for an id names no request in flight.
     StaleId(u64, i32, Given),
     /// A reply to a request for an id is none to its request.
     MismatchId(u64, i32, Given),
+    /// The content of a reply is heard, and tells so many items.
+    HearContent(u64, &'a [u8], usize),
     /// The content of a reply is refused.
     Refused(u64, &'a [u8], FrameFault),
     /// The content of a reply names no request in flight.
@@ -145,6 +151,33 @@ fn hear<R: Abort>(rt: &R, scene: &mut Scene, step: &Step<'_>) -> Result<(), Fail
     Ok(())
 }
 
+/// What replies of other topics do, contents that are right, and those that come after the end.
+fn take_in<R: Abort>(rt: &R, scene: &mut Scene, step: &Step<'_>) -> Result<(), Fail> {
+    match *step {
+        Step::MismatchTopics(now, correlation, topics) => {
+            is_heard(
+                rt,
+                step,
+                scene.hear_topics(now, correlation, topics)?,
+                MISMATCH,
+            )
+        }
+        Step::HearContent(now, content, reports) => {
+            is_heard(
+                rt,
+                step,
+                scene.hear_content(now, content)?,
+                settled(reports),
+            )
+        }
+        Step::RefusedEnded(now, content) => {
+            is_heard(rt, step, scene.hear_content(now, content)?, ENDED)
+        }
+        _ => {}
+    }
+    Ok(())
+}
+
 /// What the time and the caller bring.
 fn bring<R: Abort>(rt: &R, scene: &mut Scene, step: &Step<'_>) {
     match *step {
@@ -191,6 +224,7 @@ pub fn play<R: Abort>(rt: &R, scene: &mut Scene, steps: &[Step<'_>]) -> Result<(
         hand_over(rt, scene, step)?;
         converse(rt, scene, step)?;
         hear(rt, scene, step)?;
+        take_in(rt, scene, step)?;
         bring(rt, scene, step);
         look(rt, scene, step)?;
     }

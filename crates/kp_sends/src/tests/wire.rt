@@ -15,6 +15,9 @@ use std::test::Fail;
 /// What a reply says of a partition: its number, the error code, and the offset of the batch's first record.
 pub type Answer = (i32, i16, i64);
 
+/// What a reply says of a topic: its name, and its partitions.
+pub type Topic<'a> = (&'a str, &'a [Answer]);
+
 /// What a reply to a request for an id says: the error code, the producer id, and its epoch.
 pub type Given = (i16, i64, i16);
 
@@ -144,6 +147,15 @@ pub fn topic_of(
     })
 }
 
+/// What a reply says of these topics.
+pub fn topics_of(alloc: Global, topics: &[Topic<'_>]) -> Result<Vec<TopicProduceResponse>, Fail> {
+    let mut responses = Vec::new(alloc);
+    for (topic, answers) in topics {
+        responses.push(topic_of(alloc, topic, answers)?)?;
+    }
+    Ok(responses)
+}
+
 /// The content of a reply to batches.
 pub fn topics_content(
     alloc: Global,
@@ -164,9 +176,7 @@ pub fn reply_content(
     topic: &str,
     answers: &[Answer],
 ) -> Result<Vec<u8>, Fail> {
-    let mut topics = Vec::new(alloc);
-    topics.push(topic_of(alloc, topic, answers)?)?;
-    topics_content(alloc, correlation, topics)
+    topics_content(alloc, correlation, topics_of(alloc, &[(topic, answers)])?)
 }
 
 /// The content of a reply to a request for a producer id.
