@@ -27,7 +27,7 @@ abbrev pub entries_for : ℕ → ProduceResponse → List PartitionProduceRespon
 entries_for p response = filter (is_for p) (entries_of response)
 
 -- where the entry stores a batch whose attempt is still in flight, each of its records has an
--- offset, an int64 that is not below 0
+-- offset that is not below 0, and the offset behind the last one is an int64 too
 abbrev pub has_offsets : Option Open → PartitionProduceResponse → Bool
 has_offsets attempt entry = elim attempt [
   | None ↦ true

@@ -6,6 +6,7 @@ mod deadlines;
 mod fences;
 mod flushing;
 mod ids;
+mod lists;
 mod many;
 mod memory;
 mod refusals;
