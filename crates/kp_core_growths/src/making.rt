@@ -35,14 +35,14 @@ fn item_of(alloc: Global, letter: Letter) -> Result<Item, AllocError> {
 }
 
 /// The item, and whether memory was refused on the way.
-pub fn made_item(alloc: Global, letter: Letter) -> Option<(Item, Outcome)> {
+pub(crate) fn made_item(alloc: Global, letter: Letter) -> Option<(Item, Outcome)> {
     match item_of(alloc, letter) {
         Ok(item) => Some((item, Outcome::Right)),
         Err(AllocError) => Some((item_of(alloc, letter).ok()?, Outcome::Refused)),
     }
 }
 
-pub fn is_item(item: &Item, letter: Letter) -> bool {
+pub(crate) fn is_item(item: &Item, letter: Letter) -> bool {
     (item.sender, item.partition, item.number, item.at) == (letter.0, letter.1, letter.2, 0)
         && is_value(&item.body.value, letter.3)
 }
@@ -94,7 +94,7 @@ fn core_of(alloc: Global, schedule: &Schedule) -> Option<Core> {
 }
 
 /// The schedule's core, and whether memory was refused on the way.
-pub fn made_core(alloc: Global, schedule: &Schedule) -> Option<(Core, Outcome)> {
+pub(crate) fn made_core(alloc: Global, schedule: &Schedule) -> Option<(Core, Outcome)> {
     match core_of(alloc, schedule) {
         Some(core) => Some((core, Outcome::Right)),
         None => Some((core_of(alloc, schedule)?, Outcome::Refused)),
@@ -147,7 +147,7 @@ fn batches_frame(alloc: Global, correlation: u32, answers: &[Answer]) -> Option<
 }
 
 /// The frame of a reply to batches, and whether memory was refused on the way.
-pub fn made_reply(
+pub(crate) fn made_reply(
     alloc: Global,
     correlation: u32,
     answers: &[Answer],
@@ -162,7 +162,11 @@ pub fn made_reply(
 }
 
 /// The frame of a reply to a request for an id, and whether memory was refused on the way.
-pub fn made_id_reply(alloc: Global, correlation: u32, given: Given) -> Option<(Vec<u8>, Outcome)> {
+pub(crate) fn made_id_reply(
+    alloc: Global,
+    correlation: u32,
+    given: Given,
+) -> Option<(Vec<u8>, Outcome)> {
     match frame_of(alloc, correlation, id_body(given)) {
         Some(frame) => Some((frame, Outcome::Right)),
         None => Some((

@@ -2,7 +2,7 @@
 
 /// What a call came to.
 #[derive(Clone, Copy, Debug, PartialEq, Eq)]
-pub enum Outcome {
+pub(crate) enum Outcome {
     Right,
     /// Memory was refused, and nothing else went wrong.
     Refused,
@@ -10,7 +10,7 @@ pub enum Outcome {
 }
 
 impl Outcome {
-    pub fn of(right: bool) -> Outcome {
+    pub(crate) fn of(right: bool) -> Outcome {
         if right {
             Outcome::Right
         } else {
@@ -19,7 +19,7 @@ impl Outcome {
     }
 
     /// The call's outcome, where this is the outcome of the same call, made again.
-    pub fn after_refusal(self) -> Outcome {
+    pub(crate) fn after_refusal(self) -> Outcome {
         match self {
             Outcome::Right => Outcome::Refused,
             other => other,
@@ -27,7 +27,7 @@ impl Outcome {
     }
 
     /// The outcome of two calls.
-    pub fn and(self, other: Outcome) -> Outcome {
+    pub(crate) fn and(self, other: Outcome) -> Outcome {
         match (self, other) {
             (Outcome::Right, Outcome::Right) => Outcome::Right,
             (Outcome::Wrong, _) | (_, Outcome::Wrong) => Outcome::Wrong,

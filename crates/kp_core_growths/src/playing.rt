@@ -232,7 +232,7 @@ fn is_told(core: &mut Core, sender: u32, told: &[Told]) -> Outcome {
 }
 
 /// Takes the step.
-pub fn take(alloc: Global, core: &mut Core, step: &Step) -> Outcome {
+pub(crate) fn take(alloc: Global, core: &mut Core, step: &Step) -> Outcome {
     match *step {
         Step::Append(letter) => append(alloc, core, letter),
         Step::Full(letter) => refuse(alloc, core, letter),

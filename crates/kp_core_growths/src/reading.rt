@@ -40,12 +40,12 @@ fn is_under(outgoing: &Outgoing, api: u64, correlation: u32) -> bool {
 }
 
 /// Whether it is a request for a producer id.
-pub fn asks_for_id(outgoing: &Outgoing, correlation: u32) -> bool {
+pub(crate) fn asks_for_id(outgoing: &Outgoing, correlation: u32) -> bool {
     is_under(outgoing, INIT_PRODUCER_ID, correlation)
 }
 
 /// Whether it is a request with these batches.
-pub fn has_batches(outgoing: &Outgoing, correlation: u32, batches: &[Sent]) -> bool {
+pub(crate) fn has_batches(outgoing: &Outgoing, correlation: u32, batches: &[Sent]) -> bool {
     let bytes = outgoing.bytes.as_slice();
     is_under(outgoing, PRODUCE, correlation)
         && number_at(bytes, BEFORE_BATCHES - 4, 4) == batches.len() as u64

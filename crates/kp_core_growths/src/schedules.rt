@@ -273,7 +273,7 @@ const END: &[Step] = &[
 ];
 
 /// The schedule of this name.
-pub fn schedule_of(name: &[u8]) -> Option<Schedule> {
+pub(crate) fn schedule_of(name: &[u8]) -> Option<Schedule> {
     let (config, partitions, senders, steps) = match name {
         b"window" => (SINGLES, 1, 1, WINDOW),
         b"senders" => (PLAIN, 1, 2, SENDERS),

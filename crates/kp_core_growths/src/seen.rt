@@ -13,7 +13,7 @@ struct SeenPartition {
 
 /// What is to be seen of a core with at most two partitions.
 #[derive(Clone, Copy, PartialEq, Eq)]
-pub struct Seen {
+pub(crate) struct Seen {
     used: u64,
     untold: u64,
     due: Option<u64>,
@@ -29,7 +29,7 @@ pub struct Seen {
 }
 
 /// What is to be seen of the core.
-pub fn look(core: &Core) -> Seen {
+pub(crate) fn look(core: &Core) -> Seen {
     Seen {
         used: core.used(),
         untold: core.untold(),
@@ -58,7 +58,7 @@ fn seen_partition(core: &Core, partition: u32) -> SeenPartition {
 }
 
 /// The partition's producer ids; none where it isn't there.
-pub fn ids_of(core: &Core, partition: u32) -> &[u64] {
+pub(crate) fn ids_of(core: &Core, partition: u32) -> &[u64] {
     if partition as usize >= core.partitions() {
         return &[];
     }
@@ -66,7 +66,7 @@ pub fn ids_of(core: &Core, partition: u32) -> &[u64] {
 }
 
 /// The items that were handed over for the partition; none where it isn't there.
-pub fn audit_of(core: &Core, partition: u32) -> &[Run] {
+pub(crate) fn audit_of(core: &Core, partition: u32) -> &[Run] {
     if partition as usize >= core.partitions() {
         return &[];
     }

@@ -4,24 +4,24 @@ use kp_accum::Config;
 use kp_core::{Outcome, Run};
 
 /// An item: its sender, its partition, its number, and the one letter of its value. It is accepted at the moment 0.
-pub type Letter = (u32, u32, u64, u8);
+pub(crate) type Letter = (u32, u32, u64, u8);
 
 /// A batch in a request: its partition, producer id and base sequence, and its records' letters.
-pub type Sent = (u32, u64, u32, &'static [u8]);
+pub(crate) type Sent = (u32, u64, u32, &'static [u8]);
 
 /// What a reply says of a partition: its number, the error code, and the offset of the batch's first record.
-pub type Answer = (i32, i16, i64);
+pub(crate) type Answer = (i32, i16, i64);
 
 /// What a reply to a request for an id says: the error code, the producer id, and its epoch.
-pub type Given = (i16, i64, i16);
+pub(crate) type Given = (i16, i64, i16);
 
 /// What a sender is told of an item: its partition and number, and what became of it.
-pub type Told = (u32, u64, Outcome);
+pub(crate) type Told = (u32, u64, Outcome);
 
 /// A step of a schedule, with what it shows. Moments stand first; a request and its reply are told by their correlation
 /// id.
 #[derive(Clone, Copy)]
-pub enum Step {
+pub(crate) enum Step {
     /// The item is appended.
     Append(Letter),
     /// The item is refused, since the buffer memory is full.
@@ -55,7 +55,7 @@ pub enum Step {
 
 /// A producer, and what happens to it.
 #[derive(Clone, Copy)]
-pub struct Schedule {
+pub(crate) struct Schedule {
     pub config: Config,
     pub partitions: u32,
     pub senders: u32,
