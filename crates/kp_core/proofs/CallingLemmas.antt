@@ -1,12 +1,12 @@
 -- Calls that are made from a list.
-use Rattle.std.proofs.Common.{◌≡◌, false, List, [], ◌∷◌, ◌++◌, map, append_assoc, append-nil, refl, sym, ap, ◌∙◌, subst}
+use Rattle.std.proofs.Common.{◌≡◌, false, List, [], ◌∷◌, ◌++◌, append_assoc, append-nil, refl, sym, ap, ◌∙◌, subst}
 use Rattle.std.specs.Prelude.{Result, Ok, Err, IfErr}
 use Rattle.std.proofs.lemmas.List.{map-append}
 use Rattle.kp_accum.specs.declared.fault.AppendFault.{AppendFault}
 use Rattle.kp_accum.specs.declared.fault.AppendFault.TheVariants.{BufferFull}
 use Rattle.kp_accum.specs.declared.item.Item.{Item}
 use Rattle.kp_rules.specs.Appending.{Appends, may_append, append_step}
-use Rattle.kp_rules.specs.Calls.{Call, Gives, Life, Lives, life_of, followed_by}
+use Rattle.kp_rules.specs.Calls.{Gives, Lives, life_of, followed_by}
 use Rattle.kp_rules.specs.Records.{Core, quietly}
 use Rattle.kp_rules.proofs.LeadingOnLemmas.{one_more}
 use Rattle.kp_core.specs.declared.calls.Asked.{Asked}

@@ -1,9 +1,8 @@
 -- A partition in which nothing is queued or open: there is nothing to send, to mark, or to wait for.
-use Rattle.std.proofs.Common.{◌≡◌, ℕ, Bool, true, false, true≢false, List, [], ◌∷◌, None, refl, sym, ap, ◌∙◌}
+use Rattle.std.proofs.Common.{◌≡◌, ℕ, Bool, true, false, true≢false, List, [], ◌∷◌, None, refl, sym}
 use Rattle.std.specs.Prelude.{Option, ◌&&◌, not, if◌then◌else◌}
 use Rattle.kp_accum.specs.declared.config.Config.{Config}
 use Rattle.kp_accum.specs.declared.flags.Flags.{Flags}
-use Rattle.kp_accum.specs.Queue.{Pending}
 use Rattle.kp_rules.specs.Due.{earliest, partition_moments}
 use Rattle.kp_rules.specs.Flush.{has_marks}
 use Rattle.kp_rules.specs.MaySend.{is_confirmed, is_within_limit, sends, wants_id}

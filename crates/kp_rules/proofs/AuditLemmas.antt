@@ -1,15 +1,12 @@
 -- What a call does otherwise, tells and answers doesn't depend on audits.
 use Rattle.std.proofs.Common.{◌≡◌, ℕ, zero, suc, ◌+◌, Bool, true, false, not, List, [], ◌∷◌, ◌++◌, length, map, Some, None, refl, sym, ap, ◌∙◌}
 use Rattle.std.proofs.Math.Path.{fun_ext}
-use Rattle.std.specs.Prelude.{Option, Result, Ok, Err, ℤ, filter, filter_map, find, flat_map, drop, take, is_some, nat_abs, nat_le, nat_lt, option_map, slice_set, sum_by, if◌then◌else◌, ◌&&◌, ◌||◌, ◌==◌}
+use Rattle.std.specs.Prelude.{Option, Result, Ok, Err, ℤ, filter, filter_map, find, flat_map, drop, take, is_some, nat_abs, nat_le, nat_lt, option_map, slice_set, sum_by, if◌then◌else◌, ◌&&◌, ◌==◌}
 use Rattle.std.specs.List.{cons_option, enumerate_from, list_all, list_any}
 use Rattle.std.proofs.lemmas.List.{drop-map, take-map, length-map, map-append}
-use Rattle.std.proofs.lemmas.List.Folds.{flat_map-map}
 use Rattle.kp_wire.specs.Reading.{Read}
 use Rattle.kp_wire.specs.Fields.{int32}
 use Rattle.kp_accum.specs.declared.config.Config.{Config}
-use Rattle.kp_accum.specs.declared.fault.AppendFault.TheVariants.{BufferFull}
-use Rattle.kp_accum.specs.declared.flags.Flags.{Flags}
 use Rattle.kp_accum.specs.declared.item.Item.{Item}
 use Rattle.kp_accum.specs.Queue.{Pending, charge_of}
 use Rattle.kp_frames.specs.declared.fault.FrameFault.{FrameFault}
@@ -26,8 +23,8 @@ use Rattle.kp_rules.specs.declared.meaning.Meaning.{Meaning}
 use Rattle.kp_rules.specs.declared.meaning.Meaning.TheVariants as meaning
 use Rattle.kp_rules.specs.declared.outcome.Reason.{Reason}
 use Rattle.kp_rules.specs.declared.outcome.Reason.TheVariants as reason
-use Rattle.kp_rules.specs.Appending.{Appends, enqueue, turn_away, with_queued, may_append, would_exhaust, append_step}
-use Rattle.kp_rules.specs.Attempts.{asks_for_id, awaiting, has_window, is_id_asked, is_live, lowest_waiting}
+use Rattle.kp_rules.specs.Appending.{enqueue, turn_away, with_queued, may_append, would_exhaust, append_step}
+use Rattle.kp_rules.specs.Attempts.{awaiting, has_window, is_id_asked, is_live, lowest_waiting}
 use Rattle.kp_rules.specs.Auditing.{unaudited, without_audits, effect_unaudited, called_unaudited}
 use Rattle.kp_rules.specs.Closing.{close_step, end_all, end_step}
 use Rattle.kp_rules.specs.Dropping.{drop_attempts, drop_requests, disconnect_step}
@@ -40,13 +37,14 @@ use Rattle.kp_accum.specs.Ready.{is_over}
 use Rattle.kp_rules.specs.Next.{Sending, demand_with, fitting, in_turn, next_asking, next_batches, next_demand, sending_by, used_up_to}
 use Rattle.kp_rules.specs.Partitions.{is_in, partition_at, with_partition, changed_at, untold, all_untold, used}
 use Rattle.kp_rules.specs.Records.{Open, Partition, Demand, Produce, InitProducerId, Request, Core, Told, Effect, Called, quietly}
-use Rattle.kp_rules.specs.Replies.{Replies, awaited, settle_batches, go_on_under, give_id, settle_id, refuse_as, unknown, known, settle, response_step, api_of, reply_step}
+use Rattle.kp_rules.specs.Replies.{awaited, settle_batches, go_on_under, give_id, settle_id, refuse_as, known, settle, response_step, api_of, reply_step}
 use Rattle.kp_rules.specs.Reports.{fetch_step}
-use Rattle.kp_rules.specs.Requesting.{Requested, partitions_in, is_spent, go_out, sent_out, request_step}
-use Rattle.kp_rules.specs.Settling.{meaning_of, settle_by, left_alone, settle_batch}
+use Rattle.kp_rules.specs.Requesting.{Requested, partitions_in, is_spent, go_out, request_step}
+use Rattle.kp_rules.specs.Settling.{meaning_of, settle_by, settle_batch}
 use Rattle.kp_rules.specs.Telling.{with_partitions, at_each, at_these}
 use Rattle.kp_rules.specs.Tick.{Ticks, is_open_late, expire_front, heed_deadlines, has_timed_out, tick_partitions, tick_step}
 use Rattle.kp_rules.proofs.CallLemmas.{reading, naming, hearing, by_attempt, by_entries, idle}
+use Rattle.kp_rules.proofs.FetchedLemmas.{append_by, request_by, response_by, tick_by_cases}
 use Rattle.kp_rules.proofs.ListLemmas.{flat_map_mapped, list_any_mapped}
 
 -- ---- a partition's rules
@@ -197,14 +195,6 @@ same_untold : (s : Core) → all_untold (without_audits s) ≡ all_untold s
 unfolding without_audits untold
 same_untold s = flat_map_mapped untold unaudited untold (λ t. refl) s.partitions
 
-abbrev append_by : Item → Core → Bool → Bool → Bool → Bool → Appends
-append_by i s may ended fenced full =
-    if not may then quietly s (Err BufferFull)
-    else if ended then turn_away reason.Ended i s
-    else if fenced then turn_away reason.Fenced i s
-    else if full then quietly (record s { exhausted = true }) (Err BufferFull)
-    else quietly (with_queued i s) (Ok tt)
-
 append_by_cases : (i : Item) (s : Core) (may ended fenced full : Bool)
     → append_by i (without_audits s) may ended fenced full ≡ called_unaudited (append_by i s may ended fenced full)
 unfolding without_audits
@@ -319,11 +309,6 @@ same_out now s (Produce xs) =
     (some_changed (partitions_in xs) (λ p t. send_in s.correlation t) (λ p t. same_send s.correlation t) s.partitions)
 same_out now s (InitProducerId p) = refl
 
-abbrev request_by : ℕ → Core → Bool → Option (Demand Sending) → Bool → Requested
-request_by now s ended wanted spent =
-    if ended then quietly s (Err fault.Ended)
-    else elim wanted [ None ↦ quietly s (Ok None) | Some d ↦ if spent then quietly s (Err fault.CorrelationSpent) else go_out now s d ]
-
 request_by_cases : (now : ℕ) (s : Core) (ended : Bool) (wanted : Option (Demand Sending)) (spent : Bool)
     → request_by now (without_audits s) ended wanted spent ≡ called_unaudited (request_by now s ended wanted spent)
 request_by_cases now s true wanted spent = refl
@@ -403,10 +388,6 @@ same_settled now k s (Produce ps) (body.InitProducerId x) = refl
 same_settled now k s (InitProducerId p) (body.Produce x) = refl
 same_settled now k s (InitProducerId p) (body.Metadata x) = refl
 
-abbrev response_by : ℕ → Core → ResponseBody → Bool → Option Request → Replies
-response_by now s x ended named =
-    if ended then refuse_as fault.Ended s else elim named [ None ↦ unknown s | Some q ↦ settle now s q.correlation q.demand x ]
-
 response_by_cases : (now : ℕ) (s : Core) (x : ResponseBody) (ended : Bool) (named : Option Request)
     → response_by now (without_audits s) x ended named ≡ called_unaudited (response_by now s x ended named)
 response_by_cases now s x true named = refl
@@ -457,12 +438,6 @@ unfolding without_audits
 same_ticks now reconnect s =
     ap (λ (made : Called ℕ). let x : Ticks = record { after = made.after; told = made.told; answer = record { reports = made.answer; reconnect = reconnect } } in x)
     (same_each (heed_deadlines s.config now) (same_heed s.config now) s)
-
-abbrev tick_by_cases : ℕ → Core → Bool → Bool → Ticks
-tick_by_cases now s ended over =
-    if ended then quietly s (record { reports = 0; reconnect = false })
-    else if over then tick_partitions heed_deadlines now true (drop_requests now s)
-    else tick_partitions heed_deadlines now false s
 
 same_tick_cases : (now : ℕ) (s : Core) (ended over : Bool)
     → tick_by_cases now (without_audits s) ended over ≡ called_unaudited (tick_by_cases now s ended over)

@@ -77,7 +77,7 @@ turned_behind r why i s =
     ap (λ (reports : List (List Report)). let x : Appends = record (turn_away why i s) { after = record s { reports = reports } } in x)
     (told_behind r (turn_away why i s).told s.reports)
 
-abbrev append_by : Item → Core → Bool → Bool → Bool → Bool → Appends
+abbrev pub append_by : Item → Core → Bool → Bool → Bool → Bool → Appends
 append_by i s may ended fenced full =
     if not may then quietly s (Err BufferFull)
     else if ended then turn_away reason.Ended i s
@@ -111,7 +111,7 @@ out_behind : (r : List (List Report)) (now : ℕ) (s : Core) (d : Demand Sending
 out_behind r now s (Produce xs) = refl
 out_behind r now s (InitProducerId p) = refl
 
-abbrev request_by : ℕ → Core → Bool → Option (Demand Sending) → Bool → Requested
+abbrev pub request_by : ℕ → Core → Bool → Option (Demand Sending) → Bool → Requested
 request_by now s ended wanted spent =
     if ended then quietly s (Err fault.Ended)
     else elim wanted [ None ↦ quietly s (Ok None) | Some d ↦ if spent then quietly s (Err fault.CorrelationSpent) else go_out now s d ]
@@ -175,7 +175,7 @@ settle_behind r now k s (Produce ps) (body.InitProducerId x) = refl
 settle_behind r now k s (InitProducerId p) (body.Produce x) = refl
 settle_behind r now k s (InitProducerId p) (body.Metadata x) = refl
 
-abbrev response_by : ℕ → Core → ResponseBody → Bool → Option Request → Replies
+abbrev pub response_by : ℕ → Core → ResponseBody → Bool → Option Request → Replies
 response_by now s x ended named =
     if ended then refuse_as fault.Ended s else elim named [ None ↦ unknown s | Some q ↦ settle now s q.correlation q.demand x ]
 
@@ -227,7 +227,7 @@ ticks_behind r now reconnect s =
     ap (λ (made : Called ℕ). let x : Ticks = record { after = made.after; told = made.told; answer = record { reports = made.answer; reconnect = reconnect } } in x)
     (partitions_behind r _ _ s)
 
-abbrev tick_by_cases : ℕ → Core → Bool → Bool → Ticks
+abbrev pub tick_by_cases : ℕ → Core → Bool → Bool → Ticks
 tick_by_cases now s ended over =
     if ended then quietly s (record { reports = 0; reconnect = false })
     else if over then tick_partitions heed_deadlines now true (drop_requests now s)

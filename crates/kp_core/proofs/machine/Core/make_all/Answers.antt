@@ -1,4 +1,4 @@
-use Rattle.std.proofs.Common.{◌≡◌, ◌∙◌, List, [], ◌∷◌, length, vec_len, refl, sym, ap, subst, rules, arith}
+use Rattle.std.proofs.Common.{◌≡◌, List, [], ◌∷◌, length, vec_len, sym, ap, subst, rules, arith}
 use Rattle.std.proofs.lemmas.List.{nil_from_length}
 use Rattle.kp_core.specs.declared.calls.Asked.{Asked}
 use Rattle.kp_core.specs.declared.calls.Answered.{Answered}
