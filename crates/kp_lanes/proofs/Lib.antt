@@ -1,0 +1,4 @@
+pub mod EachLemmas
+pub mod EntryLemmas
+pub mod GateSteps
+pub mod SettlingLemmas

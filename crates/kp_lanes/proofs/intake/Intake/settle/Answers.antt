@@ -1,0 +1,38 @@
+use Rattle.std.proofs.Common.{◌≡◌, ◌<◌, ℕ, map, length, get_or, sym, subst, arith}
+use Rattle.kp_lanes.specs.Intake.{intake_gate}
+use Rattle.kp_lanes.specs.Sender.{finished_number}
+use Rattle.kp_lanes.specs.Settling.{HasRooms, IsOf}
+use Rattle.kp_lanes.specs.Port.{port_id}
+use Rattle.kp_lanes.specs.declared.sender.Finished.{Finished}
+use Rattle.kp_lanes.proofs.SettlingLemmas.{of_placed, moved, moved_rooms, adds, same_length, still_of}
+use Rattle.kp_lanes.proofs.EachLemmas.{same_default}
+use Rattle.kp_lanes.proofs.intake.Intake.settle.Goals as goal
+
+pub rooms-requires-clause-placed : goal.rooms-requires-clause-placed
+rooms-requires-clause-placed c = of_placed (intake_gate c.args.self) c.args.self.ports.items c.args.finished.items c.requires
+
+pub drain_all-requires-clause-placed : goal.drain_all-requires-clause-placed
+drain_all-requires-clause-placed c =
+    let ps = c.args.self.ports.items in let fs = c.args.finished.items in
+    moved ps c.rooms.new.ports.items fs c.rooms.new.finished.items c.rooms.ensures.ports c.rooms.ensures.finished (of_placed (intake_gate c.args.self) ps fs c.requires)
+
+pub drain_all-requires-clause-rooms : goal.drain_all-requires-clause-rooms
+drain_all-requires-clause-rooms c =
+    let ps = c.args.self.ports.items in let fs = c.args.finished.items in
+    let long : length c.rooms.new.finished.items ≡ length fs = same_length finished_number finished_number c.rooms.new.finished.items fs c.rooms.ensures.finished.numbers in
+    moved_rooms ps c.rooms.new.ports.items fs c.rooms.new.finished.items c.rooms.ensures.ports c.rooms.ensures.finished c.in-Ok.settled (length c.rooms.new.finished.items)
+    (subst (HasRooms ps fs c.in-Ok.settled) (sym long) c.in-Ok.ensures.rooms)
+
+pub returns-in-Ok-clause-settled : goal.returns-in-Ok-clause-settled
+returns-in-Ok-clause-settled c k d below =
+    let ps = c.args.self.ports.items in let fs = c.args.finished.items in
+    let long : length c.rooms.new.finished.items ≡ length fs = same_length finished_number finished_number c.rooms.new.finished.items fs c.rooms.ensures.finished.numbers in
+    let both = adds ps c.rooms.new.ports.items fs c.rooms.new.finished.items c.rooms.ensures.ports c.rooms.ensures.finished c.drain_all.new.settled k (get_or fs k d) below (same_default fs k d (get_or fs k d) below)
+    (c.drain_all.ensures.all k (omega arith)) in
+    record { items = both.0; reports = both.1 }
+
+pub returns-in-Err-clause-again : goal.returns-in-Err-clause-again
+returns-in-Err-clause-again c =
+    let g = intake_gate c.args.self in let fs = c.args.finished.items in
+    still_of (map (port_id g) c.rooms.new.ports.items) fs c.rooms.new.finished.items c.rooms.ensures.finished.numbers c.rooms.ensures.finished.ids
+    (subst (λ l. (k : ℕ) (d : Finished) → k < length fs → IsOf l (get_or fs k d)) (sym (c.rooms.ensures.ports.ids g)) c.requires)

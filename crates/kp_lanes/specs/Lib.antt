@@ -1,0 +1,14 @@
+pub mod Closer
+pub mod Entries
+pub mod Faults
+pub mod Gate
+pub mod Intake
+pub mod Lane
+pub mod Limits
+pub mod Opening
+pub mod Outbox
+pub mod Port
+pub mod Rings
+pub mod Sender
+pub mod Settling
+pub mod Tokens
