@@ -4,6 +4,7 @@
 #![tactic(auto)]
 
 mod frames;
+mod lanes;
 mod waiting;
 
 use kp_batch::{
@@ -290,6 +291,7 @@ fn outcome_of<R: Files + AllocGlobal>(rt: &R) -> Outcome {
         frames::response(alloc),
         frames::stream(alloc),
         waiting::appended(alloc, waiting),
+        lanes::settling(alloc),
         pack(rt),
     ];
     if outcomes.contains(&Outcome::Wrong) {
