@@ -10,16 +10,24 @@
 //! answered, and their reports fetched; `keep N` appends all of them first, and `leave N` fetches no report before the
 //! end. `delivers N`, `keeps N` and `leaves N` do so with 64 senders and 64 partitions, and `years N` is `deliver N` with
 //! four senders. Of a core of 1,024 partitions without an item, `tick N` tells it the time N times, `vain N` asks it for a
-//! request, and `due N` when it is next to be looked at.
+//! request, and `due N` when it is next to be looked at. `record N` makes N records of 100 bytes, each dropped before the
+//! next is made, and `lose N` drops none; `send N` sends N records (65,536 at most) into a lane and drops none, `lane N`
+//! sends, takes and drops N, one after the other, and `lanes N` does so in rounds of 256; `ring N` and `rings N` pass N
+//! items through a bare ring in the same way. `hear N` hands N reports to a sender, which receives them, and `idle N` finds
+//! N times that there is nothing to take.
 #![tactic(auto)]
 
 mod delivering;
+mod laning;
 mod messages;
 mod queueing;
 mod samples;
 mod work;
 
 use delivering::{Course, Plan, asks_in_vain, asks_when, delivers, ticks};
+use laning::{
+    hears, loses, passes, passes_by_rounds, records, rings, rings_by_rounds, sends, takes_in_vain,
+};
 use messages::{cuts_bytes, cuts_whole, requests, responses, takes_waiting};
 use queueing::{Way, makes, queues};
 use std::alloc::{AllocError, Global};
@@ -78,6 +86,15 @@ fn answer(alloc: Global, line: &str) -> Result<Option<u64>, AllocError> {
         "tick" => ticks(alloc, times).map(Some),
         "vain" => asks_in_vain(alloc, times).map(Some),
         "due" => asks_when(alloc, times).map(Some),
+        "record" => records(alloc, times).map(Some),
+        "lose" => loses(alloc, times).map(Some),
+        "send" => sends(alloc, times).map(Some),
+        "lane" => passes(alloc, times).map(Some),
+        "lanes" => passes_by_rounds(alloc, times).map(Some),
+        "ring" => rings(alloc, times).map(Some),
+        "rings" => rings_by_rounds(alloc, times).map(Some),
+        "hear" => hears(alloc, times).map(Some),
+        "idle" => takes_in_vain(alloc, times).map(Some),
         _ => Ok(None),
     }
 }

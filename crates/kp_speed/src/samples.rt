@@ -1,4 +1,4 @@
-//! What the works are done with: a configuration and items.
+//! What the works are done with: a configuration, records and items.
 
 use kp_accum::{Config, Item};
 use kp_batch::{Record, Timestamp};
@@ -21,6 +21,16 @@ pub(crate) const CONFIG: Config = Config {
     sequence_limit: 2_147_483_648,
 };
 
+/// A record with no key and a value of a hundred bytes.
+pub(crate) fn record_of(alloc: Global) -> Result<Record, AllocError> {
+    Ok(Record {
+        timestamp: Timestamp::from_millis(0).ok_or(AllocError)?,
+        key: None,
+        value: Some(Blob::from_slice(alloc, &VALUE)?),
+        headers: Seq::new(Vec::new(alloc)),
+    })
+}
+
 /// This sender's item with this number, accepted at the moment 0.
 pub(crate) fn item_of(
     alloc: Global,
@@ -33,11 +43,6 @@ pub(crate) fn item_of(
         partition,
         number: u64::from(number),
         at: 0,
-        body: Record {
-            timestamp: Timestamp::from_millis(0).ok_or(AllocError)?,
-            key: None,
-            value: Some(Blob::from_slice(alloc, &VALUE)?),
-            headers: Seq::new(Vec::new(alloc)),
-        },
+        body: record_of(alloc)?,
     })
 }
