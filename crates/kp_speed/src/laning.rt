@@ -41,11 +41,15 @@ fn send(alloc: Global, sender: &mut Sender) -> Result<u64, AllocError> {
     }
 }
 
-fn take(intake: &mut Intake) -> Option<Item> {
+/// Takes the next item and drops it. The answer is its number.
+fn take(intake: &mut Intake) -> Option<u64> {
     if intake.senders() == 0 {
         return None;
     }
-    intake.take(0)
+    match intake.take(0) {
+        Some(item) => Some(item.number),
+        None => None,
+    }
 }
 
 fn report(intake: &mut Intake, number: u64) -> Result<(), AllocError> {
@@ -101,8 +105,7 @@ pub(crate) fn passes(alloc: Global, times: u32) -> Result<u64, AllocError> {
     let mut sum = 0u64;
     for _ in 0..times {
         let _number = send(alloc, &mut sender)?;
-        let item = take(&mut intake).ok_or(AllocError)?;
-        sum = sum.wrapping_add(item.number);
+        sum = sum.wrapping_add(take(&mut intake).ok_or(AllocError)?);
     }
     Ok(sum)
 }
@@ -119,8 +122,7 @@ fn pass_round(
     }
     let mut sum = 0u64;
     for _ in 0..times {
-        let item = take(intake).ok_or(AllocError)?;
-        sum = sum.wrapping_add(item.number);
+        sum = sum.wrapping_add(take(intake).ok_or(AllocError)?);
     }
     Ok(sum)
 }
@@ -141,6 +143,14 @@ fn push(alloc: Global, ring: &mut Producer<Item>, number: u32) -> Result<(), All
         .map_err(|_| AllocError)
 }
 
+/// Takes an item out of a ring and drops it. The answer is its number.
+fn pop(ring: &mut Consumer<Item>) -> Result<u64, AllocError> {
+    match ring.pop() {
+        Ok(item) => Ok(item.number),
+        Err(_) => Err(AllocError),
+    }
+}
+
 /// So many items made, put into a ring, taken out and dropped, one after the other. The answer is the sum of their
 /// numbers.
 pub(crate) fn rings(alloc: Global, times: u32) -> Result<u64, AllocError> {
@@ -148,8 +158,7 @@ pub(crate) fn rings(alloc: Global, times: u32) -> Result<u64, AllocError> {
     let mut sum = 0u64;
     for number in 0..times {
         push(alloc, &mut front, number)?;
-        let item = back.pop().map_err(|_| AllocError)?;
-        sum = sum.wrapping_add(item.number);
+        sum = sum.wrapping_add(pop(&mut back)?);
     }
     Ok(sum)
 }
@@ -167,8 +176,7 @@ fn ring_round(
     }
     let mut sum = 0u64;
     for _ in 0..times {
-        let item = back.pop().map_err(|_| AllocError)?;
-        sum = sum.wrapping_add(item.number);
+        sum = sum.wrapping_add(pop(back)?);
     }
     Ok(sum)
 }
@@ -201,7 +209,10 @@ pub(crate) fn takes_in_vain(alloc: Global, times: u32) -> Result<u64, AllocError
     let (_sender, mut intake) = lane_of(alloc, CAPACITY)?;
     let mut sum = 0u64;
     for _ in 0..times {
-        sum = sum.wrapping_add(u64::from(take(&mut intake).is_none()));
+        if intake.senders() == 0 {
+            return Err(AllocError);
+        }
+        sum = sum.wrapping_add(u64::from(intake.take(0).is_none()));
     }
     Ok(sum)
 }
