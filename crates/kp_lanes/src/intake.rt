@@ -73,7 +73,7 @@ impl Intake {
     }
 
     /// The next item of a sender, if this end sees one behind fewer marks than the lane has places.
-    #[inline]
+    #[inline(always)]
     pub fn take(&mut self, sender: u32) -> Option<Item>
         requires { sender < length (lanes_of self.old) }
         ensures same { SameIntake self.old self.new × (told_lists self.new ≡ told_lists self.old) × (asked_lists self.new ≡ asked_lists self.old) }

@@ -107,7 +107,7 @@ impl Port {
     }
 
     /// Takes out the item that stands first.
-    #[inline(always)]
+    #[inline(never)]
     fn pop_item(&mut self) -> Item
         requires { (x : Item) × (rest : List Entry) × (seen self.old ≡ Sent x ∷ rest) }
         ensures same { SamePort self.old self.new × (asked_at self.new ≡ asked_at self.old) }
