@@ -1,6 +1,7 @@
 //! Sends records from threads of their own while one thread takes them and reports, and checks from outside what came of
 //! each. Of each line of its input, "SENDERS RECORDS CAPACITY", so many senders send so many records in all through lanes
-//! of so many places; with "shut" behind it the gate is shut in the middle of the sending.
+//! of so many places; with "shut" behind it the gate is shut in the middle of the sending. With "time" before it nothing is
+//! checked: it measures how many records a second go through lanes and through bare rings, and says so on standard error.
 #![tactic(auto)]
 
 mod judging;
@@ -10,30 +11,63 @@ mod running;
 mod sending;
 mod signal;
 mod taking;
+mod timing;
 mod wrong;
 
 use plan::Plan;
 use running::run;
+use std::alloc::Global;
 use std::io;
+use std::rt::Clock;
+use std::thread::Threads;
+use timing::measure;
+
+/// Says how many records a second go through.
+fn time<R: Threads + Clock + Print + Eprint + Copy + Send + 'static>(
+    rt: R,
+    alloc: Global,
+    line: &str,
+) -> io::Result<()> {
+    let Some(plan) = Plan::read(line) else {
+        return println!(rt; "time {line} is no run");
+    };
+    match measure(rt, alloc, plan) {
+        Err(wrong) => println!(rt; "time {line}: wrong: {wrong}"),
+        Ok(rates) => eprintln!(rt;
+            "time {line}: {} records a second through lanes, {} through bare rings",
+            rates.lanes, rates.rings
+        ),
+    }
+}
+
+/// Says whether all was found again.
+fn tell<R: Threads + Clock + Print + Copy + Send + 'static>(
+    rt: R,
+    alloc: Global,
+    line: &str,
+) -> io::Result<()> {
+    let Some(plan) = Plan::read(line) else {
+        return println!(rt; "{line} is no run");
+    };
+    match run(rt, alloc, plan) {
+        Err(wrong) => println!(rt; "{line}: wrong: {wrong}"),
+        Ok(_) if plan.shut => println!(rt;
+            "{line}: what was accepted was taken or left, in order, and each that was taken has its report"
+        ),
+        Ok(sums) => println!(rt;
+            "{line}: sent {}, taken and left {}, reports {}, in order",
+            sums.sent, sums.found, sums.reports
+        ),
+    }
+}
 
 fn main(rt: HostRuntime) -> io::Result<()> {
-    for line in rt.lines(rt.alloc()) {
+    let alloc = rt.alloc();
+    for line in rt.lines(alloc) {
         let line = line?;
-        let Some(plan) = Plan::read(line.as_str()) else {
-            println!(rt; "{line} is no run")?;
-            continue;
-        };
-        match run(rt, rt.alloc(), plan) {
-            Err(wrong) => println!(rt; "{line}: wrong: {wrong}")?,
-            Ok(_) if plan.shut => {
-                println!(rt;
-                    "{line}: what was accepted was taken or left, in order, and each that was taken has its report"
-                )?
-            }
-            Ok(sums) => println!(rt;
-                "{line}: sent {}, taken and left {}, reports {}, in order",
-                sums.sent, sums.found, sums.reports
-            )?,
+        match line.as_str().strip_prefix("time ") {
+            Some(plan) => time(rt, alloc, plan)?,
+            None => tell(rt, alloc, line.as_str())?,
         }
     }
     Ok(())

@@ -45,18 +45,23 @@ pub(crate) fn run<R: Threads + Clock + Copy + Send + 'static>(
         return Err(Wrong::NoThread);
     };
     let trays = takes(&rt, alloc, &mut intake, plan, &signal);
-    let ends = all_joined(&rt, alloc, &intake, handles)?;
-    closing.join(&rt)?;
+    if trays.is_err() {
+        signal.tell_over();
+    }
+    let ends = all_joined(&rt, alloc, &intake, handles);
+    let closed = closing.join(&rt);
+    let trays = trays?;
     let Ends {
         finished,
         accounts,
         wrong,
-    } = ends;
+    } = ends?;
     if let Some(wrong) = wrong {
         return Err(wrong);
     }
+    closed?;
     let settled = settled(alloc, intake, finished)?;
-    judge(plan, &accounts, &trays?, &settled)
+    judge(plan, &accounts, &trays, &settled)
 }
 
 fn opened(alloc: Global, plan: Plan) -> Result<(Vec<Sender>, Intake, Closer), Wrong>

@@ -109,7 +109,7 @@ fn works<R: Clock>(
         wait_for_quiet(rt, sender, task, &mut account, gate)?;
         stays_closed(alloc, sender)?;
     } else {
-        hear_all(rt, sender, &mut account)?;
+        hear_all(rt, sender, task, &mut account)?;
     }
     Ok(account)
 }
@@ -159,7 +159,7 @@ fn send_one<R: Clock>(
             Err((SendFault::LaneFull, _)) if quiet => return Err(Wrong::OpenAgain),
             Err((SendFault::LaneFull, back)) => {
                 hear(sender, account)?;
-                nap(rt);
+                nap(rt, &task.signal)?;
                 body = back;
             }
             Err((fault, back)) => {
@@ -225,13 +225,18 @@ fn wait_for_quiet<R: Clock>(
         if gate == Gate::Open {
             hear(sender, account)?;
         }
-        nap(rt);
+        nap(rt, &task.signal)?;
     }
     Err(Wrong::NeverQuiet)
 }
 
 /// Waits for the reports of all that was accepted.
-fn hear_all<R: Clock>(rt: &R, sender: &mut Sender, account: &mut Account) -> Result<(), Wrong>
+fn hear_all<R: Clock>(
+    rt: &R,
+    sender: &mut Sender,
+    task: &Task,
+    account: &mut Account,
+) -> Result<(), Wrong>
     ensures { Same sender.old sender.new }
 {
     for _ in 0..TRIES {
@@ -239,7 +244,7 @@ fn hear_all<R: Clock>(rt: &R, sender: &mut Sender, account: &mut Account) -> Res
         if sender.waiting() == 0 {
             return Ok(());
         }
-        nap(rt);
+        nap(rt, &task.signal)?;
     }
     Err(Wrong::SenderWaits)
 }
@@ -257,9 +262,13 @@ fn hear(sender: &mut Sender, account: &mut Account) -> Result<(), Wrong>
     Ok(())
 }
 
-/// Sleeps for a short time.
-pub(crate) fn nap<R: Clock>(rt: &R) {
+/// Sleeps for a short time, unless something went wrong.
+pub(crate) fn nap<R: Clock>(rt: &R, signal: &Signal) -> Result<(), Wrong> {
+    if signal.is_over() {
+        return Err(Wrong::Stopped);
+    }
     thread::sleep(rt, Duration::from_micros(SLEEP_MICROS));
+    Ok(())
 }
 
 impl Account {

@@ -7,6 +7,7 @@ use std::sync::atomic::{AtomicBool, AtomicU64, Ordering};
 pub(crate) struct Signal {
     taken: AtomicU64,
     quiet: AtomicBool,
+    over: AtomicBool,
 }
 
 impl Signal {
@@ -14,6 +15,7 @@ impl Signal {
         Signal {
             taken: AtomicU64::new(0),
             quiet: AtomicBool::new(false),
+            over: AtomicBool::new(false),
         }
     }
 
@@ -33,5 +35,14 @@ impl Signal {
 
     pub(crate) fn is_quiet(&self) -> bool {
         self.quiet.load(Ordering::SeqCst)
+    }
+
+    /// Something went wrong: nobody needs to wait any longer.
+    pub(crate) fn tell_over(&self) {
+        self.over.store(true, Ordering::SeqCst);
+    }
+
+    pub(crate) fn is_over(&self) -> bool {
+        self.over.load(Ordering::SeqCst)
     }
 }

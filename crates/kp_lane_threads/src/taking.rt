@@ -72,7 +72,7 @@ pub(crate) fn takes<R: Clock>(
             return Err(Wrong::TakerWaits);
         } else {
             vain += 1;
-            nap(rt);
+            nap(rt, signal)?;
         }
         signal.tell_taken(desk.taken);
     }
@@ -127,13 +127,15 @@ fn serve(intake: &mut Intake, desk: &mut Desk, sender: usize) -> Result<bool, Wr
     }
 }
 
+/// Hands over a report; false where its ring has no room.
 fn reports(intake: &mut Intake, report: Report) -> bool
     ensures { lanes_of intake.new ≡ lanes_of intake.old }
 {
     (report.sender as usize) < intake.senders() && intake.report(report).is_ok()
 }
 
-fn take(intake: &mut Intake, sender: usize) -> Option<Item>
+/// The next item of a sender.
+pub(crate) fn take(intake: &mut Intake, sender: usize) -> Option<Item>
     ensures { lanes_of intake.new ≡ lanes_of intake.old }
 {
     if sender >= intake.senders() {
@@ -205,7 +207,7 @@ pub(crate) fn closes<R: Clock>(
         if signal.taken() >= when {
             break;
         }
-        nap(rt);
+        nap(rt, signal)?;
     }
     closer.shut();
     for _ in 0..TRIES {
@@ -213,7 +215,7 @@ pub(crate) fn closes<R: Clock>(
             signal.tell_quiet();
             return Ok(());
         }
-        nap(rt);
+        nap(rt, signal)?;
     }
     Err(Wrong::NeverQuiet)
 }

@@ -9,6 +9,8 @@ use thiserror::Error;
 pub(crate) enum Wrong {
     #[error("out of memory")]
     OutOfMemory,
+    #[error("the clock can't be read")]
+    NoClock,
     #[error("a thread was refused")]
     NoThread,
     #[error("the lanes are not opened: {0}")]
@@ -17,6 +19,8 @@ pub(crate) enum Wrong {
     Refused(SendFault),
     #[error("a sender tried too often")]
     SenderWaits,
+    #[error("another thread went wrong")]
+    Stopped,
     #[error("the taker looked too often")]
     TakerWaits,
     #[error("another record came back")]
