@@ -2,7 +2,7 @@
 
 ghost use Rattle.std.specs.Prelude.{◌≡◌, ◌≤◌, ◌+◌, ◌==◌, [], IfOk, true, false, MatchBool};
 ghost use Rattle.kp_lanes.specs.declared.gate.view.Stage.TheVariants.{Out, Trying, Inside};
-ghost use Rattle.kp_lanes.specs.Gate.{newcomer, admitted, refused, outside, told_shut, looked, less_room};
+ghost use Rattle.kp_lanes.specs.Gate.{entered, newcomer, admitted, refused, outside, told_shut, looked, less_room};
 
 pub mod plays;
 pub mod view;
@@ -81,13 +81,23 @@ impl Gate {
         ensures here { seat.new.table_id ≡ seat.old.table_id }
         ensures view { seat.new.me.0 ≡ outside seat.old.me.0 }
     {
-        self.table.shared.fetch_sub::<Leave>(seat, 0, ONE);
+        self.count_out(seat);
     }
 
     /// Leaves, where it is inside.
     pub fn leave(&self, seat: &mut Seat)
         requires here { seat.old.table_id ≡ self.now.table.shared.table_id }
         requires inside { seat.old.me.0.stage ≡ Inside }
+        ensures here { seat.new.table_id ≡ seat.old.table_id }
+        ensures view { seat.new.me.0 ≡ outside seat.old.me.0 }
+    {
+        self.count_out(seat);
+    }
+
+    /// Who is trying or inside is counted no more.
+    fn count_out(&self, seat: &mut Seat)
+        requires here { seat.old.table_id ≡ self.now.table.shared.table_id }
+        requires counted { entered seat.old.me.0 ≡ 1 }
         ensures here { seat.new.table_id ≡ seat.old.table_id }
         ensures view { seat.new.me.0 ≡ outside seat.old.me.0 }
     {

@@ -1,7 +1,6 @@
-use Rattle.std.proofs.Common.{rules, ap}
+use Rattle.std.proofs.Common.{ap}
 use Rattle.kp_lanes.specs.Gate.{stage_entered}
-use Rattle.kp_lanes.proofs.GateSteps.{leaves}
 use Rattle.kp_lanes.proofs.gate.Gate.leave.Goals as goal
 
-pub fetch_sub-requires : goal.fetch_sub-requires
-fetch_sub-requires c = (c.requires.here, search rules, leaves _ _ _ (ap stage_entered c.requires.inside))
+pub count_out-requires-clause-counted : goal.count_out-requires-clause-counted
+count_out-requires-clause-counted c = ap stage_entered c.requires.inside
