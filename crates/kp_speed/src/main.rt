@@ -14,11 +14,14 @@
 //! next is made, and `lose N` drops none; `send N` sends N records (65,536 at most) into a lane and drops none, `lane N`
 //! sends, takes and drops N, one after the other, and `lanes N` does so in rounds of 256; `ring N` and `rings N` pass N
 //! items through a bare ring in the same way. `hear N` hands N reports to a sender, which receives them, and `idle N` finds
-//! N times that there is nothing to take.
+//! N times that there is nothing to take. `spell N` writes N batches of 100 records, and `offer N` offers each to a log as
+//! it is written; `look N` does the same and looks 100,000 records up, and `list N` reads each and keeps all records in
+//! one list that has just their room.
 #![tactic(auto)]
 
 mod delivering;
 mod laning;
+mod logging;
 mod messages;
 mod queueing;
 mod samples;
@@ -28,6 +31,7 @@ use delivering::{Course, Plan, asks_in_vain, asks_when, delivers, ticks};
 use laning::{
     hears, loses, passes, passes_by_rounds, records, rings, rings_by_rounds, sends, takes_in_vain,
 };
+use logging::{lists, looks, offers, spells};
 use messages::{cuts_bytes, cuts_whole, requests, responses, takes_waiting};
 use queueing::{Way, makes, queues};
 use std::alloc::{AllocError, Global};
@@ -95,6 +99,10 @@ fn answer(alloc: Global, line: &str) -> Result<Option<u64>, AllocError> {
         "rings" => rings_by_rounds(alloc, times).map(Some),
         "hear" => hears(alloc, times).map(Some),
         "idle" => takes_in_vain(alloc, times).map(Some),
+        "spell" => spells(alloc, times).map(Some),
+        "offer" => offers(alloc, times).map(Some),
+        "look" => looks(alloc, times).map(Some),
+        "list" => lists(alloc, times).map(Some),
         _ => Ok(None),
     }
 }
