@@ -18,8 +18,10 @@ use Rattle.kp_cli.specs.Report.{answered, report_text, value_of, values_of}
 
 -- ---- a log's lines
 
-pub log_lines-drop : (values : List (List ℕ)) (k : ℕ) → k < length values → log_lines k (drop k values) ≡ log_line k (get_or values k []) ++ log_lines (k + 1) (drop (k + 1) values)
-log_lines-drop values k within = rw (add-one, drop-cons values k []) refl
+pub log_lines-drop : (partition : ℕ) (values : List (List ℕ)) (k : ℕ) → k < length values
+    → log_lines partition k (drop k values)
+    ≡ log_line partition k (get_or values k []) ++ log_lines partition (k + 1) (drop (k + 1) values)
+log_lines-drop partition values k within = rw (add-one, drop-cons values k []) refl
 
 pub values_of-at : (records : List Stored) (k : ℕ) (s : Stored) → Some s ≡ slice_get records k → get_or (values_of records) k [] ≡ value_of s
 values_of-at records k s is = get_or_from_slice_get (values_of records) k (value_of s) [] (slice_get-map value_of records k ∙ ap (option_map value_of) (sym is))
@@ -47,7 +49,7 @@ values_of-stored id [] = refl
 values_of-stored id (value ∷ values) = ap (λ (rest : List (List ℕ)). value ∷ rest) (values_of-stored id values)
 
 text_of : (id : ℤ) (values : List (List ℕ)) (size : ℕ) (o : Offered) → StoredOnce id (records_of values) o
-    → report_text size (length values) o ≡ batch_line size (length values) ++ answered (answer.Stored (pos 0)) ++ answered (answer.Stored (pos 0)) ++ log_lines 0 values
+    → report_text size (length values) o ≡ batch_line size (length values) ++ answered (answer.Stored (pos 0)) ++ answered (answer.Stored (pos 0)) ++ log_lines 0 0 values
 text_of id values size o stored =
     let shown : values_of o.log.records ≡ values = ap values_of stored.once ∙ values_of-stored id values in
     rw (stored.first, stored.repeat, shown) refl

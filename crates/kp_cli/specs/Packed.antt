@@ -23,13 +23,15 @@ batch_line size count = codes "batch " ++ decimal size ++ codes " records " ++ d
 abbrev pub answer_line : ℤ → ℤ → List ℕ
 answer_line code base = codes "answer " ++ signed_decimal code ++ codes " " ++ signed_decimal base ++ newline
 
-abbrev pub log_line : ℕ → List ℕ → List ℕ
-log_line offset value = codes "log 0 " ++ decimal offset ++ codes " " ++ printed value ++ newline
+-- a value at its offset in a partition's log
+abbrev pub log_line : ℕ → ℕ → List ℕ → List ℕ
+log_line partition offset value =
+    codes "log " ++ decimal partition ++ codes " " ++ decimal offset ++ codes " " ++ printed value ++ newline
 
--- the values of a log from this offset on
-abbrev pub log_lines : ℕ → List (List ℕ) → List ℕ
-log_lines offset [] = []
-log_lines offset (value ∷ values) = log_line offset value ++ log_lines (suc offset) values
+-- the values of a partition's log from this offset on
+abbrev pub log_lines : ℕ → ℕ → List (List ℕ) → List ℕ
+log_lines partition offset [] = []
+log_lines partition offset (value ∷ values) = log_line partition offset value ++ log_lines partition (suc offset) values
 
 -- ---- the whole text
 
@@ -41,4 +43,4 @@ packed_text (value ∷ values) =
     batch_line (size_of_batch (records_of all)) (length all)
     ++ answer_line (pos 0) (pos 0)
     ++ answer_line (pos 0) (pos 0)
-    ++ log_lines 0 all
+    ++ log_lines 0 0 all

@@ -17,4 +17,4 @@ abbrev pub values_of : List Stored → List (List ℕ)
 values_of records = map value_of records
 
 abbrev pub report_text : ℕ → ℕ → Offered → List ℕ
-report_text size count o = batch_line size count ++ answered o.first ++ answered o.repeat ++ log_lines 0 (values_of o.log.records)
+report_text size count o = batch_line size count ++ answered o.first ++ answered o.repeat ++ log_lines 0 0 (values_of o.log.records)

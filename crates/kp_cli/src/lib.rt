@@ -12,6 +12,7 @@ mod reporting;
 mod streams;
 
 pub use program::{DONE, FAULT, USAGE, kprod_with, refuse_words};
+pub use reporting::put_log;
 
 #[cfg(test)]
 mod tests;

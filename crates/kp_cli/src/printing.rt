@@ -104,11 +104,18 @@ pub fn put_answer_line(out: &mut Vec<u8>, code: i16, base: i64) -> Result<(), Al
     out.extend_from_slice(b"\n")
 }
 
-/// A value of a log, at its offset.
-pub fn put_log_line(out: &mut Vec<u8>, offset: u64, value: &[u8]) -> Result<(), AllocError>
-    ensures { OnOk result (out.new.items ≡ out.old.items ++ log_line offset value.now) }
+/// A value of a partition's log, at its offset.
+pub fn put_log_line(
+    out: &mut Vec<u8>,
+    partition: u32,
+    offset: u64,
+    value: &[u8],
+) -> Result<(), AllocError>
+    ensures { OnOk result (out.new.items ≡ out.old.items ++ log_line partition offset value.now) }
 {
-    out.extend_from_slice(b"log 0 ")?;
+    out.extend_from_slice(b"log ")?;
+    put_number(out, partition)?;
+    out.extend_from_slice(b" ")?;
     put_number(out, offset)?;
     out.extend_from_slice(b" ")?;
     put_printed(out, value)?;

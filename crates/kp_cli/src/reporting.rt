@@ -25,12 +25,13 @@ fn put_answer(out: &mut Vec<u8>, answer: Answer) -> Result<(), AllocError>
     put_answer_line(out, answer.code(), answer.base_offset())
 }
 
-fn put_log(out: &mut Vec<u8>, log: &PartitionLog) -> Result<(), AllocError>
-    ensures { OnOk result (out.new.items ≡ out.old.items ++ log_lines 0 (values_of log.now.records)) }
+/// The values of a partition's log, a line each: `log PARTITION OFFSET VALUE`.
+pub fn put_log(out: &mut Vec<u8>, partition: u32, log: &PartitionLog) -> Result<(), AllocError>
+    ensures { OnOk result (out.new.items ≡ out.old.items ++ log_lines partition 0 (values_of log.now.records)) }
 {
     for offset in 0..log.len() {
         let stored = log.get(offset).unwrap();
-        put_log_line(out, offset, value_in(stored))?;
+        put_log_line(out, partition, offset, value_in(stored))?;
     }
     Ok(())
 }
@@ -48,6 +49,6 @@ pub fn report(
     put_batch_line(&mut text, size, count)?;
     put_answer(&mut text, offered.first)?;
     put_answer(&mut text, offered.repeat)?;
-    put_log(&mut text, &offered.log)?;
+    put_log(&mut text, 0, &offered.log)?;
     Ok(text)
 }

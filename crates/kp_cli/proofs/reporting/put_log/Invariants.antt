@@ -5,4 +5,4 @@ use Rattle.kp_cli.proofs.reporting.put_log.Given as goal
 
 abbrev pub invariant-loop-offset : goal.invariant-loop-offset
 invariant-loop-offset l =
-    l.out.items ++ log_lines l.offset (drop l.offset (values_of l.log.records)) ≡ l.initial.out.items ++ log_lines 0 (values_of l.log.records)
+    l.out.items ++ log_lines l.partition l.offset (drop l.offset (values_of l.log.records)) ≡ l.initial.out.items ++ log_lines l.partition 0 (values_of l.log.records)
