@@ -157,3 +157,9 @@ front_spelled front content fits p =
     let back : to_be_bytes w32 (from_be_bytes w32 p.size) ≡ p.size = wide32.back p.size p.four small in
     let same : cast_unsigned w32 (size_of p.size) ≡ from_be_bytes w32 p.size = of_z-to_z w32 (from_be_bytes w32 p.size) (wide32.below p.size small) in
     p.parts ∙ ap (λ (t : List ℕ). t ++ content) (sym back ∙ ap (to_be_bytes w32) (sym same ∙ ap (cast_unsigned w32) p.is))
+
+-- Bytes with a frame at the front are its spelling and the bytes behind it.
+pub first_spelled : (bytes content behind : List ℕ) → IsBytes bytes → first bytes ≡ Ok (content, behind) → bytes ≡ frame.spell content ++ behind
+first_spelled bytes content behind fits e =
+    let f = fronted bytes (content, behind) e in
+    f.parts ∙ ap (λ (t : List ℕ). t ++ behind) (front_spelled f.front content (IsBytes-left f.front behind (subst IsBytes f.parts fits)) f.is_front)

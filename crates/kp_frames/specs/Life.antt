@@ -23,6 +23,7 @@ behind frames s = record { frames = frames ++ s.frames; rest = s.rest }
 abbrev pub Next : List ℕ → Result (Option (Vec ℕ)) FrameFault → List ℕ → Type 0
 Next held (Ok (Some content)) after =
     (first held ≡ Ok (content.items, after)) × (stream held ≡ behind (content.items ∷ []) (stream after))
+    × (held ≡ frame.spell content.items ++ after)
 Next held (Ok None) after = ((stream held).frames ≡ []) × (after ≡ held)
 Next held (Err OutOfMemory) after = ((stream held).frames ≡ [] → ⊥) × (after ≡ held)
 Next held (Err fault) after = ⊥

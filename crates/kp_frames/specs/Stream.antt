@@ -2,7 +2,7 @@
 use Rattle.std.specs.Prelude.{◌≡◌, ℕ, zero, suc, ◌+◌, ◌-◌, ◌≤◌, List, [], ◌∷◌, ◌++◌, length, take, ℤ, pos, Result, Ok, Err, Bool, true, false, ◌||◌, int_lt, nat_abs, if◌then◌else◌, IsErr}
 use Rattle.std.specs.List.{flat_map, AllByRecursion}
 use Rattle.std.specs.Int.{w32}
-use Rattle.kp_wire.specs.Reading.{◌>>=◌, refuse}
+use Rattle.kp_wire.specs.Reading.{Read, ◌>>=◌, refuse}
 use Rattle.kp_wire.specs.Codec.{Codec, int, sized, plain, read_bytes}
 use Rattle.kp_frames.specs.declared.fault.FrameFault.{FrameFault}
 use Rattle.kp_frames.specs.declared.fault.FrameFault.TheVariants.{TooLarge}
@@ -26,6 +26,15 @@ first bytes = do
   size ← in_message ((int w32).read bytes)
   _ ← refuse (is_no_size size.0) TooLarge
   in_message (read_bytes (nat_abs size.0) size.1)
+
+-- How many bytes are missing of the frame that begins here, as far as its size is known: of the size first, then of the
+-- content. None where the size is that of no frame.
+abbrev pub wanted_behind : ℕ → Read ℤ → ℕ
+wanted_behind len (Ok size) = if is_no_size size.0 then 0 else nat_abs size.0 - length size.1
+wanted_behind len (Err fault) = 4 - len
+
+unfoldable pub wanted : List ℕ → ℕ
+wanted bytes = wanted_behind (length bytes) ((int w32).read bytes)
 
 -- ---- all frames
 

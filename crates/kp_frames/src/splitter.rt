@@ -1,9 +1,9 @@
 //! A stream of bytes cut into frames (protocol guide, "Protocol Structure": every request and response is
 //! size-delimited).
 
-ghost use Rattle.std.specs.Prelude.{◌≡◌, ◌++◌, [], false, length, OnOk};
+ghost use Rattle.std.specs.Prelude.{◌≡◌, ◌++◌, [], false, length, IfOk, OnOk};
 ghost use Rattle.kp_wire.specs.Reading.{IsRead};
-ghost use Rattle.kp_frames.specs.Stream.{first, stream, is_faulty, is_faulty_rest};
+ghost use Rattle.kp_frames.specs.Stream.{frame, is_no_size, first, wanted, stream, is_faulty, is_faulty_rest};
 ghost use Rattle.kp_frames.specs.Life.{Feeds, Next};
 ghost use Rattle.kp_frames.specs.Held.{is_stopped};
 
@@ -94,6 +94,14 @@ impl Splitter {
         self.bytes.len() - self.whole
     }
 
+    /// How many bytes the frame wants that begins the bytes in no whole frame, as far as its size is known: of its size
+    /// first, then of its content. 0 where its size is that of no frame.
+    pub fn wanted(&self) -> usize
+        ensures { result ≡ wanted (stream self.now).rest }
+    {
+        wanted_by(&self.bytes[self.whole..])
+    }
+
     /// Moves what is held to the front, once no more is held than was given.
     fn move_to_front(&mut self)
         ensures { self.new ≡ self.old }
@@ -125,16 +133,39 @@ impl Splitter {
     }
 }
 
+/// Whether no frame has this size.
+#[tactic(auto, unfolding(crate::specs::Stream::is_no_size))]
+fn is_no_size(size: i32) -> bool
+    ensures { result ≡ is_no_size size }
+{
+    size < 0 || size as usize > CONTENT_LIMIT
+}
+
 /// The content of the frame at the front, and the bytes behind it.
 #[tactic(auto, unfolding(crate::specs::Stream::first, crate::specs::Stream::is_no_size))]
 fn first_frame(bytes: &[u8]) -> Result<(&[u8], &[u8]), FrameFault>
-    ensures { IsRead (λ x. (x.0.now, x.1.now)) result (first bytes.now) }
+    ensures first { IsRead (λ x. (x.0.now, x.1.now)) result (first bytes.now) }
+    ensures spelled { IfOk result (λ x. bytes.now ≡ frame.spell x.0.now ++ x.1.now) }
 {
     let (size, behind) = read_i32(bytes)?;
-    if size < 0 || size as usize > CONTENT_LIMIT {
+    if is_no_size(size) {
         return Err(FrameFault::TooLarge);
     }
     Ok(read_bytes(behind, size as usize)?)
+}
+
+/// How many bytes the frame wants that begins here.
+#[tactic(auto, unfolding(crate::specs::Stream::wanted, crate::specs::Stream::is_no_size))]
+fn wanted_by(bytes: &[u8]) -> usize
+    ensures { result ≡ wanted bytes.now }
+{
+    let Ok((size, behind)) = read_i32(bytes) else {
+        return SIZE_LENGTH.saturating_sub(bytes.len());
+    };
+    if is_no_size(size) {
+        return 0;
+    }
+    (size as usize).saturating_sub(behind.len())
 }
 
 /// What bytes are that begin with no whole frame, by the fault of reading one there.
