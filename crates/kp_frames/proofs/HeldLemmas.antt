@@ -11,24 +11,45 @@ use Rattle.kp_frames.specs.declared.splitter.Tail.{Tail}
 use Rattle.kp_frames.specs.declared.splitter.Tail.TheVariants.{Open, Stopped}
 use Rattle.kp_frames.specs.Stream.{Split, first, stream, is_faulty, kept}
 use Rattle.kp_frames.specs.Life.{Feeds, Next}
-use Rattle.kp_frames.specs.Held.{is_stopped, IsHeld}
+use Rattle.kp_frames.specs.Held.{is_stopped, IsHeld, IsInOrder, IsDropped}
 use Rattle.kp_frames.proofs.FirstLemmas.{fronted, front_len}
 use Rattle.kp_frames.proofs.StreamLemmas.{passes_frame, first_then, stream_more, faulty_so, at_rest}
 use Rattle.kp_frames.proofs.KeptLemmas.{rest_shorter, kept_behind, kept_open, kept_none, none_faulty, kept_kept, keeps, faulty_behind, stops_of, stopped}
 
-pub held_none : IsHeld [] 0 0 Open
+pub held_none : IsInOrder [] 0 0 Open
 held_none = record {
-  given_before = omega arith;
-  whole_before = omega arith;
-  rest = none_rest;
-  stops = sym none_faulty;
-  kept = kept_none;
+  held = record {
+    given_before = omega arith;
+    whole_before = omega arith;
+    rest = none_rest;
+    stops = sym none_faulty;
+    kept = kept_none;
+  };
+  few_given = omega arith;
 }
   where
     none_rest : (stream []).rest ≡ []
     none_rest =
         let n : length (stream []).rest ≡ 0 = omega (arith, rest_shorter []) in
         nil_from_length (stream []).rest n
+
+-- what holds of the fields holds of them once bytes that were given are dropped
+pub dropped : (bytes left : List ℕ) (given whole given_left whole_left : ℕ) (tail : Tail) → IsHeld bytes given whole tail
+    → IsDropped bytes given whole left given_left whole_left → IsInOrder left given_left whole_left tail
+dropped bytes left given whole given_left whole_left tail p d = record {
+  held = record {
+    given_before = d.given_before;
+    whole_before = d.whole_before;
+    rest = ap (λ (t : List ℕ). (stream t).rest) d.waiting ∙ p.rest ∙ sym d.rest;
+    stops = p.stops ∙ ap is_faulty (sym d.waiting);
+    kept = ap kept d.waiting ∙ p.kept ∙ sym d.waiting;
+  };
+  few_given = d.few_given;
+}
+
+-- more waits once a piece is behind it
+pub still_few : (held piece all : List ℕ) (given : ℕ) → drop given all ≡ held ++ piece → given ≤ length held → given ≤ length (drop given all)
+still_few held piece all given view few = omega (arith, ap length view ∙ length-append held piece)
 
 -- ---- a piece is fed
 

@@ -1,11 +1,11 @@
 //! A stream of bytes cut into frames (protocol guide, "Protocol Structure": every request and response is
 //! size-delimited).
 
-ghost use Rattle.std.specs.Prelude.{◌≡◌, ◌++◌, [], false, length, IfOk, OnOk};
+ghost use Rattle.std.specs.Prelude.{◌≡◌, ◌≤◌, ◌++◌, [], false, length, IfOk, OnOk};
 ghost use Rattle.kp_wire.specs.Reading.{IsRead};
 ghost use Rattle.kp_frames.specs.Stream.{frame, is_no_size, first, wanted, stream, is_faulty, is_faulty_rest};
 ghost use Rattle.kp_frames.specs.Life.{Feeds, Next};
-ghost use Rattle.kp_frames.specs.Held.{is_stopped};
+ghost use Rattle.kp_frames.specs.Held.{is_stopped, IsDropped};
 
 use crate::fault::FrameFault;
 use crate::frame::{CONTENT_LIMIT, SIZE_LENGTH};
@@ -41,11 +41,11 @@ impl Model for Splitter {
 
     ghost Value = { List ℕ };
 
-    ghost use Rattle.kp_frames.specs.Held.{IsHeld};
+    ghost use Rattle.kp_frames.specs.Held.{IsInOrder};
 
     ghost view = { λ s. drop s.given s.bytes.items };
 
-    ghost invariant = { λ s. IsHeld s.bytes.items s.given s.whole s.tail };
+    ghost invariant = { λ s. IsInOrder s.bytes.items s.given s.whole s.tail };
 }
 
 impl Splitter {
@@ -71,7 +71,6 @@ impl Splitter {
         if let Tail::Stopped = self.tail {
             return Err(FrameFault::TooLarge);
         }
-        self.move_to_front();
         self.append(piece)
     }
 
@@ -83,7 +82,8 @@ impl Splitter {
             return Ok(None);
         };
         let frame = Vec::from_slice(self.alloc, content)?;
-        self.given += SIZE_LENGTH + frame.len();
+        let given = self.given + (SIZE_LENGTH + frame.len());
+        (self.given, self.whole) = drop_given(&mut self.bytes, given, self.whole);
         Ok(Some(frame))
     }
 
@@ -102,19 +102,6 @@ impl Splitter {
         wanted_by(&self.bytes[self.whole..])
     }
 
-    /// Moves what is held to the front, once no more is held than was given.
-    fn move_to_front(&mut self)
-        ensures { self.new ≡ self.old }
-    {
-        let held = self.bytes.len() - self.given;
-        if held <= self.given {
-            self.bytes.copy_within(self.given.., 0);
-            self.bytes.truncate(held);
-            self.whole -= self.given;
-            self.given = 0;
-        }
-    }
-
     fn append(&mut self, piece: &[u8]) -> Result<(), FrameFault>
         requires { is_faulty self.old ≡ false }
         ensures { Feeds self.old piece.now result self.new }
@@ -127,10 +114,27 @@ impl Splitter {
             Tail::Open => Ok(()),
             Tail::Stopped => {
                 self.bytes.truncate(self.whole + SIZE_LENGTH);
+                (self.given, self.whole) = drop_given(&mut self.bytes, self.given, self.whole);
                 Err(FrameFault::TooLarge)
             }
         }
     }
+}
+
+/// Drops the bytes that were given, once no more are held than were given: what is held then stands at the front. Gives
+/// where the bytes that were not given begin, and those that are in no whole frame.
+fn drop_given(bytes: &mut Vec<u8>, given: usize, whole: usize) -> (usize, usize)
+    requires before { given ≤ whole }
+    requires within { whole ≤ length bytes.old.items }
+    ensures { IsDropped bytes.old.items given whole bytes.new.items result.0 result.1 }
+{
+    let held = bytes.len() - given;
+    if held > given {
+        return (given, whole);
+    }
+    bytes.copy_within(given.., 0);
+    bytes.truncate(held);
+    (0, whole - given)
 }
 
 /// Whether no frame has this size.
