@@ -5,7 +5,7 @@ use Rattle.std.proofs.lemmas.Bool.{eqb-false}
 use Rattle.kp_batch.specs.declared.record.Record.{Record}
 use Rattle.kp_log.specs.History.{Sent, History, empty_history, with_batch, with_others, of_id, own, own_offsets}
 use Rattle.kp_log.specs.KeptBatches.{kept_in}
-use Rattle.kp_log.specs.SequenceRule.{judged}
+use Rattle.kp_log.specs.SequenceRule.{verdict}
 use Rattle.kp_log.specs.BrokerStep.{Stands, IsOld, MayAppend, Offered, offered_to, refused_unseen, offered_late}
 use Rattle.kp_log.proofs.PlaceLemmas.{In-nil}
 use Rattle.kp_log.proofs.OffsetLemmas.{stands_at}
@@ -39,25 +39,25 @@ abbrev two : History
 two = with_batch (batch 2 (c ∷ [])) one
 
 first_is_appended : answers (offered_to empty_history (batch 0 (a ∷ b ∷ []))) (pos 0) (pos 0) one
-unfolding offered_to judged kept_in
+unfolding offered_to verdict kept_in
 first_is_appended = refl
 
 second_is_appended : answers (offered_to one (batch 2 (c ∷ []))) (pos 0) (pos 2) two
-unfolding offered_to judged kept_in own_offsets
+unfolding offered_to verdict kept_in own_offsets
 second_is_appended = refl
 
 -- ---- what is not appended
 
 first_again_has_its_offset : answers (offered_to two (batch 0 (a ∷ b ∷ []))) (pos 0) (pos 0) two
-unfolding offered_to judged kept_in own_offsets
+unfolding offered_to verdict kept_in own_offsets
 first_again_has_its_offset = refl
 
 second_again_has_its_offset : answers (offered_to two (batch 2 (c ∷ []))) (pos 0) (pos 2) two
-unfolding offered_to judged kept_in own_offsets
+unfolding offered_to verdict kept_in own_offsets
 second_again_has_its_offset = refl
 
 gap_is_out_of_order : answers (offered_to two (batch 4 (a ∷ []))) (pos 45) (negsuc 0) two
-unfolding offered_to judged kept_in own_offsets
+unfolding offered_to verdict kept_in own_offsets
 gap_is_out_of_order = refl
 
 -- six batches
@@ -65,17 +65,17 @@ abbrev six : History
 six = with_batch (batch 6 (a ∷ [])) (with_batch (batch 5 (a ∷ [])) (with_batch (batch 4 (a ∷ [])) (with_batch (batch 3 (a ∷ [])) two)))
 
 older_than_five_is_a_duplicate : answers (offered_to six (batch 0 (a ∷ b ∷ []))) (pos 46) (negsuc 0) six
-unfolding offered_to judged kept_in own_offsets
+unfolding offered_to verdict kept_in own_offsets
 older_than_five_is_a_duplicate = refl
 
 fifth_last_has_its_offset : answers (offered_to six (batch 2 (c ∷ []))) (pos 0) (pos 2) six
-unfolding offered_to judged kept_in own_offsets
+unfolding offered_to verdict kept_in own_offsets
 fifth_last_has_its_offset = refl
 
 -- ---- what a loopback broker is told to answer
 
 late_is_appended : offered_late one (batch 2 (c ∷ [])) (pos 7) ≡ record { answer = record { code = pos 7; base = negsuc 0 }; history = two }
-unfolding offered_to judged kept_in own_offsets
+unfolding offered_to verdict kept_in own_offsets
 late_is_appended = refl
 
 refused_is_not_appended : refused_unseen one (pos 7) ≡ record { answer = record { code = pos 7; base = negsuc 0 }; history = one }
@@ -130,7 +130,7 @@ unfolding own
 own_are_in_order = refl
 
 behind_others_it_has_its_offset : answers (offered_to shared (batch 1 (b ∷ c ∷ []))) (pos 0) (pos 3) shared
-unfolding offered_to judged kept_in own_offsets
+unfolding offered_to verdict kept_in own_offsets
 behind_others_it_has_its_offset = refl
 
 -- ---- a second producer id
@@ -139,7 +139,7 @@ abbrev fresh : Sent
 fresh = record { id = 1001; sequence = 0; bodies = c ∷ [] }
 
 fresh_id_begins_at_zero : answers (offered_to two fresh) (pos 0) (pos 3) (with_batch fresh two)
-unfolding offered_to judged kept_in own_offsets
+unfolding offered_to verdict kept_in own_offsets
 fresh_id_begins_at_zero = refl
 
 both_ids_are_own : own_offsets (pos 1000 ∷ pos 1001 ∷ []) (with_batch fresh two).records ≡ 0 ∷ 1 ∷ 2 ∷ 3 ∷ []

@@ -6,8 +6,8 @@ use Rattle.std.proofs.lemmas.List.{append-nil}
 use Rattle.std.proofs.lemmas.List.Concat.{flat_map-append}
 use Rattle.std.proofs.lemmas.List.Elements.{All-nil, All-weaker, All-push, filter-append}
 use Rattle.kp_batch.specs.declared.record.Record.{Record}
-use Rattle.kp_log.specs.Log.{count_of, stored_as}
-use Rattle.kp_log.specs.History.{Sent, batch_of, History, stored_of, records_of, of_id, empty_history, with_batch, with_others, NO_ID}
+use Rattle.kp_log.specs.Log.{count_of, stored_as, NO_ID}
+use Rattle.kp_log.specs.History.{Sent, batch_of, History, stored_of, records_of, of_id, empty_history, with_batch, with_others}
 use Rattle.kp_log.specs.KeptBatches.{kept_in}
 use Rattle.kp_log.specs.BrokerStep.{Offered, offered_to}
 use Rattle.kp_log.specs.HandedOver.{Follows, AreInSequence, IsStored, CameBy}
@@ -134,4 +134,4 @@ pub came_offered : (handed : List Sent) (h : History) (b : Sent) → AreInSequen
     → CameBy handed (offered_to h b).history
 came_offered handed h b s came at =
     let r : Ruling h.records (kept_in b.id h).spans (batch_of b) = ruling h.records (kept_in b.id h).spans (batch_of b) in
-    subst (λ (o : Offered). CameBy handed o.history) (sym (offered_as h b (some_of handed b s at) r)) (came_by handed h b s came at r)
+    subst (λ (o : Offered). CameBy handed o.history) (sym (offered_as h b r)) (came_by handed h b s came at r)

@@ -9,3 +9,5 @@ pub mod RulingLemmas
 pub mod LoopbackLemmas
 pub mod KeepingLemmas
 pub mod TieLemmas
+pub mod HonestLemmas
+pub mod SegmentLemmas

@@ -1,5 +1,5 @@
 -- The kept counts stay those of the records, and what was inserted is found.
-use Rattle.std.proofs.Common.{◌≡◌, ℕ, suc, ◌+◌, ◌≤◌, Bool, true, false, cond, List, [], ◌∷◌, ◌++◌, length, ℤ, pos, ◌+ℤ◌, int_le, Option, Some, unwrap_or, Ordering, Less, Equal, Greater, int_cmp, int_eq, is_eq, refl, sym, ap, subst, ◌∙◌, arith}
+use Rattle.std.proofs.Common.{◌≡◌, ℕ, suc, ◌+◌, ◌≤◌, Bool, true, false, cond, List, [], ◌∷◌, ◌++◌, length, ℤ, pos, negsuc, ◌+ℤ◌, int_le, int_lt, Option, Some, unwrap_or, Ordering, Less, Equal, Greater, int_cmp, int_eq, is_eq, refl, sym, ap, subst, ◌∙◌, arith}
 use Rattle.std.specs.Ordering.{match_ordering}
 use Rattle.std.specs.BTreeMap.{insert_entry, is_at}
 use Rattle.std.specs.Map.{lookup}
@@ -11,7 +11,7 @@ use Rattle.kp_batch.specs.declared.batch.Batch.{Batch}
 use Rattle.kp_batch.specs.declared.record.Record.{Record}
 use Rattle.kp_log.specs.declared.stored.Stored.{Stored}
 use Rattle.kp_log.specs.declared.kept.Kept.{Kept}
-use Rattle.kp_log.specs.Log.{Log, count_of, kept_of, kept_after, nothing_kept, span_of, stored_as, appended, IsSound, SEQUENCE_LIMIT, LENGTH_LIMIT}
+use Rattle.kp_log.specs.Log.{Log, count_of, kept_of, kept_after, nothing_kept, span_of, stored_as, appended, others_appended, NO_ID, IsSound, SEQUENCE_LIMIT, LENGTH_LIMIT}
 use Rattle.kp_log.specs.SequenceRule.{is_next}
 
 -- ---- a look-up after an insertion
@@ -112,23 +112,29 @@ kept_of-appended id log b =
 apart_swapped : (x y : ℤ) → int_eq x y ≡ false → int_eq y x ≡ false
 apart_swapped x y h = int_apart y x (λ e. not_from_Decides (int_eq x y) (Decides-int_eq x y) h (sym e))
 
+-- a log's kept count of an id that is not below 0
+pub counted_known : (log : Log) (id : ℤ) → IsSound log → int_lt id (pos 0) ≡ false → (kept_of id log).count ≡ count_of id log.records
+counted_known log (pos n) sound known = sound.counted n
+counted_known log (negsuc n) sound known = absurd (let apart : true ≡ false = known in cc)
+
 record IsCounted (log : Log) (b : Batch) (id : ℤ) : Type 0 where
   counted : (kept_of id (appended log b)).count ≡ count_of id (appended log b).records
   in_sequence : count_of id (appended log b).records ≤ SEQUENCE_LIMIT
 
-counted_at : (log : Log) (b : Batch) → IsSound log → IsNext log.records b → (id : ℤ) (t : Bool)
-    → int_eq id b.head.producer_id ≡ t → IsCounted log b id
+counted_at : (log : Log) (b : Batch) → IsSound log → IsNext log.records b → (id : ℕ) (t : Bool)
+    → int_eq (pos id) b.head.producer_id ≡ t → IsCounted log b (pos id)
 counted_at log b sound next id true own =
-    let same : id ≡ b.head.producer_id = (Decides-int_eq _ _).0 own in
+    let same : pos id ≡ b.head.producer_id = (Decides-int_eq _ _).0 own in
     let all : count_of b.head.producer_id (appended log b).records ≡ count_of b.head.producer_id log.records + length b.records = count_of-append _ log.records _ ∙ ap (λ n. count_of b.head.producer_id log.records + n) (count_of_own b.head.producer_id b.records) in
+    let counted : (kept_of b.head.producer_id log).count ≡ count_of b.head.producer_id log.records = subst (λ (i : ℤ). (kept_of i log).count ≡ count_of i log.records) same (sound.counted id) in
     let P : ℤ → Type 0 = λ i. IsCounted log b i in
     subst P (sym same) (record {
-      counted = rw (kept_of-appended, int_eq_same, all) (ap (λ n. n + length b.records) (sound.counted b.head.producer_id));
+      counted = rw (kept_of-appended, int_eq_same, all) (ap (λ n. n + length b.records) counted);
       in_sequence = rw all next.in_sequence;
     })
 counted_at log b sound next id false other =
-    let apart : int_eq b.head.producer_id id ≡ false = apart_swapped id b.head.producer_id other in
-    let all : count_of id (appended log b).records ≡ count_of id log.records = count_of-append id log.records _ ∙ (ap (λ n. count_of id log.records + n) (count_of_others id b.head.producer_id b.records apart) ∙ omega arith) in
+    let apart : int_eq b.head.producer_id (pos id) ≡ false = apart_swapped (pos id) b.head.producer_id other in
+    let all : count_of (pos id) (appended log b).records ≡ count_of (pos id) log.records = count_of-append _ log.records _ ∙ (ap (λ n. count_of (pos id) log.records + n) (count_of_others (pos id) b.head.producer_id b.records apart) ∙ omega arith) in
     record {
       counted = rw (kept_of-appended, other, all) (sound.counted id);
       in_sequence = rw all (sound.in_sequence id);
@@ -139,7 +145,27 @@ pub IsSound-appended : (log : Log) (b : Batch) → IsSound log → is_next log.r
 IsSound-appended log b sound is =
     let next : IsNext log.records b = next_is log.records b is in
     record {
-      counted = λ id. (counted_at log b sound next id (int_eq id b.head.producer_id) refl).counted;
-      in_sequence = λ id. (counted_at log b sound next id (int_eq id b.head.producer_id) refl).in_sequence;
+      counted = λ id. (counted_at log b sound next id (int_eq (pos id) b.head.producer_id) refl).counted;
+      in_sequence = λ id. (counted_at log b sound next id (int_eq (pos id) b.head.producer_id) refl).in_sequence;
       in_length = rw (length-append, length-stored_as) next.in_length;
     }
+
+-- others' records are nobody's that is counted
+pub IsSound-others_appended : (log : Log) (bodies : List Record) → IsSound log → length log.records + length bodies ≤ LENGTH_LIMIT
+    → IsSound (others_appended log bodies)
+IsSound-others_appended log bodies sound room =
+    let still : (id : ℕ) → count_of (pos id) (others_appended log bodies).records ≡ count_of (pos id) log.records =
+    (λ (id : ℕ). count_of-append (pos id) log.records (stored_as NO_ID bodies) ∙ (ap (λ n. count_of (pos id) log.records + n) (count_of_others (pos id) NO_ID bodies (int_apart NO_ID (pos id) (λ same. absurd (let apart : negsuc 0 ≡ pos id = same in cc)))) ∙ omega arith)) in
+    record {
+      counted = λ id. sound.counted id ∙ sym (still id);
+      in_sequence = λ id. omega (arith, still id, sound.in_sequence id);
+      in_length = rw (length-append, length-stored_as) room;
+    }
+
+-- in whatever segments they lie
+pub IsSound-others_held : (log : Log) (bodies : List Record) (records : List Stored) (segments : List ℕ) → IsSound log → length log.records + length bodies ≤ LENGTH_LIMIT
+    → records ≡ log.records ++ stored_as NO_ID bodies → IsSound (record { records = records; kept = log.kept; segments = segments })
+IsSound-others_held log bodies records segments sound room is =
+    let all : IsSound (others_appended log bodies) = IsSound-others_appended log bodies sound room in
+    let P : List Stored → Type 0 = λ rs. IsSound (record { records = rs; kept = log.kept; segments = segments }) in
+    subst P (sym is) (record { counted = all.counted; in_sequence = all.in_sequence; in_length = all.in_length })

@@ -1,23 +1,24 @@
 -- What the loopback broker does with a batch is an honest broker's step.
 use Rattle.std.proofs.Common.{◌≡◌, ◌≢◌, ◌⊎◌, ℕ, ◌+◌, ◌-◌, ◌<◌, ◌≤◌, Bool, true, false, cond, List, [], ◌∷◌, ◌++◌, length, map, take, drop, find, ℤ, pos, negsuc, Some, None, unwrap_or, refl, sym, ap, ◌∙◌, subst, inl, inr, arith, length-append, append_assoc, Contains}
-use Rattle.std.specs.Prelude.{◌==◌, nat_lt, int_le}
+use Rattle.std.specs.Prelude.{◌==◌, int_le}
 use Rattle.std.specs.Ordering.{int_eq}
-use Rattle.std.proofs.lemmas.Bool.{eqb-false, and_parts, eq-eqb, lt-ltb, le-ltb, leb-true}
+use Rattle.std.proofs.lemmas.Bool.{eqb-false, and_parts, eq-eqb, leb-true}
 use Rattle.std.proofs.lemmas.Bool.Decides.{Decides-int_eq}
 use Rattle.std.proofs.lemmas.List.{length-take, length-drop, length-map, take-append-drop, drop-map}
 use Rattle.std.proofs.lemmas.List.Elements.{All-contains}
 use Rattle.kp_log.specs.declared.kept.Kept.{Kept}
 use Rattle.kp_log.specs.declared.kept.Span.{Span}
+use Rattle.kp_log.specs.declared.offering.Verdict.{Verdict}
 use Rattle.kp_log.specs.declared.stored.Stored.{Stored}
-use Rattle.kp_log.specs.Log.{Log, count_of, kept_of, last_kept, nothing_kept, appended}
-use Rattle.kp_log.specs.SequenceRule.{Judgement, is_repeat, is_next, is_older}
-use Rattle.kp_log.specs.History.{Sent, History, batch_of, stored_of, of_id, with_batch}
+use Rattle.kp_log.specs.Log.{count_of, kept_of, last_kept, nothing_kept}
+use Rattle.kp_log.specs.SequenceRule.{is_repeat, is_next, is_older, done}
+use Rattle.kp_log.specs.History.{Sent, History, batch_of, of_id, with_batch}
 use Rattle.kp_log.specs.KeptBatches.{span_in, offset_in, kept_in, log_for}
 use Rattle.kp_log.specs.BrokerStep.{Stands, IsOld, MayAppend, BrokerStep, NO_ERROR, DUPLICATE_SEQUENCE_NUMBER, Offered, answered, history_after, offered_to, offered_late}
 use Rattle.kp_log.specs.HandedOver.{AreInSequence, IsStored, CameBy}
-use Rattle.kp_log.proofs.LogLemmas.{IsNext, next_is, int_eq_same, length-stored_as}
-use Rattle.kp_log.proofs.RulingLemmas.{Ruling, Repeats, GoesOn, IsOlder, LeavesGap, ruling, step_of}
-use Rattle.kp_log.proofs.RuleLemmas.{judged_as}
+use Rattle.kp_log.proofs.LogLemmas.{IsNext, next_is, int_eq_same}
+use Rattle.kp_log.proofs.RulingLemmas.{Ruling, Repeats, GoesOn, IsOlder, LeavesGap, ruling, verdict_of}
+use Rattle.kp_log.proofs.RuleLemmas.{verdict_as}
 use Rattle.kp_log.proofs.PlaceLemmas.{In, In-from_contains, contains_from_In, In-append_left, In-append_right, In-filter, In-head, Before, before_filter}
 use Rattle.kp_log.proofs.SequenceLemmas.{CountFrom, counts, one_batch, in_front}
 use Rattle.kp_log.proofs.OffsetLemmas.{stands_at, stands_last}
@@ -61,33 +62,21 @@ offered_of h b (GoesOn fresh is) = with_history (pos 0) (pos (length h.records))
 offered_of h b (IsOlder fresh is old) = with_history (pos 46) (negsuc 0) h
 offered_of h b (LeavesGap fresh is old) = with_history (pos 45) (negsuc 0) h
 
--- its answer and its history, by the step of its log
-abbrev offered_by : History → Sent → Judgement → Offered
-offered_by h b step = record { answer = answered step.answer; history = history_after h b step.log }
+-- its answer and its history, by the verdict on its log
+abbrev offered_by : History → Sent → Verdict → Offered
+offered_by h b v = record { answer = answered (done (log_for b.id h) (batch_of b) v).answer; history = history_after h b v }
 
-stays : (h : History) (b : Sent) → history_after h b (log_for b.id h) ≡ h
-stays h b = let same : nat_lt (length h.records) (length h.records) ≡ false = le-ltb (length h.records) (length h.records) (omega arith) in ap (λ t. cond t (with_batch b h) h) same
+offered_by_rule : (h : History) (b : Sent) (r : Ruling h.records (kept_in b.id h).spans (batch_of b)) → offered_by h b (verdict_of r) ≡ offered_of h b r
+offered_by_rule h b (Repeats s is) = refl
+offered_by_rule h b (GoesOn fresh is) = refl
+offered_by_rule h b (IsOlder fresh is old) = refl
+offered_by_rule h b (LeavesGap fresh is old) = refl
 
-grows : (h : History) (b : Sent) (log : Log) → log.records ≡ h.records ++ stored_of b → 0 < length b.bodies → history_after h b log ≡ with_batch b h
-grows h b log is some =
-    let longer : length log.records ≡ length h.records + length b.bodies = ap length is ∙ length-append h.records (stored_of b) ∙ ap (λ n. length h.records + n) (length-stored_as (pos b.id) b.bodies) in
-    let less : length h.records < length log.records = omega (arith, longer, some) in
-    ap (λ t. cond t (with_batch b h) h) (lt-ltb (length h.records) (length log.records) less)
-
-offered_by_rule : (h : History) (b : Sent) → 0 < length b.bodies → (r : Ruling h.records (kept_in b.id h).spans (batch_of b)) → offered_by h b (step_of (log_for b.id h) (batch_of b) r) ≡ offered_of h b r
-offered_by_rule h b some (Repeats s is) = ap (with_history (pos 0) s.base_offset) (stays h b)
-offered_by_rule h b some (GoesOn fresh is) = ap (with_history (pos 0) (pos (length h.records))) (grows h b (appended (log_for b.id h) (batch_of b)) refl some)
-offered_by_rule h b some (IsOlder fresh is old) = ap (with_history (pos 46) (negsuc 0)) (stays h b)
-offered_by_rule h b some (LeavesGap fresh is old) = ap (with_history (pos 45) (negsuc 0)) (stays h b)
-
-offered_is : (h : History) (b : Sent) (r : Ruling h.records (kept_in b.id h).spans (batch_of b)) → offered_to h b ≡ offered_by h b (step_of (log_for b.id h) (batch_of b) r)
+pub offered_as : (h : History) (b : Sent) (r : Ruling h.records (kept_in b.id h).spans (batch_of b)) → offered_to h b ≡ offered_of h b r
 unfolding offered_to
-offered_is h b r =
+offered_as h b r =
     let kept : (kept_of (pos b.id) (log_for b.id h)).spans ≡ (kept_in b.id h).spans = ap (λ (k : Kept). k.spans) (kept_of_log_for b.id h) in
-    ap (offered_by h b) (judged_as (log_for b.id h) (pos 0) (negsuc 0) b h.records (kept_in b.id h).spans r refl kept)
-
-pub offered_as : (h : History) (b : Sent) → 0 < length b.bodies → (r : Ruling h.records (kept_in b.id h).spans (batch_of b)) → offered_to h b ≡ offered_of h b r
-offered_as h b some r = offered_is h b r ∙ offered_by_rule h b some r
+    ap (offered_by h b) (verdict_as (log_for b.id h) (pos 0) (negsuc 0) b h.records (kept_in b.id h).spans r refl kept) ∙ offered_by_rule h b r
 
 -- ---- what becomes of the history
 
@@ -101,20 +90,16 @@ count_at h b is =
     let follows : pos b.sequence ≡ pos (count_of (pos b.id) h.records) = next.follows in
     cc
 
-either : (h : History) (b : Sent) (t : Bool) → MayAppend h b → Changes h b (cond t (with_batch b h) h)
-either h b true may = inr (may, refl)
-either h b false may = inl refl
-
-changes_by : (h : History) (b : Sent) (r : Ruling h.records (kept_in b.id h).spans (batch_of b)) → Changes h b (offered_by h b (step_of (log_for b.id h) (batch_of b) r)).history
-changes_by h b (Repeats s is) = inl (stays h b)
-changes_by h b (GoesOn fresh is) = either h b (nat_lt (length h.records) (length (appended (log_for b.id h) (batch_of b)).records)) (inl (count_at h b is))
-changes_by h b (IsOlder fresh is old) = inl (stays h b)
-changes_by h b (LeavesGap fresh is old) = inl (stays h b)
+changes_by : (h : History) (b : Sent) (r : Ruling h.records (kept_in b.id h).spans (batch_of b)) → Changes h b (offered_of h b r).history
+changes_by h b (Repeats s is) = inl refl
+changes_by h b (GoesOn fresh is) = inr (inl (count_at h b is), refl)
+changes_by h b (IsOlder fresh is old) = inl refl
+changes_by h b (LeavesGap fresh is old) = inl refl
 
 changes : (h : History) (b : Sent) → Changes h b (offered_to h b).history
 changes h b =
     let r : Ruling h.records (kept_in b.id h).spans (batch_of b) = ruling h.records (kept_in b.id h).spans (batch_of b) in
-    subst (λ (o : Offered). Changes h b o.history) (sym (offered_is h b r)) (changes_by h b r)
+    subst (λ (o : Offered). Changes h b o.history) (sym (offered_as h b r)) (changes_by h b r)
 
 -- told to answer late, with a code that says nothing of the batch
 pub late_step : (h : History) (b : Sent) (code : ℤ) → code ≢ NO_ERROR → code ≢ DUPLICATE_SEQUENCE_NUMBER → BrokerStep h b (offered_late h b code).answer (offered_late h b code).history
@@ -241,4 +226,4 @@ pub loopback_step : (handed : List Sent) (h : History) (b : Sent) → AreInSeque
     → BrokerStep h b (offered_to h b).answer (offered_to h b).history
 loopback_step handed h b in_sequence came at =
     let r : Ruling h.records (kept_in b.id h).spans (batch_of b) = ruling h.records (kept_in b.id h).spans (batch_of b) in
-    subst (λ (o : Offered). BrokerStep h b o.answer o.history) (sym (offered_as h b (some_of handed b in_sequence at) r)) (step_by handed h b in_sequence came at r)
+    subst (λ (o : Offered). BrokerStep h b o.answer o.history) (sym (offered_as h b r)) (step_by handed h b in_sequence came at r)

@@ -1,12 +1,13 @@
 -- What the sequence rule finds of a batch, apart from where it looks: in a log or in a history.
 use Rattle.std.proofs.Common.{◌≡◌, Bool, true, false, List, Option, Some, None, refl}
 use Rattle.kp_batch.specs.declared.batch.Batch.{Batch}
-use Rattle.kp_log.specs.declared.answer.Answer.TheVariants as answer
 use Rattle.kp_log.specs.declared.answer.Refusal.TheVariants.{DuplicateSequenceNumber, OutOfOrderSequenceNumber}
 use Rattle.kp_log.specs.declared.kept.Span.{Span}
+use Rattle.kp_log.specs.declared.offering.Verdict.{Verdict}
+use Rattle.kp_log.specs.declared.offering.Verdict.TheVariants.{Refuse, Repeat, Append}
 use Rattle.kp_log.specs.declared.stored.Stored.{Stored}
 use Rattle.kp_log.specs.Log.{Log}
-use Rattle.kp_log.specs.SequenceRule.{Judgement, repeated, is_next, is_older, unchanged, stored}
+use Rattle.kp_log.specs.SequenceRule.{Judgement, repeated, is_next, is_older, done}
 
 -- what is found, given the records and the batches that are kept of the batch's producer
 pub data Ruling (records : List Stored) (spans : List Span) (b : Batch) : Type 0 where
@@ -28,9 +29,13 @@ ruling_at records spans b None is = ruling_new records spans b (is_next records 
 pub ruling : (records : List Stored) (spans : List Span) (b : Batch) → Ruling records spans b
 ruling records spans b = ruling_at records spans b (repeated b spans) refl
 
+-- the verdict then
+abbrev pub verdict_of : {records : List Stored} {spans : List Span} {b : Batch} → Ruling records spans b → Verdict
+verdict_of (Repeats s is) = Repeat s.base_offset
+verdict_of (GoesOn fresh is) = Append
+verdict_of (IsOlder fresh is old) = Refuse DuplicateSequenceNumber
+verdict_of (LeavesGap fresh is old) = Refuse OutOfOrderSequenceNumber
+
 -- the step that a log then makes
 abbrev pub step_of : {records : List Stored} {spans : List Span} {b : Batch} → Log → Batch → Ruling records spans b → Judgement
-step_of log arriving (Repeats s is) = unchanged log (answer.Stored s.base_offset)
-step_of log arriving (GoesOn fresh is) = stored log arriving
-step_of log arriving (IsOlder fresh is old) = unchanged log (answer.Refused DuplicateSequenceNumber)
-step_of log arriving (LeavesGap fresh is old) = unchanged log (answer.Refused OutOfOrderSequenceNumber)
+step_of log arriving r = done log arriving (verdict_of r)

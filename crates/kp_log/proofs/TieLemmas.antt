@@ -9,9 +9,9 @@ use Rattle.kp_batch.specs.declared.record.Record.{Record}
 use Rattle.kp_log.specs.declared.kept.Kept.{Kept}
 use Rattle.kp_log.specs.declared.kept.Span.{Span}
 use Rattle.kp_log.specs.declared.stored.Stored.{Stored}
-use Rattle.kp_log.specs.Log.{Log, log_of, empty, count_of, kept_of, kept_after, last_kept, span_of, stored_as, appended}
-use Rattle.kp_log.specs.SequenceRule.{Judgement, judged}
-use Rattle.kp_log.specs.History.{Sent, batch_of, History, arrived, stored_of, of_id, empty_history, with_batch, with_others, NO_ID}
+use Rattle.kp_log.specs.Log.{Log, empty, count_of, kept_of, kept_after, last_kept, span_of, stored_as, appended, NO_ID, others_appended}
+use Rattle.kp_log.specs.SequenceRule.{Judgement, done, judged}
+use Rattle.kp_log.specs.History.{Sent, batch_of, History, arrived, stored_of, of_id, empty_history, with_batch, with_others}
 use Rattle.kp_log.specs.KeptBatches.{span_in, kept_in, IsHistoryOf}
 use Rattle.kp_log.specs.BrokerStep.{Answered, Offered, answered, offered_to}
 use Rattle.kp_log.specs.HandedOver.{IsStored}
@@ -20,7 +20,7 @@ use Rattle.kp_log.proofs.RuleLemmas.{last_kept_push}
 use Rattle.kp_log.proofs.SequenceLemmas.{ids_apart, of_id-own, of_id-other}
 use Rattle.kp_log.proofs.OffsetLemmas.{span_still, span_last}
 use Rattle.kp_log.proofs.RulingLemmas.{Ruling, Repeats, GoesOn, IsOlder, LeavesGap, ruling, step_of}
-use Rattle.kp_log.proofs.RuleLemmas.{judged_as}
+use Rattle.kp_log.proofs.RuleLemmas.{verdict_as}
 use Rattle.kp_log.proofs.LoopbackLemmas.{offered_of, offered_as, count_at}
 use Rattle.kp_log.proofs.KeepingLemmas.{others_count}
 
@@ -109,7 +109,7 @@ appended_is_of_appended h log offset leader_epoch b of whole some is = record {
 -- ---- others' records
 
 pub others_are_of_others : (h : History) (log : Log) (n : ℕ) (body : Record) → IsHistoryOf h log → All (IsStored h.records) h.batches
-    → IsHistoryOf (with_others n body h) (log_of (log.records ++ stored_as NO_ID (replicate n body)) log.kept)
+    → IsHistoryOf (with_others n body h) (others_appended log (replicate n body))
 others_are_of_others h log n body of whole = record {
   records = ap (λ z. z ++ stored_as NO_ID (replicate n body)) of.records;
   kept = λ id. of.kept id ∙ sym (kept_still id h (stored_as NO_ID (replicate n body)) h.batches whole (others_count id n body) refl);
@@ -136,6 +136,6 @@ pub alike : (h : History) (log : Log) (offset leader_epoch : ℤ) (b : Sent) →
     → AnswersAlike (offered_to h b) (judged log (arrived offset leader_epoch b))
 alike h log offset leader_epoch b of whole some =
     let r : Ruling h.records (kept_in b.id h).spans (batch_of b) = ruling h.records (kept_in b.id h).spans (batch_of b) in
-    let judged_so : judged log (arrived offset leader_epoch b) ≡ step_of log (arrived offset leader_epoch b) r = judged_as log offset leader_epoch b h.records (kept_in b.id h).spans r of.records (ap (λ (k : Kept). k.spans) (of.kept b.id)) in
-    subst (λ o. AnswersAlike o (judged log (arrived offset leader_epoch b))) (sym (offered_as h b some r))
+    let judged_so : judged log (arrived offset leader_epoch b) ≡ step_of log (arrived offset leader_epoch b) r = ap (done log (arrived offset leader_epoch b)) (verdict_as log offset leader_epoch b h.records (kept_in b.id h).spans r of.records (ap (λ (k : Kept). k.spans) (of.kept b.id))) in
+    subst (λ o. AnswersAlike o (judged log (arrived offset leader_epoch b))) (sym (offered_as h b r))
     (subst (λ s. AnswersAlike (offered_of h b r) s) (sym judged_so) (alike_by h log offset leader_epoch b of whole some r))

@@ -1,7 +1,7 @@
 -- Answers as Kafka's numbers.
 use Rattle.std.specs.Prelude.{ℤ, pos, negsuc}
 use Rattle.kp_log.specs.declared.answer.Answer.{Answer}
-use Rattle.kp_log.specs.declared.answer.Answer.TheVariants.{Stored, Refused}
+use Rattle.kp_log.specs.declared.answer.Answer.TheVariants.{Stored, Refused, Error}
 use Rattle.kp_log.specs.declared.answer.Refusal.{Refusal}
 use Rattle.kp_log.specs.declared.answer.Refusal.TheVariants.{CorruptMessage, InvalidRequest, OutOfOrderSequenceNumber, DuplicateSequenceNumber, InvalidProducerEpoch}
 
@@ -15,8 +15,10 @@ refusal_code InvalidProducerEpoch = pos 47
 abbrev pub code_of : Answer → ℤ
 code_of (Stored offset) = pos 0
 code_of (Refused refusal) = refusal_code refusal
+code_of (Error code) = code.number
 
--- a refusal goes with -1
+-- no offset goes with an error
 abbrev pub base_offset_of : Answer → ℤ
 base_offset_of (Stored offset) = offset
 base_offset_of (Refused refusal) = negsuc 0
+base_offset_of (Error code) = negsuc 0

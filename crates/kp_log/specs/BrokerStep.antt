@@ -1,13 +1,15 @@
 -- What any honest broker may do with a batch that comes, and what the loopback broker does (KIP-98, "Broker logic").
-use Rattle.std.specs.Prelude.{◌≡◌, ◌⊎◌, ◌≤◌, List, ◌∷◌, ◌++◌, length, nat_lt, ℤ, pos, negsuc, if◌then◌else◌}
+use Rattle.std.specs.Prelude.{◌≡◌, ◌⊎◌, ◌≤◌, List, ◌∷◌, ◌++◌, length, ℤ, pos, negsuc}
 use Rattle.kp_log.specs.declared.answer.Answer.{Answer}
-use Rattle.kp_log.specs.declared.answer.Refusal.TheVariants.{DuplicateSequenceNumber}
 use Rattle.kp_log.specs.declared.stored.Stored.{Stored}
-use Rattle.kp_log.specs.Answer.{code_of, base_offset_of, refusal_code}
+use Rattle.kp_log.specs.declared.offering.Verdict.{Verdict}
+use Rattle.kp_log.specs.declared.offering.Verdict.TheVariants.{Refuse, Repeat, Append}
+use Rattle.kp_log.specs.Answer.{code_of, base_offset_of}
 use Rattle.kp_log.specs.History.{Sent, History, stored_of, batch_of, of_id, with_batch}
 use Rattle.kp_log.specs.KeptBatches.{log_for}
-use Rattle.kp_log.specs.Log.{Log, KEPT, count_of}
-use Rattle.kp_log.specs.SequenceRule.{judged}
+use Rattle.kp_log.specs.Log.{KEPT, count_of}
+use Rattle.kp_log.specs.SequenceRule.{verdict, done}
+pub use Rattle.kp_log.specs.ErrorCode.{NO_ERROR, DUPLICATE_SEQUENCE_NUMBER}
 
 -- What a broker answers for one batch, as it stands in a Produce response.
 pub record Answered : Type 0 where
@@ -38,13 +40,6 @@ MayAppend h b = (count_of (pos b.id) h.records ≡ b.sequence) ⊎ (count_of (po
 
 -- ---- any honest broker
 
--- the codes that tell something of the batch, under their names in Kafka's protocol guide
-abbrev pub NO_ERROR : ℤ
-NO_ERROR = pos 0
-
-abbrev pub DUPLICATE_SEQUENCE_NUMBER : ℤ
-DUPLICATE_SEQUENCE_NUMBER = refusal_code DuplicateSequenceNumber
-
 -- The history stays, or the batch is appended where it may be. No error is answered only where the batch then stands
 -- at the base offset, and a duplicate only where it is then old; any other code may be answered in all cases.
 pub record BrokerStep (before : History) (b : Sent) (answer : Answered) (after : History) : Type 0 where
@@ -62,15 +57,18 @@ pub record Offered : Type 0 where
 abbrev pub answered : Answer → Answered
 answered a = record { code = code_of a; base = base_offset_of a }
 
--- the history once its log is this one: the batch was appended where the log has more records
-abbrev pub history_after : History → Sent → Log → History
-history_after h b log = if nat_lt (length h.records) (length log.records) then with_batch b h else h
+-- the history once this was done with the batch
+abbrev pub history_after : History → Sent → Verdict → History
+history_after h b (Refuse refusal) = h
+history_after h b (Repeat offset) = h
+history_after h b Append = with_batch b h
 
 -- It goes by the sequence rule.
 unfoldable pub offered_to : History → Sent → Offered
 offered_to h b =
-    let step = judged (log_for b.id h) (batch_of b) in
-    record { answer = answered step.answer; history = history_after h b step.log }
+    let log = log_for b.id h in
+    let v = verdict log (batch_of b) in
+    record { answer = answered (done log (batch_of b) v).answer; history = history_after h b v }
 
 -- no offset goes with an error
 abbrev pub error_of : ℤ → Answered

@@ -1,5 +1,5 @@
 -- A partition's log as the history of a run tells it: its records, and the batches from which they came.
-use Rattle.std.specs.Prelude.{ℕ, ◌++◌, ◌==◌, Bool, List, [], ◌∷◌, map, replicate, ℤ, pos, negsuc}
+use Rattle.std.specs.Prelude.{ℕ, ◌++◌, ◌==◌, Bool, List, [], ◌∷◌, map, replicate, ℤ, pos}
 use Rattle.std.specs.List.{filter, flat_map, list_any, enumerate_from}
 use Rattle.std.specs.Ordering.{int_eq}
 use Rattle.kp_batch.specs.declared.batch.Batch.{Batch}
@@ -7,7 +7,7 @@ use Rattle.kp_batch.specs.declared.batch.BatchHead.{BatchHead}
 use Rattle.kp_batch.specs.declared.record.Record.{Record}
 use Rattle.kp_batch.specs.Spelling.{written}
 use Rattle.kp_log.specs.declared.stored.Stored.{Stored}
-use Rattle.kp_log.specs.Log.{stored_as}
+use Rattle.kp_log.specs.Log.{stored_as, NO_ID}
 
 -- ---- batches
 
@@ -55,10 +55,6 @@ empty_history = record { records = []; batches = [] }
 -- the history with a batch appended
 abbrev pub with_batch : Sent → History → History
 with_batch b h = record { records = h.records ++ stored_of b; batches = h.batches ++ b ∷ [] }
-
--- the id under which records stand that came without one
-abbrev pub NO_ID : ℤ
-NO_ID = negsuc 0
 
 -- the history once another producer has appended so many records, each with this body
 abbrev pub with_others : ℕ → Record → History → History

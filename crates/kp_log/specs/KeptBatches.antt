@@ -3,7 +3,7 @@ use Rattle.std.specs.Prelude.{◌≡◌, ℕ, List, [], ◌∷◌, length, map, 
 use Rattle.kp_log.specs.declared.stored.Stored.{Stored}
 use Rattle.kp_log.specs.declared.kept.Span.{Span}
 use Rattle.kp_log.specs.declared.kept.Kept.{Kept}
-use Rattle.kp_log.specs.Log.{Log, log_of, count_of, kept_of, last_kept}
+use Rattle.kp_log.specs.Log.{Log, count_of, kept_of, last_kept}
 use Rattle.kp_log.specs.History.{Sent, History, of_id, own_offsets}
 
 -- where an appended batch begins: at the record of its id that has the batch's sequence number
@@ -24,11 +24,11 @@ kept_in id h = record {
   spans = last_kept (map (span_in h.records) (of_id id h.batches));
 }
 
--- the log of a history, as far as this producer id is concerned
+-- the log of a history, as far as a verdict on a batch of this producer id is concerned
 abbrev pub log_for : ℕ → History → Log
-log_for id h = log_of h.records ((pos id, kept_in id h) ∷ [])
+log_for id h = record { records = h.records; kept = (pos id, kept_in id h) ∷ []; segments = [] }
 
--- The log has the records of this history, and keeps of each producer id what is to be kept of it.
+-- The log has the records of this history, in whatever segments, and keeps of each producer id what is to be kept of it.
 pub record IsHistoryOf (h : History) (log : Log) : Type 0 where
   pub records : log.records ≡ h.records
   pub kept : (id : ℕ) → kept_of (pos id) log ≡ kept_in id h

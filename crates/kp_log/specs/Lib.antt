@@ -1,8 +1,10 @@
 pub mod Answer
 pub mod BrokerStep
+pub mod ErrorCode
 pub mod HandedOver
 pub mod History
 pub mod KeptBatches
 pub mod Log
+pub mod SegmentRule
+pub mod Segments
 pub mod SequenceRule
-pub mod Verdict

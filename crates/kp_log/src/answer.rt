@@ -3,6 +3,8 @@
 ghost use Rattle.std.specs.Prelude.{◌≡◌};
 ghost use Rattle.kp_log.specs.Answer.{code_of, base_offset_of};
 
+use crate::error_code::ErrorCode;
+
 /// Why a batch was not appended: Kafka's errors, under their names in the protocol guide.
 #[derive(Clone, Copy, Debug, PartialEq, Eq)]
 pub enum Refusal {
@@ -25,6 +27,8 @@ pub enum Answer {
     Stored(i64),
     /// The log is as it was.
     Refused(Refusal),
+    /// The log was told to answer so, whatever became of the batch.
+    Error(ErrorCode),
 }
 
 impl Answer {
@@ -39,16 +43,17 @@ impl Answer {
             Answer::Refused(Refusal::OutOfOrderSequenceNumber) => 45,
             Answer::Refused(Refusal::DuplicateSequenceNumber) => 46,
             Answer::Refused(Refusal::InvalidProducerEpoch) => 47,
+            Answer::Error(code) => code.get(),
         }
     }
 
-    /// The first record's offset, or Kafka's -1 where the batch was refused.
+    /// The first record's offset, or Kafka's -1 with an error.
     pub fn base_offset(self) -> i64
         ensures { result ≡ base_offset_of self }
     {
         match self {
             Answer::Stored(offset) => offset,
-            Answer::Refused(_) => -1,
+            Answer::Refused(_) | Answer::Error(_) => -1,
         }
     }
 }

@@ -5,12 +5,13 @@ ghost use Rattle.kp_batch.specs.declared.batch.Batch.{Batch};
 ghost use Rattle.kp_batch.specs.declared.record.Record.{Record};
 ghost use Rattle.kp_log.specs.declared.answer.Answer.TheVariants as answer;
 ghost use Rattle.kp_log.specs.declared.answer.Refusal.{Refusal};
-ghost use Rattle.kp_log.specs.Log.{Log, log_of, empty, appended, stored_as};
-ghost use Rattle.kp_log.specs.SequenceRule.{IsFirst, judged, unchanged, offered};
-ghost use Rattle.kp_log.specs.History.{Sent, History, arrived, empty_history, with_others, NO_ID};
+ghost use Rattle.kp_log.specs.declared.whim.Whim.{Whim};
+ghost use Rattle.kp_log.specs.Log.{Log, empty, appended, others_appended};
+ghost use Rattle.kp_log.specs.SequenceRule.{IsFirst, judged, unchanged, offered, offered_then};
+ghost use Rattle.kp_log.specs.History.{Sent, History, arrived, empty_history, with_others};
 ghost use Rattle.kp_log.specs.KeptBatches.{IsHistoryOf};
 ghost use Rattle.kp_log.specs.BrokerStep.{BrokerStep, NO_ERROR, DUPLICATE_SEQUENCE_NUMBER, answered, offered_to, refused_unseen, offered_late};
-ghost use Rattle.kp_log.specs.HandedOver.{Follows, AreInSequence, IsStored, CameBy};
+ghost use Rattle.kp_log.specs.HandedOver.{Follows, AreInSequence, IsStored, CameBy, IsHonest};
 
 /// A batch that comes twice is answered twice alike, and the second time nothing changes, whatever the
 /// log and the batch.
@@ -86,5 +87,17 @@ pub fn offer_is_loopback()
     ensures others { (h : History) (log : Log) (n : ℕ) (body : Record)
         → IsHistoryOf h log → All (IsStored h.records) h.batches
         → IsHistoryOf (with_others n body h)
-        (log_of (log.records ++ stored_as NO_ID (replicate n body)) log.kept) }
+        (others_appended log (replicate n body)) }
+{}
+
+/// What a log does with a batch that was handed over, by `offer` or by `offer_then`, is what an honest broker may do,
+/// whatever base offset and leader's epoch stand in the batch: where the log holds what a history says that came by
+/// what was handed over. And then it holds such a history again.
+pub fn offers_are_honest()
+    ensures offer { (handed : List Sent) (h : History) (log : Log) (b : Sent) (offset leader_epoch : ℤ)
+        → AreInSequence handed → CameBy handed h → Contains handed b → IsHistoryOf h log
+        → IsHonest handed h b (offered log (Ok (arrived offset leader_epoch b))) }
+    ensures offer_then { (handed : List Sent) (h : History) (log : Log) (b : Sent) (offset leader_epoch : ℤ) (whim : Whim)
+        → AreInSequence handed → CameBy handed h → Contains handed b → IsHistoryOf h log
+        → IsHonest handed h b (offered_then log whim (Ok (arrived offset leader_epoch b))) }
 {}

@@ -2,17 +2,19 @@
 #![tactic(auto)]
 
 mod answer;
+mod error_code;
 mod fault;
 mod kept;
 pub mod laws;
 mod log;
 mod offering;
+mod segments;
 mod stored;
+mod whim;
 
 pub use answer::{Answer, Refusal};
+pub use error_code::ErrorCode;
 pub use fault::LogFault;
 pub use log::PartitionLog;
 pub use stored::Stored;
-
-#[cfg(test)]
-mod tests;
+pub use whim::Whim;

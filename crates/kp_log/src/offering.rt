@@ -4,15 +4,14 @@ ghost use Rattle.std.specs.Prelude.{◌≡◌, ◌+◌, ◌≤◌, ◌++◌, ℤ
 ghost use Rattle.std.specs.Int.{w64};
 ghost use Rattle.std.specs.Option.{option_copied};
 ghost use Rattle.std.specs.Vec.{vec_capacity};
-ghost use Rattle.kp_log.specs.Log.{log_of, count_of, stored_as, appended, IsSound};
-ghost use Rattle.kp_log.specs.SequenceRule.{is_repeat, repeated, is_next, is_older, judged};
-ghost use Rattle.kp_log.specs.Verdict.{done, IsAllowed};
+ghost use Rattle.kp_log.specs.Log.{log_of, count_of, appended, IsSound};
+ghost use Rattle.kp_log.specs.SequenceRule.{is_repeat, repeated, is_next, is_older, verdict, judged};
 
 use crate::answer::{Answer, Refusal};
 use crate::fault::LogFault;
 use crate::kept::{Kept, Span, kept_count, kept_spans, kept_with};
-use crate::stored::Stored;
-use kp_batch::{Batch, Record};
+use crate::segments::Segments;
+use kp_batch::Batch;
 use std::collections::BTreeMap;
 
 /// The first number that no sequence number may reach: they are int32s.
@@ -55,15 +54,16 @@ fn find_repeated(batch: &Batch, spans: &[Span]) -> Option<Span>
 }
 
 /// Whether the batch is the next of a producer that has so many records here.
-fn is_next(batch: &Batch, records: &Vec<Stored>, count: u32) -> bool
-    requires { count ≡ count_of batch.now.head.producer_id records.now.items }
-    ensures { result ≡ is_next records.now.items batch.now }
+fn is_next(batch: &Batch, segments: &Segments, count: u32) -> bool
+    requires counted { count ≡ count_of batch.now.head.producer_id segments.now.records }
+    requires in_length { length segments.now.records ≤ LENGTH_LIMIT }
+    ensures { result ≡ is_next segments.now.records batch.now }
 {
     let first = batch.head.base_sequence;
     let added = batch.records.len();
     i64::from(first) == i64::from(count)
         && ends_by(first, added, SEQUENCE_LIMIT)
-        && added as u64 <= LENGTH_LIMIT.saturating_sub(records.len() as u64)
+        && added as u64 <= LENGTH_LIMIT - segments.len()
 }
 
 /// Whether the batch is older than those kept.
@@ -82,11 +82,9 @@ fn is_older(batch: &Batch, spans: &[Span]) -> bool
 // ---- the rule
 
 /// What the rule says of the batch.
-fn judge(records: &Vec<Stored>, kept: &BTreeMap<i64, Kept>, batch: &Batch) -> Verdict
-    requires { IsSound (log_of records.now.items kept.now.entries) }
-    ensures exact { let log = log_of records.now.items kept.now.entries in
-        judged log batch.now ≡ done log batch.now result }
-    ensures allowed { IsAllowed records.now.items batch.now result }
+fn judge(segments: &Segments, kept: &BTreeMap<i64, Kept>, batch: &Batch) -> Verdict
+    requires { IsSound (log_of segments.now kept.now.entries) }
+    ensures { result ≡ verdict (log_of segments.now kept.now.entries) batch.now }
 {
     let head = &batch.head;
     if head.producer_id < 0 {
@@ -100,7 +98,7 @@ fn judge(records: &Vec<Stored>, kept: &BTreeMap<i64, Kept>, batch: &Batch) -> Ve
     if let Some(span) = find_repeated(batch, spans) {
         return Verdict::Repeat(span.base_offset);
     }
-    if is_next(batch, records, kept_count(kept)) {
+    if is_next(batch, segments, kept_count(kept)) {
         return Verdict::Append;
     }
     if is_older(batch, spans) {
@@ -111,64 +109,52 @@ fn judge(records: &Vec<Stored>, kept: &BTreeMap<i64, Kept>, batch: &Batch) -> Ve
 
 // ---- an append
 
-/// Puts records behind those of a log that has room for them.
-fn push_all(records: &mut Vec<Stored>, producer_id: i64, bodies: Vec<Record>)
-    requires { vec_len records.old + vec_len bodies ≤ vec_capacity records.old }
-    ensures { records.new.items ≡ records.old.items ++ stored_as producer_id bodies.items }
-{
-    for body in bodies {
-        if records.push(Stored { producer_id, body }).is_err() {
-            unreachable!()
-        }
-    }
-}
-
 /// Appends a batch that is the next. All memory is found before anything changes.
 fn append(
-    records: &mut Vec<Stored>,
+    segments: &mut Segments,
     kept: &mut BTreeMap<i64, Kept>,
     batch: Batch,
 ) -> Result<(), LogFault>
-    requires sound { IsSound (log_of records.old.items kept.old.entries) }
-    requires next { IsTrue (is_next records.old.items batch) }
-    ensures exact { let old = log_of records.old.items kept.old.entries in
-        let new = log_of records.new.items kept.new.entries in
+    requires sound { IsSound (log_of segments.old kept.old.entries) }
+    requires next { verdict (log_of segments.old kept.old.entries) batch ≡ Verdict.Append }
+    ensures exact { let old = log_of segments.old kept.old.entries in
+        let new = log_of segments.new kept.new.entries in
         MatchResult result (λ _. new ≡ appended old batch) (λ _. new ≡ old) }
 {
     let id = batch.head.producer_id;
     let added = batch.records.len();
-    records.reserve(added)?;
+    segments.reserve(added)?;
     let span = Span {
         base_sequence: batch.head.base_sequence,
         count: added as u32,
-        base_offset: records.len() as i64,
+        base_offset: segments.len() as i64,
     };
     let updated = kept_with(kept.get(&batch.head.producer_id), span);
     if kept.insert(id, updated).is_err() {
         return Err(LogFault::OutOfMemory);
     }
-    push_all(records, id, batch.records.into_vec());
+    segments.append_reserved(id, batch.records.into_vec());
     Ok(())
 }
 
 /// Judges the batch, and appends it if it is the next.
 pub(crate) fn take_batch(
-    records: &mut Vec<Stored>,
+    segments: &mut Segments,
     kept: &mut BTreeMap<i64, Kept>,
     batch: Batch,
 ) -> Result<Answer, LogFault>
-    requires { IsSound (log_of records.old.items kept.old.entries) }
-    ensures exact { let old = log_of records.old.items kept.old.entries in
-        let new = log_of records.new.items kept.new.entries in
+    requires { IsSound (log_of segments.old kept.old.entries) }
+    ensures exact { let old = log_of segments.old kept.old.entries in
+        let new = log_of segments.new kept.new.entries in
         MatchResult result (λ a. judged old batch ≡ record { answer = a; log = new }) (λ _. new ≡ old) }
-    ensures sound { IsSound (log_of records.new.items kept.new.entries) }
+    ensures sound { IsSound (log_of segments.new kept.new.entries) }
 {
-    match judge(records, kept, &batch) {
+    match judge(segments, kept, &batch) {
         Verdict::Refuse(refusal) => Ok(Answer::Refused(refusal)),
         Verdict::Repeat(offset) => Ok(Answer::Stored(offset)),
         Verdict::Append => {
-            let offset = records.len() as i64;
-            append(records, kept, batch)?;
+            let offset = segments.len() as i64;
+            append(segments, kept, batch)?;
             Ok(Answer::Stored(offset))
         }
     }

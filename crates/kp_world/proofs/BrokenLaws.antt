@@ -15,8 +15,8 @@ use Rattle.kp_accum.specs.declared.config.Config.{Config}
 use Rattle.kp_accum.specs.declared.item.Item.{Item}
 use Rattle.kp_accum.specs.Queue.{body_of}
 use Rattle.kp_batch.specs.declared.record.Record.{Record}
-use Rattle.kp_log.specs.History.{stored_of, own, is_under, NO_ID}
-use Rattle.kp_log.specs.Log.{stored_as}
+use Rattle.kp_log.specs.History.{stored_of, own, is_under}
+use Rattle.kp_log.specs.Log.{stored_as, NO_ID}
 use Rattle.kp_log.specs.declared.stored.Stored.{Stored}
 use Rattle.kp_rules.specs.declared.attempt.Attempt.{Attempt}
 use Rattle.kp_rules.specs.declared.attempt.Attempt.TheVariants.{InFlight, Waiting}

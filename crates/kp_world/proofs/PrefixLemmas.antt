@@ -14,8 +14,8 @@ use Rattle.kp_accum.specs.Queue.{Pending}
 use Rattle.kp_log.specs.declared.stored.Stored.{Stored}
 use Rattle.kp_log.specs.BrokerStep.{MayAppend}
 use Rattle.kp_log.specs.HandedOver.{Follows, IsStored}
-use Rattle.kp_log.specs.History.{History, stored_of, records_of, with_batch, with_others, empty_history, is_under, own, NO_ID}
-use Rattle.kp_log.specs.Log.{count_of, stored_as}
+use Rattle.kp_log.specs.History.{History, stored_of, records_of, with_batch, with_others, empty_history, is_under, own}
+use Rattle.kp_log.specs.Log.{count_of, stored_as, NO_ID}
 use Rattle.kp_log.proofs.LogLemmas.{count_of-append, count_of_own, int_eq_same}
 use Rattle.kp_log.proofs.PlaceLemmas.{In, In-nil, In-cons, In-append_right, cut_cases}
 use Rattle.kp_rules.specs.Replies.{go_on_under}

@@ -4,8 +4,8 @@ use Rattle.std.proofs.Common.{◌≡◌, ℕ, ◌<◌, Bool, true, false, List, 
 use Rattle.std.specs.Prelude.{if◌then◌else◌, ◌==◌}
 use Rattle.kp_accum.specs.declared.config.Config.{Config}
 use Rattle.kp_log.specs.declared.stored.Stored.{Stored}
-use Rattle.kp_log.specs.History.{History, empty_history, with_others, NO_ID}
-use Rattle.kp_log.specs.Log.{stored_as}
+use Rattle.kp_log.specs.History.{History, empty_history, with_others}
+use Rattle.kp_log.specs.Log.{stored_as, NO_ID}
 use Rattle.kp_rules.specs.Requesting.{request_step}
 use Rattle.kp_rules.specs.Next.{Sending}
 use Rattle.kp_rules.specs.Records.{Demand, Produce, InitProducerId, HandedBatch}
