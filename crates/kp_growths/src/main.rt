@@ -5,6 +5,7 @@
 
 mod frames;
 mod lanes;
+mod logs;
 mod waiting;
 
 use kp_batch::{
@@ -287,6 +288,7 @@ fn outcome_of<R: Files + AllocGlobal>(rt: &R) -> Outcome {
         wrote,
         read(alloc, &bytes),
         offer(alloc, &bytes),
+        logs::shared(alloc, &bytes),
         frames::request_with(alloc, &bytes),
         frames::response(alloc),
         frames::stream(alloc),
