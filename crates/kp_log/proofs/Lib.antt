@@ -11,3 +11,4 @@ pub mod KeepingLemmas
 pub mod TieLemmas
 pub mod HonestLemmas
 pub mod SegmentLemmas
+pub mod OpenedLemmas

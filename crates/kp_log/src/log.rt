@@ -1,8 +1,8 @@
 //! A partition's log.
 
-ghost use Rattle.std.specs.Prelude.{◌≡◌, ◌+◌, ◌≤◌, [], ◌∷◌, length, slice_get, IfOk, IsOk, MatchResult};
+ghost use Rattle.std.specs.Prelude.{◌≡◌, ◌+◌, ◌≤◌, [], ◌∷◌, length, slice_get, IfOk, IfErr, IsOk, MatchResult};
 ghost use Rattle.std.specs.Option.{option_copied};
-ghost use Rattle.kp_batch.specs.Reading.{batch_at};
+ghost use Rattle.kp_batch.specs.Reading.{batch_at, opened};
 
 use crate::answer::{Answer, Refusal};
 use crate::fault::LogFault;
@@ -94,6 +94,9 @@ impl PartitionLog {
         ensures exact { MatchResult result
             (λ a. offered self.old (batch_at bytes.now) ≡ record { answer = a; log = self.new })
             (λ _. self.new ≡ self.old) }
+
+        // Memory is wanting only where the bytes open as a batch: any other fault of theirs is answered.
+        ensures opened { IfErr result (λ _. IsOk (opened bytes.now)) }
     {
         match read_batch(self.alloc, bytes) {
             Ok(batch) => take_batch(&mut self.segments, &mut self.kept, batch),
@@ -107,6 +110,7 @@ impl PartitionLog {
         ensures exact { MatchResult result
             (λ a. offered_then self.old whim (batch_at bytes.now) ≡ record { answer = a; log = self.new })
             (λ _. self.new ≡ self.old) }
+        ensures opened { IfErr result (λ _. IsOk (opened bytes.now)) }
         ensures refused { (code : ErrorCode) → whim ≡ Whim.Refuse code → IsOk result }
     {
         match whim {
