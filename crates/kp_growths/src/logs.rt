@@ -104,7 +104,10 @@ fn owned_by_any(log: &PartitionLog) -> Outcome {
 /// Whether these are the numbers from 0 to 258.
 fn are_all(offsets: &[u64]) -> bool {
     offsets.len() == 259
-        && offsets.iter().enumerate().all(|(i, offset)| *offset == i as u64)
+        && offsets
+            .iter()
+            .enumerate()
+            .all(|(i, offset)| *offset == i as u64)
 }
 
 /// A log that another producer fills a segment of, and then shares with the producer of this batch of two records.

@@ -3,7 +3,11 @@ use Rattle.std.specs.Prelude.{ℤ, pos, negsuc}
 use Rattle.kp_log.specs.declared.answer.Answer.{Answer}
 use Rattle.kp_log.specs.declared.answer.Answer.TheVariants.{Stored, Refused, Error}
 use Rattle.kp_log.specs.declared.answer.Refusal.{Refusal}
+use Rattle.kp_log.specs.declared.error_code.ErrorCode.{ErrorCode}
 use Rattle.kp_log.specs.declared.answer.Refusal.TheVariants.{CorruptMessage, InvalidRequest, OutOfOrderSequenceNumber, DuplicateSequenceNumber, InvalidProducerEpoch}
+
+abbrev pub number_of : ErrorCode → ℤ
+number_of code = code.number
 
 abbrev pub refusal_code : Refusal → ℤ
 refusal_code CorruptMessage = pos 2
@@ -15,7 +19,7 @@ refusal_code InvalidProducerEpoch = pos 47
 abbrev pub code_of : Answer → ℤ
 code_of (Stored offset) = pos 0
 code_of (Refused refusal) = refusal_code refusal
-code_of (Error code) = code.number
+code_of (Error code) = number_of code
 
 -- no offset goes with an error
 abbrev pub base_offset_of : Answer → ℤ

@@ -28,7 +28,8 @@ kept_in id h = record {
 abbrev pub log_for : ℕ → History → Log
 log_for id h = record { records = h.records; kept = (pos id, kept_in id h) ∷ []; segments = [] }
 
--- The log has the records of this history, in whatever segments, and keeps of each producer id what is to be kept of it.
+-- The log has the records of this history, in whatever segments, and keeps of each producer id what is to be kept of
+-- it.
 pub record IsHistoryOf (h : History) (log : Log) : Type 0 where
   pub records : log.records ≡ h.records
   pub kept : (id : ℕ) → kept_of (pos id) log ≡ kept_in id h

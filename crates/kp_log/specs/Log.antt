@@ -10,8 +10,8 @@ use Rattle.kp_log.specs.declared.kept.Span.{Span}
 use Rattle.kp_log.specs.declared.kept.Kept.{Kept}
 use Rattle.kp_log.specs.SegmentRule.{Held, segments_with}
 
--- The records by offset; by producer id the count of its records and its last batches; and the lengths of the segments in
--- which the records lie, the oldest first.
+-- The records by offset; by producer id the count of its records and its last batches; and the lengths of the segments
+-- in which the records lie, the oldest first.
 pub record Log : Type 0 where
   pub records : List Stored
   pub kept : List (ℤ × Kept)

@@ -12,6 +12,7 @@ use Rattle.kp_log.specs.declared.stored.Stored.{Stored}
 use Rattle.kp_log.specs.declared.whim.Whim.{Whim}
 use Rattle.kp_log.specs.declared.whim.Whim.TheVariants as whim
 use Rattle.kp_log.specs.declared.kept.Span.{Span}
+use Rattle.kp_log.specs.Answer.{number_of}
 use Rattle.kp_log.specs.Log.{Log, count_of, kept_of, appended, SEQUENCE_LIMIT, LENGTH_LIMIT}
 
 -- ---- a repeat
@@ -92,8 +93,8 @@ offered_then log (whim.Late code) what = record { answer = answer.Error code; lo
 
 -- the code that it is told to answer
 abbrev pub code_told : Whim → ℤ
-code_told (whim.Refuse code) = code.number
-code_told (whim.Late code) = code.number
+code_told (whim.Refuse code) = number_of code
+code_told (whim.Late code) = number_of code
 
 -- ---- the first batch of a producer
 

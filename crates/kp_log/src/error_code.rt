@@ -18,10 +18,12 @@ pub struct ErrorCode {
 }
 
 impl ErrorCode {
+    ghost use Rattle.kp_log.specs.Answer.{number_of};
+
     /// The code of this number, if it is one.
     pub fn new(number: i16) -> Option<ErrorCode>
         ensures known { IsSome result ↔ IsErrorCode number }
-        ensures value { IfSome result (λ code. code.number ≡ number) }
+        ensures value { IfSome result (λ code. number_of code ≡ number) }
     {
         if number == NO_ERROR || number == DUPLICATE_SEQUENCE_NUMBER {
             return None;
@@ -31,7 +33,7 @@ impl ErrorCode {
 
     /// Kafka's number.
     pub fn get(self) -> i16
-        ensures value { result ≡ self.number }
+        ensures value { result ≡ number_of self }
         ensures is_error { IsErrorCode result }
     {
         self.number

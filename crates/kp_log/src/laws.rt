@@ -94,10 +94,12 @@ pub fn offer_is_loopback()
 /// whatever base offset and leader's epoch stand in the batch: where the log holds what a history says that came by
 /// what was handed over. And then it holds such a history again.
 pub fn offers_are_honest()
-    ensures offer { (handed : List Sent) (h : History) (log : Log) (b : Sent) (offset leader_epoch : ℤ)
+    ensures offer { (handed : List Sent) (h : History) (log : Log) (b : Sent)
+        (offset leader_epoch : ℤ)
         → AreInSequence handed → CameBy handed h → Contains handed b → IsHistoryOf h log
         → IsHonest handed h b (offered log (Ok (arrived offset leader_epoch b))) }
-    ensures offer_then { (handed : List Sent) (h : History) (log : Log) (b : Sent) (offset leader_epoch : ℤ) (whim : Whim)
+    ensures offer_then { (handed : List Sent) (h : History) (log : Log) (b : Sent)
+        (offset leader_epoch : ℤ) (whim : Whim)
         → AreInSequence handed → CameBy handed h → Contains handed b → IsHistoryOf h log
         → IsHonest handed h b (offered_then log whim (Ok (arrived offset leader_epoch b))) }
 {}

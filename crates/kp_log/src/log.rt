@@ -77,14 +77,16 @@ impl PartitionLog {
 
     /// The offsets, upwards, of the records under this producer id.
     pub fn own(&self, producer_id: i64) -> Result<Vec<u64>, LogFault>
-        ensures { IfOk result (λ offsets. offsets.items ≡ own_offsets (producer_id ∷ []) self.now.records) }
+        ensures { IfOk result
+            (λ offsets. offsets.items ≡ own_offsets (producer_id ∷ []) self.now.records) }
     {
         self.own_any(&[producer_id])
     }
 
     /// The offsets, upwards, of the records under one of these producer ids.
     pub fn own_any(&self, ids: &[i64]) -> Result<Vec<u64>, LogFault>
-        ensures { IfOk result (λ offsets. offsets.items ≡ own_offsets ids.now self.now.records) }
+        ensures { IfOk result
+            (λ offsets. offsets.items ≡ own_offsets ids.now self.now.records) }
     {
         Ok(self.segments.offsets_of(ids)?)
     }
@@ -105,7 +107,8 @@ impl PartitionLog {
         }
     }
 
-    /// The same by a broker with a whim. One that is told to refuse takes no memory.
+    /// Takes a batch as bytes, and answers as it is told to. Told to refuse, it takes no memory; else, where a growth is
+    /// refused, the log is as it was.
     pub fn offer_then(&mut self, bytes: &[u8], whim: Whim) -> Result<Answer, LogFault>
         ensures exact { MatchResult result
             (λ a. offered_then self.old whim (batch_at bytes.now) ≡ record { answer = a; log = self.new })

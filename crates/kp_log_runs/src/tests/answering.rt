@@ -25,7 +25,11 @@ fn answers_as_kafka_does(rt: HostRuntime) -> Result<(), Fail> {
     ] {
         let bytes = batch_of(rt.alloc(), producer_id, epoch, base_sequence, 1)?;
         let answer = numbers_of(log.offer(&bytes)?);
-        assert_eq!(rt; answer, (code, base_offset), "at {base_sequence} of {producer_id}");
+        assert_eq!(rt;
+            answer,
+            (code, base_offset),
+            "at {base_sequence} of {producer_id}"
+        );
     }
     assert_eq!(rt; log.len(), 7);
     let owners = [7, 9, 7, 7, 7, 7, 7];

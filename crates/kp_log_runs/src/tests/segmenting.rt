@@ -31,7 +31,16 @@ fn a_segment_of_400_records_takes_no_more(rt: HostRuntime) -> Result<(), Fail> {
 #[test]
 fn a_segment_of_256_records_takes_no_more(rt: HostRuntime) -> Result<(), Fail> {
     let mut log = PartitionLog::new(rt.alloc());
-    for (count, segments) in [(0, 0), (255, 1), (1, 1), (0, 1), (1, 2), (0, 2), (255, 2), (1, 3)] {
+    for (count, segments) in [
+        (0, 0),
+        (255, 1),
+        (1, 1),
+        (0, 1),
+        (1, 2),
+        (0, 2),
+        (255, 2),
+        (1, 3),
+    ] {
         append_others(rt.alloc(), &mut log, count)?;
         assert_eq!(rt; log.segments(), segments, "behind {count} at {}", log.len());
     }

@@ -31,7 +31,10 @@ fn own_offsets_of_two_ids(rt: HostRuntime) -> Result<(), Fail> {
     assert_eq!(rt; offer(rt.alloc(), &mut log, 1000, 0, 1)?, (0, 0));
     assert_eq!(rt; offer(rt.alloc(), &mut log, 1000, 1, 1)?, (0, 1));
     assert_eq!(rt; offer(rt.alloc(), &mut log, 1001, 0, 1)?, (0, 2));
-    assert_eq!(rt; log.own_any(&[1000, 1001])?.as_slice(), [0, 1, 2].as_slice());
+    assert_eq!(rt;
+        log.own_any(&[1000, 1001])?.as_slice(),
+        [0, 1, 2].as_slice()
+    );
     assert_eq!(rt; log.own_any(&[1001])?.as_slice(), [2].as_slice());
     assert_eq!(rt; log.own_any(&[])?.len(), 0);
     Ok(())
