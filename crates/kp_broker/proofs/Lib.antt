@@ -1,0 +1,16 @@
+pub mod CodeLemmas
+pub mod ConnectionLemmas
+pub mod CourseLemmas
+pub mod DecimalLemmas
+pub mod EntryLemmas
+pub mod FittingLemmas
+pub mod FrameLemmas
+pub mod PieceLemmas
+pub mod PlanLemmas
+pub mod ReadLemmas
+pub mod ReplyLemmas
+pub mod ServedLemmas
+pub mod SplitLemmas
+pub mod TakingLemmas
+pub mod TextLemmas
+pub mod AgainLemmas

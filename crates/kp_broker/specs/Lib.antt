@@ -1,0 +1,10 @@
+pub mod Again
+pub mod Answering
+pub mod Answers
+pub mod Broker
+pub mod Fault
+pub mod Plan
+pub mod Replies
+pub mod Sending
+pub mod Serving
+pub mod Taking

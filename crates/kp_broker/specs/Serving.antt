@@ -1,0 +1,197 @@
+-- What comes of the frames of a connection, by a plan.
+use Rattle.std.specs.Prelude.{◌≡◌, ◌⊎◌, ℕ, ◌*◌, ◌≤◌, List, [], ◌∷◌, ◌++◌, length, Bool, true, false, Option, Some, None, is_some, Result, Ok, Err, nat_le, if◌then◌else◌}
+use Rattle.std.specs.Io.KnownBytes.{Appends, Consumes, IsAtEnd}
+use Rattle.kp_frames.specs.declared.fault.FrameFault.{FrameFault}
+use Rattle.kp_frames.specs.declared.fault.FrameFault.TheVariants.{TooLarge}
+use Rattle.kp_frames.specs.declared.frame.TheConstants.{CONTENT_LIMIT}
+use Rattle.kp_frames.specs.declared.request.Request.{Request}
+use Rattle.kp_frames.specs.declared.request.RequestBody.{RequestBody}
+use Rattle.kp_frames.specs.declared.request.RequestBody.TheVariants.{Produce, Metadata, InitProducerId}
+use Rattle.kp_frames.specs.Request.{request_at}
+use Rattle.kp_frames.specs.Response.{spelling}
+use Rattle.kp_frames.specs.Stream.{frame, stream, is_faulty}
+use Rattle.kp_log.specs.declared.whim.Whim.{Whim}
+use Rattle.kp_log.specs.declared.whim.Whim.TheVariants as whim
+use Rattle.kp_broker.specs.declared.fault.BrokerFault.{BrokerFault}
+use Rattle.kp_broker.specs.declared.fault.BrokerFault.TheVariants.{Frame, Io, OutOfMemory, TooLong}
+use Rattle.kp_broker.specs.declared.plan.action.Action.{Action}
+use Rattle.kp_broker.specs.declared.plan.action.Action.TheVariants.{DropRequest, DropReply, Repeat, Refuse, Late, HangUp}
+use Rattle.kp_broker.specs.declared.serving.Served.{Served}
+use Rattle.kp_broker.specs.declared.serving.Served.TheVariants.{End, HungUp}
+use Rattle.kp_broker.specs.declared.serving.TheConstants.{READ_LIMIT}
+use Rattle.kp_broker.specs.declared.serving.streams.TheConstants.{PIECE_LIMIT}
+use Rattle.kp_broker.specs.Answering.{StopsWithin, after_unanswered}
+use Rattle.kp_broker.specs.Answers.{answer_to, after_answer}
+use Rattle.kp_broker.specs.Broker.{Broker, counted}
+use Rattle.kp_broker.specs.Plan.{Plan, planned}
+
+-- ---- what comes of frames
+
+-- how a connection is ended by what came on it
+pub data Ending : Type 0 where
+  HangsUp : Ending
+  Refuses : FrameFault → Ending
+
+-- The bytes that are written, the broker after it, and how the connection ended, where it did.
+pub record Course : Type 0 where
+  pub written : List ℕ
+  pub broker : Broker
+  pub ending : Option Ending
+
+-- nothing is written, and the connection stays open
+abbrev pub silent : Broker → Course
+silent b = record { written = []; broker = b; ending = None }
+
+-- nothing is written, and the connection ends
+abbrev pub ended : Ending → Broker → Course
+ended ending b = record { written = []; broker = b; ending = Some ending }
+
+-- One thing, and behind it what comes of the broker as that left it; nothing behind an end.
+unfoldable pub and_then : Course → (Broker → Course) → Course
+and_then c next =
+    let later = next c.broker in
+    if is_some c.ending
+    then c
+    else record { written = c.written ++ later.written; broker = later.broker; ending = later.ending }
+
+-- ---- one request
+
+-- Its answer as a frame, on a whim or by the rules. One that is too large for a frame ends the connection.
+abbrev pub answered : Option Whim → Request → Broker → Course
+answered whim request b =
+    let content = spelling (answer_to whim b request) in
+    if nat_le (length content) CONTENT_LIMIT
+    then record { written = frame.spell content; broker = after_answer whim b request.body; ending = None }
+    else ended (Refuses TooLarge) (after_unanswered whim b request.body)
+
+-- the same, and what is written is lost
+abbrev pub unheard : Course → Course
+unheard c = record c { written = [] }
+
+abbrev pub done_by : Option Action → Request → Broker → Course
+done_by None request b = answered None request b
+done_by (Some DropRequest) request b = silent b
+done_by (Some DropReply) request b = unheard (answered None request b)
+done_by (Some Repeat) request b = and_then (unheard (answered None request b)) (answered None request)
+done_by (Some (Refuse code)) request b = answered (Some (whim.Refuse code)) request b
+done_by (Some (Late code)) request b = answered (Some (whim.Late code)) request b
+done_by (Some HangUp) request b = ended HangsUp b
+
+-- a plan's numbers count Produce requests, whatever connections they came on
+abbrev pub action_for : Plan → Broker → RequestBody → Option Action
+action_for plan b (Produce r) = planned plan b.produced
+action_for plan b (Metadata r) = None
+action_for plan b (InitProducerId r) = None
+
+-- by what a frame's content is read as
+abbrev pub done_for : Plan → Broker → Result Request FrameFault → Course
+done_for plan b (Ok request) = done_by (action_for plan b request.body) request (counted request.body b)
+done_for plan b (Err fault) = ended (Refuses fault) b
+
+abbrev pub handled : Plan → Broker → List ℕ → Course
+handled plan b content = done_for plan b (request_at content)
+
+-- ---- many frames
+
+-- each by the broker as those before it left it, until one ends the connection
+abbrev pub served : Plan → Broker → List (List ℕ) → Course
+served plan b [] = silent b
+served plan b (content ∷ contents) = and_then (handled plan b content) (λ after. served plan after contents)
+
+-- what stands behind the frames of a connection ends it where it begins with the size of no frame
+abbrev pub behind_frames : Bool → Broker → Course
+behind_frames false b = silent b
+behind_frames true b = ended (Refuses TooLarge) b
+
+-- the bytes that were read on a connection
+abbrev pub heard : Plan → Broker → List ℕ → Course
+heard plan b bytes = and_then (served plan b (stream bytes).frames) (behind_frames (is_faulty bytes))
+
+-- ---- a connection that broke
+
+-- nothing more was done
+abbrev pub IsStill : Broker → List ℕ → Broker → Type 0
+IsStill b written after = (written ≡ []) × (after ≡ b)
+
+-- one thing was done whole, and then what Next says
+pub record IsBehind (c : Course) (Next : List ℕ → Broker → Type 0) (written : List ℕ) (after : Broker) : Type 0 where
+  pub goes_on : c.ending ≡ None
+  pub later : List ℕ
+  pub split : written ≡ c.written ++ later
+  pub next : Next later after
+
+-- It broke before any more of these frames, within what comes of the next, or behind that.
+abbrev pub Breaks : (Broker → List ℕ → List ℕ → Broker → Type 0) → Plan → Broker → List (List ℕ) → List ℕ → Broker → Type 0
+Breaks Within plan b [] written after = IsStill b written after
+Breaks Within plan b (content ∷ contents) written after =
+    let c = handled plan b content in
+    IsStill b written after
+    ⊎ (Within b content written after ⊎ IsBehind c (Breaks Within plan c.broker contents) written after)
+
+-- The writer failed: the rest of an answer is lost.
+abbrev pub LosesAnswer : Plan → Broker → List ℕ → List ℕ → Broker → Type 0
+LosesAnswer plan b content written after =
+    (lost : List ℕ) × (handled plan b content ≡ record { written = written ++ lost; broker = after; ending = None })
+
+-- Memory was refused within an answer, or within the first of two.
+abbrev pub StopsBy : Option Action → Request → Broker → Broker → Type 0
+StopsBy None request b after = StopsWithin None b request.body after
+StopsBy (Some DropRequest) request b after = ⊥
+StopsBy (Some DropReply) request b after = StopsWithin None b request.body after
+StopsBy (Some Repeat) request b after =
+    let first = answered None request b in
+    StopsWithin None b request.body after
+    ⊎ ((first.ending ≡ None) × StopsWithin None first.broker request.body after)
+StopsBy (Some (Refuse code)) request b after = StopsWithin (Some (whim.Refuse code)) b request.body after
+StopsBy (Some (Late code)) request b after = StopsWithin (Some (whim.Late code)) b request.body after
+StopsBy (Some HangUp) request b after = ⊥
+
+abbrev pub StopsFor : Plan → Broker → Result Request FrameFault → Broker → Type 0
+StopsFor plan b (Ok request) after =
+    StopsBy (action_for plan b request.body) request (counted request.body b) after
+StopsFor plan b (Err fault) after = ⊥
+
+-- Memory was refused: no answer goes out.
+abbrev pub LosesMemory : Plan → Broker → List ℕ → List ℕ → Broker → Type 0
+LosesMemory plan b content written after = (written ≡ []) × StopsFor plan b (request_at content) after
+
+-- ---- a connection
+
+-- what was written, and what became of the broker, by the frames that came
+abbrev pub ServesFrames : Plan → Broker → List (List ℕ) → Result Served BrokerFault → List ℕ → Broker → Type 0
+ServesFrames plan b frames (Ok End) written after =
+    served plan b frames ≡ record { written = written; broker = after; ending = None }
+ServesFrames plan b frames (Ok HungUp) written after =
+    served plan b frames ≡ record { written = written; broker = after; ending = Some HangsUp }
+ServesFrames plan b frames (Err (Frame fault)) written after =
+    served plan b frames ≡ record { written = written; broker = after; ending = Some (Refuses fault) }
+ServesFrames plan b frames (Err Io) written after = Breaks (LosesAnswer plan) plan b frames written after
+ServesFrames plan b frames (Err OutOfMemory) written after = Breaks (LosesMemory plan) plan b frames written after
+ServesFrames plan b frames (Err TooLong) written after = ⊥
+
+-- the same by the bytes that were read
+abbrev pub Serves : Plan → Broker → List ℕ → Result Served BrokerFault → List ℕ → Broker → Type 0
+Serves plan b bytes (Ok End) written after =
+    heard plan b bytes ≡ record { written = written; broker = after; ending = None }
+Serves plan b bytes (Ok HungUp) written after =
+    heard plan b bytes ≡ record { written = written; broker = after; ending = Some HangsUp }
+Serves plan b bytes (Err (Frame fault)) written after =
+    heard plan b bytes ≡ record { written = written; broker = after; ending = Some (Refuses fault) }
+Serves plan b bytes (Err Io) written after = Breaks (LosesAnswer plan) plan b (stream bytes).frames written after
+Serves plan b bytes (Err OutOfMemory) written after = Breaks (LosesMemory plan) plan b (stream bytes).frames written after
+Serves plan b bytes (Err TooLong) written after =
+    heard plan b bytes ≡ record { written = written; broker = after; ending = None }
+
+-- ---- its reader and its writer, where they tell their bytes
+
+-- What was read was taken from the reader, and what was written was put behind what the writer held. Each read gave a
+-- byte at least, but one that found the end.
+pub record IsServed (plan : Plan) (before : Broker) (unread unread' held held' : Option (List ℕ)) (result : Result Served BrokerFault) (after : Broker) : Type 0 where
+  pub read : List ℕ
+  pub written : List ℕ
+  pub consumed : Consumes unread unread' read
+  pub appended : Appends held held' written
+  pub served : Serves plan before read result written after
+  pub at_end : result ≡ Ok End → IsAtEnd unread'
+  pub too_long : result ≡ Err TooLong → READ_LIMIT ≤ length read
+  pub pieces : length read ≤ READ_LIMIT * PIECE_LIMIT

@@ -1,0 +1,13 @@
+//! A loopback broker of one topic: what it answers to each request of a producer (protocol guide; KIP-98).
+#![tactic(auto)]
+
+mod broker;
+mod fault;
+pub mod laws;
+mod plan;
+mod serving;
+
+pub use broker::Broker;
+pub use fault::BrokerFault;
+pub use plan::{Action, FaultPlan, PlanFault, plan_laws};
+pub use serving::Served;

@@ -1,0 +1,20 @@
+//! What is done with a Produce request.
+
+use kp_log::ErrorCode;
+
+/// What is done with a Produce request that isn't answered as any other.
+#[derive(Clone, Copy, Debug, PartialEq, Eq)]
+pub enum Action {
+    /// It is lost: nobody looks at it, and nothing is answered.
+    DropRequest,
+    /// Its answer is lost.
+    DropReply,
+    /// It comes twice, and the second answer is sent.
+    Repeat,
+    /// It is answered by this code, and nobody looks at its batches.
+    Refuse(ErrorCode),
+    /// It is answered by this code once its batches were taken as any others.
+    Late(ErrorCode),
+    /// The connection ends before anybody looks at it.
+    HangUp,
+}
