@@ -50,10 +50,15 @@ fn broker_of(alloc: Global, partitions: u32) -> Result<Broker, Fail> {
     Ok(Broker::new(alloc, "t", partitions, PORT)?)
 }
 
+/// What the broker answers, of which no more is known here.
+fn ask(broker: &mut Broker, content: &[u8]) -> Result<Vec<u8>, BrokerFault> {
+    broker.answer(content)
+}
+
 /// What the broker answers to the content that these digits spell.
 fn answer(alloc: Global, broker: &mut Broker, content: &str) -> Result<Vec<u8>, Fail> {
     let content = bytes_of(alloc, content)?;
-    Ok(broker.answer(&content)?)
+    Ok(ask(broker, &content)?)
 }
 
 /// Asserts that the broker answers this content with this frame.
@@ -108,5 +113,5 @@ fn len_of(broker: &Broker, partition: u32) -> Option<u64> {
 
 /// The fault of a content that is not answered.
 fn fault_of(broker: &mut Broker, content: &[u8]) -> Option<BrokerFault> {
-    broker.answer(content).err()
+    ask(broker, content).err()
 }

@@ -1,6 +1,6 @@
 //! What a broker answers to Produce requests.
 
-use crate::tests::{PRODUCE, assert_answer, batch_of, broker_of, len_of, value_at};
+use crate::tests::{PRODUCE, ask, assert_answer, batch_of, broker_of, bytes_of, len_of, value_at};
 use kp_broker::Broker;
 use kp_frames::{
     Api, PartitionProduceData, ProduceRequest, Request, RequestBody, ResponseBody,
@@ -74,7 +74,7 @@ fn entries(
     broker: &mut Broker,
     request: &[u8],
 ) -> Result<Vec<(i32, i16, i64)>, Fail> {
-    let frame = broker.answer(request.get(4..).unwrap_or(&[]))?;
+    let frame = ask(broker, request.get(4..).unwrap_or(&[]))?;
     let response = read_response(alloc, Api::Produce, frame.get(4..).unwrap_or(&[]))?;
     let ResponseBody::Produce(answer) = &response.body else {
         return Err("an answer to Produce".into());
@@ -113,8 +113,8 @@ fn each_partition_of_a_request_has_its_own_log(rt: HostRuntime) -> Result<(), Fa
     let mut broker = broker_of(alloc, 2)?;
     let parts = parts_of(alloc, &[(0, 0, b"a"), (1, 0, b"b")])?;
     let request = request_of(alloc, None, -1, one_topic(alloc, "t", parts)?)?;
-    let frame = broker.answer(request.get(4..).unwrap_or(&[]))?;
-    let wanted = crate::tests::bytes_of(
+    let frame = ask(&mut broker, request.get(4..).unwrap_or(&[]))?;
+    let wanted = bytes_of(
         alloc,
         "0000003f 00000002 00000001 0001 74 00000002 00000000 0000 0000000000000000 ffffffffffffffff \
          00000001 0000 0000000000000000 ffffffffffffffff 00000000",

@@ -1,6 +1,8 @@
 //! What a broker does not answer.
 
-use crate::tests::{INIT_PRODUCER_ID, METADATA, PRODUCE, broker_of, bytes_of, fault_of, len_of};
+use crate::tests::{
+    INIT_PRODUCER_ID, METADATA, PRODUCE, ask, broker_of, bytes_of, fault_of, len_of,
+};
 use kp_broker::BrokerFault;
 use kp_frames::{FrameFault, MetadataRequest, Request, RequestBody, write_request};
 use kp_wire::{Seq, Text};
@@ -64,7 +66,7 @@ fn an_answer_above_the_largest_frame_is_too_large(rt: HostRuntime) -> Result<(),
     let alloc = rt.alloc();
     let mut broker = broker_of(alloc, 1024)?;
     let largest = descriptions(alloc, FITTING)?;
-    let frame = broker.answer(largest.get(4..).unwrap_or(&[]))?;
+    let frame = ask(&mut broker, largest.get(4..).unwrap_or(&[]))?;
     assert_eq!(rt; frame.len(), 16_752_827);
     let above = descriptions(alloc, FITTING + 1)?;
     let too_large = BrokerFault::Frame(FrameFault::TooLarge);
