@@ -1,0 +1,10 @@
+pub mod StepLemmas
+pub mod AgreementLemmas
+pub mod RunLemmas
+pub mod IntakeLemmas
+pub mod SideLemmas
+pub mod TakingLemmas
+pub mod FreshLemmas
+pub mod AllLemmas
+pub mod MailLemmas
+pub mod SendLemmas

@@ -1,0 +1,85 @@
+//! The calls of a turn, where they are kept for a caller.
+
+ghost use Rattle.std.specs.Prelude.{◌≡◌, [], ◌∷◌, Option, None, Some, OnOk, IfOk, option_map, if◌then◌else◌};
+ghost use Rattle.std.specs.Option.{option_copied};
+ghost use Rattle.kp_accum.specs.declared.item.Item.{Item};
+ghost use Rattle.kp_rules.specs.Calls.{Append};
+ghost use Rattle.kp_engine.specs.Turned.{append_answer, call_of, calls_in, noted, HasPlace};
+
+use crate::turned::Turned;
+use kp_accum::{AppendFault, Item};
+use std::alloc::{AllocError, Global};
+
+/// The calls of a turn, where they are kept for a caller.
+#[derive(Drop)]
+pub(crate) struct Notes {
+    alloc: Global,
+    pub(crate) turn: Option<Vec<Turned>>,
+}
+
+impl Notes {
+    /// Notes of no call. They are kept where that is asked for.
+    pub(crate) fn new(alloc: Global, keeps: bool) -> Notes
+        ensures calls { calls_in result.turn ≡ (if keeps then Some [] else None) }
+        ensures entries { option_map (λ v. v.items) result.turn ≡ (if keeps then Some [] else None) }
+    {
+        let turn = if keeps { Some(Vec::new(alloc)) } else { None };
+        Notes { alloc, turn }
+    }
+
+    /// Forgets the calls of an earlier turn.
+    pub(crate) fn clear(&mut self)
+        ensures { calls_in self.new.turn ≡ option_map (λ _. []) (calls_in self.old.turn) }
+    {
+        if let Some(entries) = &mut self.turn {
+            entries.clear();
+        }
+    }
+
+    /// Makes room for one entry.
+    pub(crate) fn reserve(&mut self) -> Result<(), AllocError>
+        ensures same { calls_in self.new.turn ≡ calls_in self.old.turn }
+        ensures ok { OnOk result (HasPlace self.new.turn) }
+    {
+        if let Some(entries) = &mut self.turn {
+            entries.reserve(1)?;
+        }
+        Ok(())
+    }
+
+    /// Makes room for the entry of the item's append, and a copy of the item for it, where calls are kept.
+    pub(crate) fn reserve_append(&mut self, item: &Item) -> Result<Option<Item>, AllocError>
+        ensures same { calls_in self.new.turn ≡ calls_in self.old.turn }
+        ensures place { IfOk result (λ _. HasPlace self.new.turn) }
+        ensures copy { IfOk result (λ copy. copy ≡ option_map (λ _. item.now) (calls_in self.old.turn)) }
+    {
+        match &mut self.turn {
+            None => Ok(None),
+            Some(entries) => {
+                entries.reserve(1)?;
+                Ok(Some(item.copy(self.alloc)?))
+            }
+        }
+    }
+
+    /// Notes a call.
+    pub(crate) fn add(&mut self, entry: Turned)
+        requires { HasPlace self.old.turn }
+        ensures { calls_in self.new.turn ≡ noted (call_of entry ∷ []) (calls_in self.old.turn) }
+    {
+        if let Some(entries) = &mut self.turn {
+            entries.push_reserved(entry);
+        }
+    }
+
+    /// Notes that the item was appended of which this is the copy.
+    pub(crate) fn add_append(&mut self, copy: Option<Item>, fault: Option<AppendFault>)
+        requires { HasPlace self.old.turn }
+        ensures { (item : Item) → copy ≡ option_map (λ _. item) (calls_in self.old.turn)
+            → calls_in self.new.turn ≡ noted (Append item (append_answer fault) ∷ []) (calls_in self.old.turn) }
+    {
+        if let Some(item) = copy {
+            self.add(Turned::Append(item, fault));
+        }
+    }
+}
