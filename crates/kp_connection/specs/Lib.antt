@@ -1,0 +1,10 @@
+pub mod Answers
+pub mod Moves
+pub mod Wire
+pub mod Script
+pub mod ScriptLaws
+pub mod Fault
+pub mod Hello
+pub mod Handshake
+pub mod Listening
+pub mod Talking
