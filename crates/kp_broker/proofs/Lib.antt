@@ -1,3 +1,5 @@
+pub mod AgainLemmas
+pub mod BrokenLemmas
 pub mod CodeLemmas
 pub mod ConnectionLemmas
 pub mod CourseLemmas
@@ -13,4 +15,3 @@ pub mod ServedLemmas
 pub mod SplitLemmas
 pub mod TakingLemmas
 pub mod TextLemmas
-pub mod AgainLemmas

@@ -2,7 +2,7 @@
 use Rattle.std.proofs.Common.{◌≡◌, ◌≢◌, ℕ, zero, suc, ◌+◌, ◌<◌, ◌||◌, Bool, true, false, eqb, List, [], ◌∷◌, ◌++◌, length, get_or, take, drop, map, Option, Some, None, Result, Ok, Err, IsErrAnd, is_some, refl, sym, ap, subst, ◌∙◌, append_assoc, arith}
 use Rattle.std.specs.Ordering.{nat_cmp}
 use Rattle.std.specs.Cmp.{nat_eq_equiv}
-use Rattle.std.specs.List.{AllByRecursion, IsDistinct, list_any, slice_split, join_with_byte}
+use Rattle.std.specs.List.{AllByRecursion, IsDistinct, list_any, join_with_byte}
 use Rattle.std.specs.BTreeMap.{insert_entry}
 use Rattle.std.proofs.lemmas.List.{take_more, take-append-drop, map-append, take-map, take_all}
 use Rattle.std.proofs.lemmas.List.Folds.{list_any-append}
@@ -13,14 +13,10 @@ use Rattle.kp_wire.proofs.ListLemmas.{all_append}
 use Rattle.kp_broker.specs.declared.plan.action.Action.{Action}
 use Rattle.kp_broker.specs.declared.plan.fault.PlanFault.{PlanFault}
 use Rattle.kp_broker.specs.declared.plan.fault.PlanFault.TheVariants.{BadPlan, OutOfMemory}
-use Rattle.kp_broker.specs.Plan.{Plan, Entry, Spells, Adds, ParsesPlan, number_of, action_of, entry_text, entries_text, planned, in_order, IsAllowed}
+use Rattle.kp_broker.specs.Plan.{Plan, Entry, Spells, Adds, ParsesPlan, HasEntry, parts, number_of, action_of, entry_text, entries_text, planned, in_order, IsAllowed}
 use Rattle.kp_broker.proofs.PlanLemmas.{is_planned, is_planned-insert_entry, in_order-push}
 use Rattle.kp_broker.proofs.SplitLemmas.{is_byte}
 use Rattle.kp_broker.proofs.TextLemmas.{parts-entries_text, texts-injective}
-
--- the parts between the commas
-abbrev pub parts : List ℕ → List (List ℕ)
-parts text = slice_split (is_byte 44) text
 
 or_flipped : (a b : Bool) → (a || b) ≡ (b || (a || false))
 or_flipped true true = refl
@@ -144,13 +140,17 @@ module _ (text : List ℕ) (count : ℕ) (plan : Plan) (read : HasRead text coun
 
 -- ---- an entry that was not added
 
-not_added : (text : List ℕ) (plan after : Plan) (number : ℕ) (action : Action) (fault : PlanFault) → Adds plan number action (Err fault) after → (planned plan number ≢ None → (other : Plan) → Spells text other → ⊥) → ParsesPlan text (Err fault)
-not_added text plan after number action BadPlan old never = never old
-not_added text plan after number action OutOfMemory old never = tt
+pub has-entry : (text : List ℕ) (count : ℕ) (part : List ℕ) → count < length (parts text) → part ≡ get_or (parts text) count part → (e : Entry) → IsAllowed e → part ≡ entry_text e → HasEntry text
+has-entry text count part inside here e allowed is =
+    (e, allowed, (count, inside, subst (λ p. get_or (parts text) count p ≡ p) is (sym here)))
 
-pub refused : (text : List ℕ) (plan after : Plan) (number : ℕ) (action : Action) (fault : PlanFault) (r : Result Plan PlanFault) → IsErrAnd r (λ e. e ≡ fault) → Adds plan number action (Err fault) after → (planned plan number ≢ None → (other : Plan) → Spells text other → ⊥) → ParsesPlan text r
-refused text plan after number action fault (Ok p) is old never = absurd is
-refused text plan after number action fault (Err e) is old never = subst (λ e. ParsesPlan text (Err e)) (sym is) (not_added text plan after number action fault old never)
+not_added : (text : List ℕ) (plan after : Plan) (number : ℕ) (action : Action) (fault : PlanFault) → Adds plan number action (Err fault) after → (planned plan number ≢ None → (other : Plan) → Spells text other → ⊥) → HasEntry text → ParsesPlan text (Err fault)
+not_added text plan after number action BadPlan old never some = never old
+not_added text plan after number action OutOfMemory old never some = some
+
+pub refused : (text : List ℕ) (plan after : Plan) (number : ℕ) (action : Action) (fault : PlanFault) (r : Result Plan PlanFault) → IsErrAnd r (λ e. e ≡ fault) → Adds plan number action (Err fault) after → (planned plan number ≢ None → (other : Plan) → Spells text other → ⊥) → HasEntry text → ParsesPlan text r
+refused text plan after number action fault (Ok p) is old never some = absurd is
+refused text plan after number action fault (Err e) is old never some = subst (λ e. ParsesPlan text (Err e)) (sym is) (not_added text plan after number action fault old never some)
 
 -- ---- one text, one plan
 

@@ -1,7 +1,7 @@
 -- Plans of faults, and how they are spelled.
-use Rattle.std.specs.Prelude.{◌≡◌, ◌≢◌, ℕ, ◌<◌, ◌-◌, ◌^◌, List, [], ◌++◌, map, fold, nat_eq, pos, ◌≤ℤ◌, Option, None, Result, Ok, Err, MatchOption, codes, decimal}
+use Rattle.std.specs.Prelude.{◌≡◌, ◌≢◌, ℕ, ◌<◌, ◌-◌, ◌^◌, List, [], ◌++◌, map, fold, nat_eq, ◌==◌, Contains, pos, ◌≤ℤ◌, Option, None, Result, Ok, Err, MatchOption, codes, decimal}
 use Rattle.std.specs.Fmt.{signed_decimal}
-use Rattle.std.specs.List.{AllByRecursion, IsDistinct, join_with_byte}
+use Rattle.std.specs.List.{AllByRecursion, IsDistinct, join_with_byte, slice_split}
 use Rattle.std.specs.Ordering.{nat_cmp}
 use Rattle.std.specs.BTreeMap.{insert_entry, is_at}
 use Rattle.std.specs.Map.{lookup}
@@ -93,11 +93,19 @@ pub record Spells (text : List ℕ) (plan : Plan) : Type 0 where
   pub once : IsDistinct nat_eq (map number_of entries)
   pub same : plan ≡ in_order entries
 
--- what parsing a text answers: want of memory alone may stand in place of either
+-- the texts between the commas
+abbrev pub parts : List ℕ → List (List ℕ)
+parts text = slice_split (λ b. b == 44) text
+
+-- One of them is that of an entry.
+abbrev pub HasEntry : List ℕ → Type 0
+HasEntry text = (e : Entry) × IsAllowed e × Contains (parts text) (entry_text e)
+
+-- What parsing a text answers. Want of memory alone may stand in place of either, once an entry was read.
 abbrev pub ParsesPlan : List ℕ → Result Plan PlanFault → Type 0
 ParsesPlan text (Ok plan) = Spells text plan
 ParsesPlan text (Err BadPlan) = (plan : Plan) → Spells text plan → ⊥
-ParsesPlan text (Err OutOfMemory) = Unit {0}
+ParsesPlan text (Err OutOfMemory) = HasEntry text
 
 -- one more entry at its place, or the plan has its number
 abbrev pub Adds : Plan → ℕ → Action → Result (Unit {0}) PlanFault → Plan → Type 0

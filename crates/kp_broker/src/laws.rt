@@ -1,11 +1,13 @@
-//! Laws of what a broker answers.
+//! Laws of what a broker answers, of plans, and of connections that break.
 
-ghost use Rattle.std.specs.Prelude.{◌≡◌, None};
+ghost use Rattle.std.specs.Prelude.{◌≡◌, ◌++◌, ℕ, List, None};
 ghost use Rattle.kp_frames.specs.declared.produce.ProduceRequest.{ProduceRequest};
 ghost use Rattle.kp_broker.specs.Again.{AreApart};
 ghost use Rattle.kp_broker.specs.Answering.{TakesSome};
 ghost use Rattle.kp_broker.specs.Answers.{after_parts, parts_of, produce_answer};
 ghost use Rattle.kp_broker.specs.Broker.{Broker};
+ghost use Rattle.kp_broker.specs.Plan.{Plan, Spells};
+ghost use Rattle.kp_broker.specs.Serving.{Breaks, LosesAnswer, LosesMemory, served};
 
 /// A Produce request that was given up once some of its parts were taken, as where memory was refused, and that comes
 /// again, is answered as if it had come once: its batches have the offsets where they stand, and each stands once.
@@ -17,4 +19,19 @@ pub fn a_request_that_comes_again_is_answered_alike()
     ensures broker { (r : ProduceRequest) (before after : Broker) → AreApart (parts_of r)
         → TakesSome None r before (parts_of r) after
         → after_parts None r after (parts_of r) ≡ after_parts None r before (parts_of r) }
+{}
+
+/// A text spells one plan at most.
+pub fn text_spells_one_plan()
+    ensures { (text : List ℕ) (a b : Plan) → Spells text a → Spells text b → a ≡ b }
+{}
+
+/// What was written on a connection that broke is the first of what is written for its frames.
+pub fn broken_connection_wrote_the_first()
+    ensures io { (plan : Plan) (b after : Broker) (frames : List (List ℕ)) (written : List ℕ)
+        → Breaks (LosesAnswer plan) plan b frames written after
+        → (rest : List ℕ) × ((served plan b frames).written ≡ written ++ rest) }
+    ensures memory { (plan : Plan) (b after : Broker) (frames : List (List ℕ)) (written : List ℕ)
+        → Breaks (LosesMemory plan) plan b frames written after
+        → (rest : List ℕ) × ((served plan b frames).written ≡ written ++ rest) }
 {}

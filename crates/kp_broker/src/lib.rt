@@ -9,5 +9,5 @@ mod serving;
 
 pub use broker::Broker;
 pub use fault::BrokerFault;
-pub use plan::{Action, FaultPlan, PlanFault, plan_laws};
+pub use plan::{Action, FaultPlan, PlanFault};
 pub use serving::Served;

@@ -7,7 +7,6 @@ ghost use Rattle.kp_broker.specs.Plan.{Adds, ParsesPlan, planned};
 mod action;
 mod entry;
 mod fault;
-pub mod plan_laws;
 
 pub use action::Action;
 use entry::entry_of;

@@ -3,7 +3,8 @@ use Rattle.std.specs.Str.Iter.{split_text, split_has_more, split_pattern}
 use Rattle.std.proofs.lemmas.List.{length_push}
 use Rattle.std.proofs.lemmas.Iterator.Splits.{YieldsList-from_str_split}
 use Rattle.std.proofs.lemmas.Iterator.Consumers.{YieldsList-turn, YieldsList-end}
-use Rattle.kp_broker.proofs.ReadLemmas.{HasRead, parts, one-more, twice, refused, all-read, none-read, bad-part}
+use Rattle.kp_broker.proofs.ReadLemmas.{HasRead, one-more, twice, refused, has-entry, all-read, none-read, bad-part}
+use Rattle.kp_broker.specs.Plan.{parts}
 use Rattle.kp_broker.proofs.plan.FaultPlan.parse.Goals as goal
 use Rattle.kp_broker.proofs.plan.FaultPlan.parse.Goals.{In-Some}
 
@@ -39,6 +40,8 @@ returns-in_err-add c =
     refused c.args.text.now c.loop-part.actions.entries c.add.new.actions.entries c.in-Some-entry_of.number c.in-Some-entry_of.action c.in_err-add.field-0.0 c.from_residual.result
     c.from_residual.ensures.1 c.in_err-add.ensures
     (twice c.args.text.now (length c.loop-part.yielded) c.loop-part.actions.entries c.loop-part.invariant c.in-Some.part.now at.0 at.1
+    (c.in-Some-entry_of.number, c.in-Some-entry_of.action) c.in-Some-entry_of.ensures.0 c.in-Some-entry_of.ensures.1)
+    (has-entry c.args.text.now (length c.loop-part.yielded) c.in-Some.part.now at.0 at.1
     (c.in-Some-entry_of.number, c.in-Some-entry_of.action) c.in-Some-entry_of.ensures.0 c.in-Some-entry_of.ensures.1)
 
 pub returns : goal.returns
