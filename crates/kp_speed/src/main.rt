@@ -16,9 +16,11 @@
 //! items through a bare ring in the same way. `hear N` hands N reports to a sender, which receives them, and `idle N` finds
 //! N times that there is nothing to take. `spell N` writes N batches of 100 records, and `offer N` offers each to a log as
 //! it is written; `look N` does the same and looks 100,000 records up, and `list N` reads each and keeps all records in
-//! one list that has just their room.
+//! one list that has just their room. `ask N` writes N Produce requests with a batch of 148 records each, `store N` offers
+//! each batch to a log as its request is written, and `answer N` has a broker answer each request in place of that.
 #![tactic(auto)]
 
+mod answering;
 mod delivering;
 mod laning;
 mod logging;
@@ -27,6 +29,7 @@ mod queueing;
 mod samples;
 mod work;
 
+use answering::{answers, asks, stores};
 use delivering::{Course, Plan, asks_in_vain, asks_when, delivers, ticks};
 use laning::{
     hears, loses, passes, passes_by_rounds, records, rings, rings_by_rounds, sends, takes_in_vain,
@@ -103,6 +106,9 @@ fn answer(alloc: Global, line: &str) -> Result<Option<u64>, AllocError> {
         "offer" => offers(alloc, times).map(Some),
         "look" => looks(alloc, times).map(Some),
         "list" => lists(alloc, times).map(Some),
+        "ask" => asks(alloc, times).map(Some),
+        "store" => stores(alloc, times).map(Some),
+        "answer" => answers(alloc, times).map(Some),
         _ => Ok(None),
     }
 }
