@@ -10,7 +10,7 @@ pub(crate) enum Form {
     Raw,
     /// As the content of a frame.
     Frame,
-    /// As a request, behind the key and the version of an api.
+    /// As a request, behind an api's key, and mostly its version.
     Request,
     /// As the answer to Metadata, behind its correlation id.
     Answer,
@@ -27,12 +27,13 @@ const DESCRIBED: [u8; 77] = [
     0x01, 0x00, 0x00, 0x00, 0x00, 0x00, 0x00, 0x00, 0x01, 0x00, 0x00, 0x00, 0x00,
 ];
 
-/// The key and the version of one of the three apis.
+/// The key and the version of one of the three apis, or a key alone: the version is noise then.
 fn some_api(noise: &mut Noise) -> &'static [u8] {
-    match noise.up_to(2) {
+    match noise.up_to(3) {
         0 => &[0, 0, 0, 3],
         1 => &[0, 3, 0, 1],
-        _ => &[0, 22, 0, 0],
+        2 => &[0, 22, 0, 0],
+        _ => &[0, 0],
     }
 }
 
