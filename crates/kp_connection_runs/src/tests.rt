@@ -7,6 +7,7 @@ use std::io;
 use std::test::Fail;
 
 mod ending;
+mod handshakes;
 mod reading;
 mod writing;
 
