@@ -1,6 +1,10 @@
 -- What a handshake does behind what it did.
 use Rattle.std.proofs.Common.{◌≡◌, ◌⊎◌, ℕ, List, [], ◌∷◌, ◌++◌, Result, Ok, Err, sym, ap, subst, ◌∙◌, inl, inr, append_assoc, append-nil}
+use Rattle.std.specs.List.{concat}
+use Rattle.std.proofs.lemmas.List.Concat.{flat_map-append}
 use Rattle.std.proofs.lemmas.List.Elements.{Contains-append_right}
+use Rattle.std.proofs.lemmas.List.Folds.{concat-append}
+use Rattle.kp_frames.specs.Stream as framing
 use Rattle.kp_wire.proofs.ReadLemmas.{done}
 use Rattle.kp_rules.specs.declared.names.Names.{Names}
 use Rattle.kp_connection.specs.declared.fault.HandshakeFault.{HandshakeFault}
@@ -8,12 +12,12 @@ use Rattle.kp_connection.specs.declared.fault.HandshakeFault.TheVariants.{Io, Fr
 use Rattle.kp_connection.specs.declared.handshake.stage.Stage.{Stage}
 use Rattle.kp_connection.specs.declared.handshake.stage.Stage.TheVariants.{Opening, Metadata, ProducerId}
 use Rattle.kp_connection.specs.declared.hello.Hello.{Hello}
-use Rattle.kp_connection.specs.Answers.{Answer}
-use Rattle.kp_connection.specs.Handshake.{Talking, asked, Counts, Hears, Comes, Waits, Concludes, HasFailed, Fails, Lacks, GivesFault, Refuses, Overflows, Unwritable, Unasked, HalfAsked, metadata_request, producer_id_request, EndsWith, Ends}
+use Rattle.kp_connection.specs.Answers.{Answer, came, gone, came_by, gone_by}
+use Rattle.kp_connection.specs.Handshake.{Talking, asked, frame_of, Counts, Hears, Turns, InTurn, Comes, Waits, Concludes, HasFailed, Fails, Lacks, GivesFault, Refuses, Overflows, Unwritable, Unasked, HalfAsked, metadata_request, producer_id_request, EndsWith, Ends}
 use Rattle.kp_connection.specs.Hello.{metadata_given}
 use Rattle.kp_connection.specs.Talking.{Steps}
-use Rattle.kp_connection.specs.Wire.{Told, Wired, Goes, Met}
-use Rattle.kp_connection.proofs.WireLemmas.{Goes-then, Stops-then}
+use Rattle.kp_connection.specs.Wire.{Told, Wired, frames, Goes, Met}
+use Rattle.kp_connection.proofs.WireLemmas.{through, Goes-then, Stops-then}
 
 -- ---- what is heard from stage to stage
 
@@ -49,6 +53,60 @@ hears_then topic Opening Metadata Metadata h more p q = none_then h more [] p q
 hears_then topic Metadata Metadata Metadata h more p q = none_then h more [] p q
 hears_then topic (ProducerId k) Metadata Metadata h more p q = absurd p
 
+-- ---- the turn of the second request
+
+-- nothing is asked for where it stays
+pub in_turn_none : {S : Type 0} (names : Names) (stage : Stage) (w : Wired S) (heard : List (List ℕ)) (xs : List Answer) → InTurn names stage w heard xs stage
+in_turn_none names Opening w heard xs = tt
+in_turn_none names Metadata w heard xs = tt
+in_turn_none names (ProducerId n) w heard xs = tt
+
+module _ {S : Type 0} (w v : Wired S) (first heard more : List (List ℕ)) (xs ys : List Answer) where
+  turns_before : more ≡ [] → Turns w first heard xs → Turns w first (heard ++ more) (xs ++ ys)
+  turns_before none t = record {
+    until = t.until;
+    behind = t.behind ++ ys;
+    is = ap (λ (zs : List Answer). zs ++ ys) t.is ∙ append_assoc t.until t.behind ys;
+    written = t.written;
+    read = t.read ∙ ap frames (sym (append-nil heard) ∙ ap (λ (zs : List (List ℕ)). heard ++ zs) (sym none));
+  }
+
+  turns_behind : (sent : List (List ℕ)) → gone xs ++ v.kept ≡ w.kept ++ concat sent → frames heard ++ v.held ≡ w.held ++ came xs → Turns v first more ys → Turns w (sent ++ first) (heard ++ more) (xs ++ ys)
+  turns_behind sent written read t = record {
+    until = xs ++ t.until;
+    behind = t.behind;
+    is = ap (λ (zs : List Answer). xs ++ zs) t.is ∙ sym (append_assoc xs t.until t.behind);
+    written =
+        flat_map-append gone_by xs t.until ∙ sym (append-nil (gone xs ++ gone t.until))
+        ∙ through (gone xs) (gone t.until) w.kept v.kept [] (concat sent) (concat first) written (append-nil (gone t.until) ∙ t.written)
+        ∙ ap (λ (zs : List ℕ). w.kept ++ zs) (sym (concat-append sent first));
+    read =
+        ap (λ (zs : List ℕ). w.held ++ zs) (flat_map-append came_by xs t.until) ∙ sym (append_assoc w.held (came xs) (came t.until))
+        ∙ ap (λ (zs : List ℕ). zs ++ came t.until) (sym read) ∙ append_assoc (frames heard) v.held (came t.until)
+        ∙ ap (λ (zs : List ℕ). frames heard ++ zs) t.read ∙ sym (flat_map-append framing.frame.spell heard more);
+  }
+
+module _ {S : Type 0} (names : Names) (w v : Wired S) (sent heard more : List (List ℕ)) (xs ys : List Answer) (written : gone xs ++ v.kept ≡ w.kept ++ concat sent) (read : frames heard ++ v.held ≡ w.held ++ came xs) where
+  turns_on : (first before : List (List ℕ)) → sent ++ first ≡ before → Turns v first more ys → Turns w before (heard ++ more) (xs ++ ys)
+  turns_on first before is t =
+      subst (λ (zs : List (List ℕ)). Turns w zs (heard ++ more) (xs ++ ys)) is (turns_behind w v first heard more xs ys sent written read t)
+
+  pub in_turn_then : (a b c : Stage) → asked names a ++ sent ≡ asked names b → Hears names.topic a heard b → Hears names.topic b more c → InTurn names a w heard xs b → InTurn names b v more ys c → InTurn names a w (heard ++ more) (xs ++ ys) c
+  in_turn_then (ProducerId k) b c asks h q s t = tt
+  in_turn_then Opening b Opening asks h q s t = tt
+  in_turn_then Opening b Metadata asks h q s t = tt
+  in_turn_then Metadata b Opening asks h q s t = tt
+  in_turn_then Metadata b Metadata asks h q s t = tt
+  in_turn_then Opening Opening (ProducerId n) asks h q s t = turns_on (frame_of (metadata_request names) ∷ []) (frame_of (metadata_request names) ∷ []) (ap (λ (zs : List (List ℕ)). zs ++ (frame_of (metadata_request names) ∷ [])) asks) t
+  in_turn_then Opening Metadata (ProducerId n) asks h q s t = turns_on [] (frame_of (metadata_request names) ∷ []) (append-nil sent ∙ asks) t
+  in_turn_then Opening (ProducerId m) (ProducerId n) asks h q s t = turns_before w v (frame_of (metadata_request names) ∷ []) heard more xs ys q.0 s
+  in_turn_then Metadata Opening (ProducerId n) asks h q s t = absurd h
+  in_turn_then Metadata Metadata (ProducerId n) asks h q s t = turns_on [] [] (append-nil sent ∙ behind_first asks) t
+    where
+      behind_first : {x : List ℕ} {ys zs : List (List ℕ)} → x ∷ ys ≡ x ∷ zs → ys ≡ zs
+      behind_first e = cc
+  in_turn_then Metadata (ProducerId m) (ProducerId n) asks h q s t = turns_before w v [] heard more xs ys q.0 s
+
 -- ---- one stretch, and then another
 
 pub failed_then : (xs ys : List Answer) → HasFailed ys → HasFailed (xs ++ ys)
@@ -68,6 +126,16 @@ module _ {S : Type 0} (answers : Told S) (in_order : (a : S) (xs : List Answer) 
   hears_on stage heard more names p q =
       hears_then old.names.topic old.stage mid.stage stage heard more p (subst (λ (n : Names). Hears n.topic mid.stage more stage) names q)
 
+  turn_on : (s : Steps answers old mid) (stage : Stage) (more : List (List ℕ)) (ys : List Answer) → Hears mid.names.topic mid.stage more stage → InTurn mid.names mid.stage mid.wire more ys stage
+      → InTurn old.names old.stage old.wire (s.comes.heard ++ more) (s.xs ++ ys) stage
+  turn_on s stage more ys hears turn =
+      let p = s.comes in
+      in_turn_then old.names old.wire mid.wire p.sent p.heard more s.xs ys p.goes.written
+      (ap (λ (zs : List (List ℕ)). frames zs ++ mid.wire.held) (sym (append-nil p.heard)) ∙ p.goes.read)
+      old.stage mid.stage stage p.asks p.hears
+      (subst (λ (n : Names). Hears n.topic mid.stage more stage) s.names hears) p.turn
+      (subst (λ (n : Names). InTurn n mid.stage mid.wire more ys stage) s.names turn)
+
   pub comes_then : (s : Steps answers old mid) (stage : Stage) (last : List (List ℕ)) (ys : List Answer) (wire : Wired S) → Comes answers mid stage last ys wire → Comes answers old stage last (s.xs ++ ys) wire
   comes_then s stage last ys wire q =
       let p = s.comes in
@@ -79,6 +147,7 @@ module _ {S : Type 0} (answers : Told S) (in_order : (a : S) (xs : List Answer) 
         heard = p.heard ++ q.heard;
         asks = asks_then stage p.sent q.sent s.names p.asks q.asks;
         hears = hears_on stage p.heard q.heard s.names p.hears q.hears;
+        turn = turn_on s stage q.heard ys q.hears q.turn;
         goes = subst (λ (zs : List (List ℕ)). Goes answers old.wire (p.sent ++ q.sent) zs (s.xs ++ ys) wire) same joined;
       }
 
@@ -122,10 +191,12 @@ module _ {S : Type 0} (answers : Told S) (in_order : (a : S) (xs : List Answer) 
     stage = q.stage;
     wire = q.wire;
     comes = comes_then s q.stage [] q.xs q.wire q.comes;
+    partial = q.partial;
     failed = failed_then s.xs q.xs q.failed;
   }
 
   lacks_then : Steps answers old mid → Lacks answers mid → Lacks answers old
+  unfolding Stops-then
   lacks_then s q =
       let p = s.comes in
       let goes = subst (λ (zs : List (List ℕ)). Goes answers old.wire p.sent zs s.xs mid.wire) (append-nil p.heard) p.goes in
@@ -137,7 +208,9 @@ module _ {S : Type 0} (answers : Told S) (in_order : (a : S) (xs : List Answer) 
         heard = p.heard ++ q.heard;
         asks = asks_then q.stage p.sent q.sent s.names p.asks q.asks;
         hears = hears_on q.stage p.heard q.heard s.names p.hears q.hears;
+        turn = turn_on s q.stage q.heard q.xs q.hears q.turn;
         stops = Stops-then answers in_order old.wire mid.wire q.wire p.sent p.heard q.sent q.heard s.xs q.xs goes q.stops;
+        one = q.one;
       }
 
   refuses_then : (fault : HandshakeFault) → Steps answers old mid → Refuses answers mid fault → Refuses answers old fault
@@ -169,6 +242,7 @@ module _ {S : Type 0} (answers : Told S) (in_order : (a : S) (xs : List Answer) 
     xs = s.xs ++ q.xs;
     wire = q.wire;
     comes = comes_then s Opening [] q.xs q.wire q.comes;
+    partial = q.partial;
     refused = subst (λ (n : Names). Unwritable (metadata_request n) fault) s.names q.refused;
   }
 

@@ -7,3 +7,4 @@ pub mod WantLemmas
 pub mod HandshakeLemmas
 pub mod TalkLemmas
 pub mod ListeningLemmas
+pub mod IntroducingLemmas

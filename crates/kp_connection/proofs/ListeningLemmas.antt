@@ -7,6 +7,7 @@ use Rattle.std.proofs.lemmas.List.{length-append, nil_from_length}
 use Rattle.std.proofs.lemmas.List.Elements.{Contains-append_right}
 use Rattle.futures.specs.declared.task.Poll.{Poll}
 use Rattle.futures.specs.declared.task.Poll.TheVariants.{Ready, Pending}
+use Rattle.kp_wire.proofs.ReadLemmas.{done, failed}
 use Rattle.kp_frames.specs.declared.fault.FrameFault.TheVariants as frame
 use Rattle.kp_frames.specs.declared.frame.TheConstants.{CONTENT_LIMIT}
 use Rattle.kp_frames.specs.Stream as framing
@@ -19,7 +20,7 @@ use Rattle.kp_connection.specs.Answers.{Answer, came, gone}
 use Rattle.kp_connection.specs.Answers.Answer.{Came, Read_waits, Read_failed}
 use Rattle.kp_connection.specs.Fault.{of_read}
 use Rattle.kp_connection.specs.Listening as listening
-use Rattle.kp_connection.specs.Wire.{Told, Wired, Goes, Met, Writes, Brings, Refuses, Reads, Gives, Hears}
+use Rattle.kp_connection.specs.Wire.{Told, Wired, Goes, IsOneAtMost, Met, Writes, Brings, Refuses, Lacks, Reads, Gives, Hears}
 use Rattle.kp_connection.proofs.HandshakeLemmas.{failed_then}
 use Rattle.kp_connection.proofs.WantLemmas.{wants_some, part_small, nothing_behind, still_part, large_read}
 use Rattle.kp_connection.proofs.WireLemmas.{Goes-then, Goes-stops, Stops-then}
@@ -75,6 +76,20 @@ module _ {S : Type 0} (answers : Told S) (in_order : (a : S) (xs : List Answer) 
     met = inl (same_kept mid new [] (Read_waits ∷ []) refl goes ∙ u.written, Contains-append_right u.goes.0 (Read_waits ∷ []) Read_waits (0, omega arith, refl));
   }
 
+  -- what it did not hear where there was no room is what was held, and bytes that it still wanted
+  lacked : (n : ℕ) → n ≡ framing.wanted mid.held → framing.first mid.held ≡ Err frame.Short → (r : Lacks answers n mid new) → IsOneAtMost r.stops.unheard
+  lacked n is partial r content rest e =
+      elim r.once [
+        | inl h ↦ absurd (apart (sym (ap framing.first (r.stops.read ∙ ap (λ (xs : List Answer). mid.held ++ came xs) h.0 ∙ append-nil mid.held) ∙ partial) ∙ e))
+        | inr h ↦
+            let bound = h.1 in
+            nothing_behind mid.held h.0 content rest partial (omega arith)
+            (ap framing.first (sym (r.stops.read ∙ ap (λ (xs : List Answer). mid.held ++ came xs) h.2 ∙ ap (λ (zs : List ℕ). mid.held ++ zs) (append-nil h.0))) ∙ e)
+      ]
+    where
+      apart : {A : Type 0} {x : A} → failed frame.Short ≡ done x → ⊥
+      apart e = cc
+
   pub read_ends : (n : ℕ) → Underway answers old mid → Brings answers n mid 0 new → listening.Fails answers old new
   read_ends n u b =
       let none : b.bytes ≡ [] = nil_from_length b.bytes b.len in
@@ -82,6 +97,7 @@ module _ {S : Type 0} (answers : Told S) (in_order : (a : S) (xs : List Answer) 
       record {
         xs = u.goes.0 ++ (Came [] ∷ []);
         goes = then_reads u (Came [] ∷ []) goes;
+        partial = ap framing.first (more_held mid new (Came [] ∷ []) [] refl goes ∙ append-nil mid.held) ∙ u.partial;
         failed = inl (inr (Contains-append_right u.goes.0 (Came [] ∷ []) (Came []) (0, omega arith, refl)));
       }
 
@@ -106,15 +122,18 @@ module _ {S : Type 0} (answers : Told S) (in_order : (a : S) (xs : List Answer) 
       }
 
   pub read_fails : (n : ℕ) (fault : ReadFault) → n ≡ framing.wanted mid.held → Underway answers old mid → Reads answers n mid (Ready (Err fault)) new → listening.Listens answers old (Err (of_read fault)) new
+  unfolding Stops-then
   read_fails n (read.Io error) is u goes = record {
     xs = u.goes.0 ++ (Read_failed ∷ []);
     goes = then_reads u (Read_failed ∷ []) goes;
+    partial = ap framing.first (more_held mid new (Read_failed ∷ []) [] refl goes ∙ append-nil mid.held) ∙ u.partial;
     failed = inl (inl (Contains-append_right u.goes.0 (Read_failed ∷ []) Read_failed (0, omega arith, refl)));
   }
   read_fails n read.TooLarge is u r = refuses_large n is u r
   read_fails n read.OutOfMemory is u r = record {
     xs = u.goes.0 ++ r.xs;
     stops = Stops-then answers in_order old mid new [] [] [] [] u.goes.0 r.xs u.goes.1 r.stops;
+    one = lacked n is u.partial r;
   }
 
   pub brought : (n count : ℕ) → n ≡ framing.wanted mid.held → (count ≡ 0 → ⊥) → Underway answers old mid → Brings answers n mid count new → Brought answers old mid new
@@ -148,8 +167,13 @@ module _ {S : Type 0} (answers : Told S) (in_order : (a : S) (xs : List Answer) 
       subst (λ (w : Wired S). Underway answers old w) (sym same) (record { goes = b.goes; written = b.written; partial = still_part last.held sound none })
 
   pub no_room : new ≡ last → listening.Lacks answers old new
+  unfolding Goes-stops
   no_room same =
-      subst (λ (w : Wired S). listening.Lacks answers old w) (sym same) (record { xs = b.goes.0; stops = Goes-stops answers old last [] [] b.goes.0 b.goes.1 })
+      subst (λ (w : Wired S). listening.Lacks answers old w) (sym same) (record {
+        xs = b.goes.0;
+        stops = Goes-stops answers old last [] [] b.goes.0 b.goes.1;
+        one = λ content rest e. nothing_behind mid.held b.bytes content rest b.partial b.most (ap framing.first (sym b.held) ∙ e);
+      })
 
 -- ---- a read's answer under a pattern
 
@@ -185,10 +209,11 @@ module _ {S : Type 0} (answers : Told S) (in_order : (a : S) (xs : List Answer) 
       met_behind {y = y} (inr h) = inr (Contains-append_right w.0 q.xs y h)
 
   pub listens_behind : (w : Goes-to answers old mid) (r : Result (Poll (Vec ℕ)) HandshakeFault) → listening.Listens answers mid r new → listening.Listens answers old r new
+  unfolding Stops-then
   listens_behind w (Ok Pending) q = waits_behind w q
   listens_behind w (Ok (Ready content)) q = record { xs = w.0 ++ q.xs; goes = behind_writes w (content.items ∷ []) q.xs q.goes; written = q.written; read = q.read }
-  listens_behind w (Err Io) q = record { xs = w.0 ++ q.xs; goes = behind_writes w [] q.xs q.goes; failed = failed_then w.0 q.xs q.failed }
-  listens_behind w (Err OutOfMemory) q = record { xs = w.0 ++ q.xs; stops = Stops-then answers in_order old mid new [] [] [] [] w.0 q.xs w.1 q.stops }
+  listens_behind w (Err Io) q = record { xs = w.0 ++ q.xs; goes = behind_writes w [] q.xs q.goes; partial = q.partial; failed = failed_then w.0 q.xs q.failed }
+  listens_behind w (Err OutOfMemory) q = record { xs = w.0 ++ q.xs; stops = Stops-then answers in_order old mid new [] [] [] [] w.0 q.xs w.1 q.stops; one = q.one }
   listens_behind w (Err (Frame frame.TooLarge)) q = record { xs = w.0 ++ q.xs; goes = behind_writes w [] q.xs q.goes; written = q.written; size = q.size; large = q.large }
   listens_behind w (Err (Frame frame.Short)) q = absurd q
   listens_behind w (Err (Frame frame.Trailing)) q = absurd q
@@ -205,8 +230,8 @@ module _ {S : Type 0} (answers : Told S) (old new : Wired S) where
   pub write_waits : Writes answers old Pending new → framing.first old.held ≡ Err frame.Short → listening.Waits answers old new
   write_waits w partial = record { xs = w.xs; goes = w.goes; partial = ap framing.first w.held ∙ partial; met = inr w.waited }
 
-  pub write_fails : (error : Error) → Writes answers old (Ready (Err error)) new → listening.Fails answers old new
-  write_fails error w = record { xs = w.xs; goes = w.goes; failed = inr w.failed }
+  pub write_fails : (error : Error) → Writes answers old (Ready (Err error)) new → framing.first old.held ≡ Err frame.Short → listening.Fails answers old new
+  write_fails error w partial = record { xs = w.xs; goes = w.goes; partial = ap framing.first w.held ∙ partial; failed = inr w.failed }
 
   pub underway : (done : Unit {0}) → Writes answers old (Ready (Ok done)) new → framing.first old.held ≡ Err frame.Short → Underway answers old new
   underway done w partial = record { goes = (w.xs, w.goes); written = w.all.0 tt; partial = ap framing.first w.held ∙ partial }

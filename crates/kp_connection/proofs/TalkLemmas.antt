@@ -1,29 +1,31 @@
 -- The steps of a handshake.
-use Rattle.std.proofs.Common.{◌≡◌, ◌≤◌, ℕ, List, [], ◌∷◌, ◌++◌, Result, Ok, Err, Some, None, true, false, refl, sym, ap, subst, ◌∙◌, inl, inr, append-nil, arith}
+use Rattle.std.proofs.Common.{◌≡◌, ◌≤◌, ℕ, List, [], ◌∷◌, ◌++◌, length, Result, Ok, Err, Some, None, true, false, refl, sym, ap, subst, ◌∙◌, inl, inr, append-nil, arith}
 use Rattle.std.specs.Prelude.{Option, IsSome, IfSome}
 use Rattle.futures.specs.Poll.{OnPending}
 use Rattle.std.specs.Global.{Vec}
 use Rattle.std.specs.Result.{IsErrAnd}
 use Rattle.std.proofs.lemmas.Result.{err_from_is_err_and}
-use Rattle.kp_wire.proofs.ReadLemmas.{failed}
-use Rattle.kp_frames.proofs.FirstLemmas.{first_short}
+use Rattle.kp_wire.proofs.ReadLemmas.{done, failed}
+use Rattle.kp_frames.proofs.FirstLemmas.{first_short, front_first, frame_front}
+use Rattle.kp_frames.specs.declared.fault.FrameFault.{FrameFault}
 use Rattle.kp_frames.specs.declared.fault.FrameFault.TheVariants as frame
+use Rattle.kp_frames.specs.declared.frame.TheConstants.{CONTENT_LIMIT}
 use Rattle.kp_rules.specs.declared.names.Names.{Names}
 use Rattle.kp_connection.specs.declared.fault.HandshakeFault.{HandshakeFault}
 use Rattle.kp_connection.specs.declared.fault.HandshakeFault.TheVariants.{Io, Frame, BadAnswer, Refused, OutOfMemory}
 use Rattle.kp_connection.specs.declared.handshake.stage.Stage.{Stage}
 use Rattle.kp_connection.specs.declared.handshake.stage.Stage.TheVariants.{Opening, Metadata, ProducerId}
 use Rattle.kp_connection.specs.declared.hello.Hello.{Hello}
-use Rattle.kp_connection.specs.Answers.{Answer}
-use Rattle.kp_connection.specs.Handshake.{Talking, asked, frame_of, Hears, Comes, Waits, Concludes, Lacks, GivesFault, Ends, IsWritten, metadata_request, producer_id_request, EndsWith}
+use Rattle.kp_connection.specs.Answers.{Answer, gone}
+use Rattle.kp_connection.specs.Handshake.{Talking, asked, frame_of, Hears, InTurn, Comes, Waits, Concludes, Lacks, GivesFault, Ends, IsWritten, metadata_request, producer_id_request, EndsWith}
 use Rattle.kp_frames.specs.Stream as framing
 use Rattle.kp_connection.specs.Hello.{metadata_given, producer_id_given, UnlessMemory}
 use Rattle.kp_connection.specs.Listening as listening
 use Rattle.kp_connection.specs.Talking.{IsCounted, IsSound, Steps, StepsTo, Learns, Talks}
 use Rattle.futures.specs.declared.task.Poll.{Poll}
 use Rattle.futures.specs.declared.task.Poll.TheVariants.{Ready, Pending}
-use Rattle.kp_connection.specs.Wire.{Told, Wired, frames, Goes}
-use Rattle.kp_connection.proofs.HandshakeLemmas.{waits_then, concludes_then, ends_with_then, ends_then}
+use Rattle.kp_connection.specs.Wire.{Told, Wired, frames, Goes, IsOneAtMost}
+use Rattle.kp_connection.proofs.HandshakeLemmas.{in_turn_none, waits_then, concludes_then, ends_with_then, ends_then}
 use Rattle.kp_connection.proofs.WireLemmas.{Goes-then, Goes-nothing}
 
 -- ---- at its beginning
@@ -34,6 +36,26 @@ fresh names stream = record { partial = first_short [] (omega arith); opening = 
 
 pub some_is : {A : Type 0} (x y : A) → Some x ≡ Some y → x ≡ y
 some_is x y e = cc
+
+-- ---- what was read and not heard
+
+-- where no frame is at its beginning
+pub one_of_none : (bytes : List ℕ) (fault : FrameFault) → framing.first bytes ≡ Err fault → IsOneAtMost bytes
+one_of_none bytes fault none content rest e = absurd (apart (sym none ∙ e))
+  where
+    apart : {A : Type 0} {x : A} → failed fault ≡ done x → ⊥
+    apart e = cc
+
+-- where there is one whole frame
+pub one_frame : (content held : List ℕ) → length content ≤ CONTENT_LIMIT → held ≡ [] → IsOneAtMost (frames (content ∷ []) ++ held)
+one_frame content held small none more rest e =
+    let whole : frames (content ∷ []) ++ held ≡ framing.frame.spell content ++ [] =
+    ap (λ (zs : List ℕ). frames (content ∷ []) ++ zs) none ∙ append-nil (frames (content ∷ [])) in
+    let first : framing.first (framing.frame.spell content ++ []) ≡ Ok (content, []) = front_first (framing.frame.spell content) content [] (frame_front content small) in
+    ap (λ (x : List ℕ × List ℕ). x.1) (sym (same (sym first ∙ sym (ap framing.first whole) ∙ e)))
+  where
+    same : {x y : List ℕ × List ℕ} → done {E = FrameFault} x ≡ done y → x ≡ y
+    same e = cc
 
 -- ---- where it is
 
@@ -50,12 +72,13 @@ module _ {S : Type 0} (answers : Told S) (old : Talking S) where
     heard = [];
     asks = append-nil (asked old.names old.stage);
     hears = hears_none old.names.topic old.stage;
+    turn = in_turn_none old.names old.stage old.wire [] xs;
     goes = goes;
   }
 
   -- memory is refused behind one
-  pub lacks_on : (last : List (List ℕ)) (xs : List Answer) (wire : Wired S) → Goes answers old.wire [] last xs wire → Lacks answers old
-  lacks_on last xs wire goes = record {
+  pub lacks_on : (last : List (List ℕ)) (xs : List Answer) (wire : Wired S) → Goes answers old.wire [] last xs wire → IsOneAtMost (frames last ++ wire.held) → Lacks answers old
+  lacks_on last xs wire goes one = record {
     xs = xs;
     stage = old.stage;
     wire = wire;
@@ -63,6 +86,7 @@ module _ {S : Type 0} (answers : Told S) (old : Talking S) where
     heard = [];
     asks = append-nil (asked old.names old.stage);
     hears = hears_none old.names.topic old.stage;
+    turn = in_turn_none old.names old.stage old.wire [] xs;
     stops = record {
       told = goes.told;
       unwritten = wire.kept;
@@ -71,20 +95,22 @@ module _ {S : Type 0} (answers : Told S) (old : Talking S) where
       read = goes.read;
       contents = tt;
     };
+    one = one;
   }
 
   -- ---- it begins
 
-  pub not_written : ((s : S) → answers s [] s) → (fault : HandshakeFault) → old.stage ≡ Opening → IsWritten (metadata_request old.names) (Err fault) → EndsWith answers old fault
-  not_written nothing Io is p = absurd p
-  not_written nothing BadAnswer is p = absurd p
-  not_written nothing (Refused code) is p = absurd p
-  not_written nothing OutOfMemory is p = lacks_on [] [] old.wire (Goes-nothing answers nothing old.wire)
-  not_written nothing (Frame fault) is p =
+  pub not_written : ((s : S) → answers s [] s) → (fault : HandshakeFault) → old.stage ≡ Opening → framing.first old.wire.held ≡ Err frame.Short → IsWritten (metadata_request old.names) (Err fault) → EndsWith answers old fault
+  not_written nothing Io is partial p = absurd p
+  not_written nothing BadAnswer is partial p = absurd p
+  not_written nothing (Refused code) is partial p = absurd p
+  not_written nothing OutOfMemory is partial p = lacks_on [] [] old.wire (Goes-nothing answers nothing old.wire) (one_of_none old.wire.held frame.Short partial)
+  not_written nothing (Frame fault) is partial p =
       inr (inl (record {
         xs = [];
         wire = old.wire;
         comes = subst (λ (stage : Stage). Comes answers old stage [] [] old.wire) is (comes_on [] [] old.wire (Goes-nothing answers nothing old.wire));
+        partial = partial;
         refused = p;
       }))
 
@@ -99,6 +125,7 @@ module _ {S : Type 0} (answers : Told S) (old : Talking S) where
         heard = [];
         asks = ap (λ (stage : Stage). asked old.names stage ++ (bytes ∷ [])) is ∙ ap (λ (b : List ℕ). b ∷ []) written;
         hears = subst (λ (stage : Stage). Hears old.names.topic stage [] Metadata) (sym is) refl;
+        turn = subst (λ (stage : Stage). InTurn old.names stage old.wire [] [] Metadata) (sym is) tt;
         goes = goes;
       };
     };
@@ -126,7 +153,7 @@ module _ {S : Type 0} (answers : Told S) (old : Talking S) where
   )
 
   pub listens_not : (fault : HandshakeFault) (wire : Wired S) → listening.Listens answers old.wire (Err fault) wire → EndsWith answers old fault
-  listens_not Io wire p = record { xs = p.xs; stage = old.stage; wire = wire; comes = comes_on [] p.xs wire p.goes; failed = p.failed }
+  listens_not Io wire p = record { xs = p.xs; stage = old.stage; wire = wire; comes = comes_on [] p.xs wire p.goes; partial = p.partial; failed = p.failed }
   listens_not OutOfMemory wire p = record {
     xs = p.xs;
     stage = old.stage;
@@ -135,7 +162,9 @@ module _ {S : Type 0} (answers : Told S) (old : Talking S) where
     heard = [];
     asks = append-nil (asked old.names old.stage);
     hears = hears_none old.names.topic old.stage;
+    turn = in_turn_none old.names old.stage old.wire [] p.xs;
     stops = p.stops;
+    one = p.one;
   }
   listens_not (Frame frame.TooLarge) wire p =
       inl (inr (record {
@@ -164,7 +193,7 @@ module _ {S : Type 0} (answers : Told S) (old : Talking S) where
   pub judged_not : {A : Type 0} (fault : HandshakeFault) (content : List ℕ) (wire : Wired S) (given : Result A HandshakeFault) → listening.Hears answers old.wire content wire
       → (given ≡ Err fault → GivesFault old.names.topic old.stage content fault) → UnlessMemory (Err fault) given → (given ≡ Err Io → ⊥) → EndsWith answers old fault
   judged_not Io content wire given h gives p not = absurd (not (sym p))
-  judged_not OutOfMemory content wire given h gives p not = lacks_on (content ∷ []) h.xs wire h.goes
+  judged_not OutOfMemory content wire given h gives p not = lacks_on (content ∷ []) h.xs wire h.goes (one_frame content wire.held h.goes.contents.0 h.read)
   judged_not (Frame fault) content wire given h gives p not = inl (inl (record {
     xs = h.xs;
     stage = old.stage;
@@ -202,7 +231,7 @@ module _ {S : Type 0} (answers : Told S) (old : Talking S) where
   half_written Io content wire n is h given p = absurd p
   half_written BadAnswer content wire n is h given p = absurd p
   half_written (Refused code) content wire n is h given p = absurd p
-  half_written OutOfMemory content wire n is h given p = lacks_on (content ∷ []) h.xs wire h.goes
+  half_written OutOfMemory content wire n is h given p = lacks_on (content ∷ []) h.xs wire h.goes (one_frame content wire.held h.goes.contents.0 h.read)
   half_written (Frame fault) content wire n is h given p =
       inr (inr (record {
         xs = h.xs;
@@ -229,6 +258,13 @@ module _ {S : Type 0} (answers : Told S) (old : Talking S) where
         heard = content ∷ [];
         asks = ap (λ (stage : Stage). asked old.names stage ++ (bytes ∷ [])) is ∙ ap (λ (b : List ℕ). frame_of (metadata_request old.names) ∷ b ∷ []) written;
         hears = subst (λ (stage : Stage). Hears old.names.topic stage (content ∷ []) (ProducerId n)) (sym is) (content, refl, given);
+        turn = subst (λ (stage : Stage). InTurn old.names stage old.wire (content ∷ []) (h.xs ++ []) (ProducerId n)) (sym is) (record {
+          until = h.xs;
+          behind = [];
+          is = refl;
+          written = sym (append-nil (gone h.xs)) ∙ ap (λ (zs : List ℕ). gone h.xs ++ zs) (sym h.written) ∙ h.goes.written;
+          read = sym h.goes.read ∙ ap (λ (zs : List ℕ). frames (content ∷ []) ++ zs) h.read ∙ append-nil (frames (content ∷ []));
+        });
         goes = Goes-then answers in_order old.wire mid wire [] (content ∷ []) (bytes ∷ []) [] h.xs [] h.goes goes;
       };
     };

@@ -21,25 +21,25 @@ use Rattle.kp_connection.specs.Wire.{Wired, Told, frames, AreContents, Goes, Bre
 -- ---- bytes through two stretches: what passed, then what is there, are what was there, then what was put in
 
 -- the far end of one stretch joined with another, on which bytes are lost at the end
-through : (gone more kept0 kept1 kept2 put adds : List ℕ) → gone ++ kept1 ≡ kept0 ++ put → more ++ kept2 ≡ kept1 ++ adds → (gone ++ more) ++ kept2 ≡ kept0 ++ (put ++ adds)
+pub through : (gone more kept0 kept1 kept2 put adds : List ℕ) → gone ++ kept1 ≡ kept0 ++ put → more ++ kept2 ≡ kept1 ++ adds → (gone ++ more) ++ kept2 ≡ kept0 ++ (put ++ adds)
 through gone more kept0 kept1 kept2 put adds p q =
     append_assoc gone more kept2 ∙ ap (λ (zs : List ℕ). gone ++ zs) q ∙ sym (append_assoc gone kept1 adds)
     ∙ ap (λ (zs : List ℕ). zs ++ adds) p ∙ append_assoc kept0 put adds
 
 module _ {S : Type 0} (answers : Told S) (in_order : (a : S) (xs : List Answer) (b : S) (ys : List Answer) (c : S) → answers a xs b → answers b ys c → answers a (xs ++ ys) c) (a b c : Wired S) (sent heard more news : List (List ℕ)) (xs ys : List Answer) where
-  written_through : (left : List ℕ) → gone xs ++ b.kept ≡ a.kept ++ concat sent → gone ys ++ left ≡ b.kept ++ concat more → gone (xs ++ ys) ++ left ≡ a.kept ++ concat (sent ++ more)
+  pub written_through : (left : List ℕ) → gone xs ++ b.kept ≡ a.kept ++ concat sent → gone ys ++ left ≡ b.kept ++ concat more → gone (xs ++ ys) ++ left ≡ a.kept ++ concat (sent ++ more)
   written_through left p q =
       ap (λ (zs : List ℕ). zs ++ left) (flat_map-append gone_by xs ys)
       ∙ through (gone xs) (gone ys) a.kept b.kept left (concat sent) (concat more) p q
       ∙ ap (λ (zs : List ℕ). a.kept ++ zs) (sym (concat-append sent more))
 
-  read_through : (left : List ℕ) → frames heard ++ b.held ≡ a.held ++ came xs → frames news ++ left ≡ b.held ++ came ys → frames (heard ++ news) ++ left ≡ a.held ++ came (xs ++ ys)
+  pub read_through : (left : List ℕ) → frames heard ++ b.held ≡ a.held ++ came xs → frames news ++ left ≡ b.held ++ came ys → frames (heard ++ news) ++ left ≡ a.held ++ came (xs ++ ys)
   read_through left p q =
       ap (λ (zs : List ℕ). zs ++ left) (flat_map-append framing.frame.spell heard news)
       ∙ through (frames heard) (frames news) a.held b.held left (came xs) (came ys) p q
       ∙ ap (λ (zs : List ℕ). a.held ++ zs) (sym (flat_map-append came_by xs ys))
 
-  contents_through : AreContents heard → AreContents news → AreContents (heard ++ news)
+  pub contents_through : AreContents heard → AreContents news → AreContents (heard ++ news)
   contents_through p q = all_append (λ content. length content ≤ CONTENT_LIMIT) heard news p q
 
   pub Goes-then : Goes answers a sent heard xs b → Goes answers b more news ys c → Goes answers a (sent ++ more) (heard ++ news) (xs ++ ys) c
@@ -52,7 +52,7 @@ module _ {S : Type 0} (answers : Told S) (in_order : (a : S) (xs : List Answer) 
       }
 
   -- a stretch that gives up nothing, and then one that may
-  pub Stops-then : Goes answers a sent heard xs b → Stops answers b more news ys c → Stops answers a (sent ++ more) (heard ++ news) (xs ++ ys) c
+  unfoldable pub Stops-then : Goes answers a sent heard xs b → Stops answers b more news ys c → Stops answers a (sent ++ more) (heard ++ news) (xs ++ ys) c
   Stops-then p q =
       record {
         told = in_order a.stream xs b.stream ys c.stream p.told q.told;
@@ -96,7 +96,7 @@ module _ {S : Type 0} (answers : Told S) where
   Goes-nothing nothing a =
       record { told = nothing a.stream; written = sym (append-nil a.kept); read = sym (append-nil a.held); contents = tt }
 
-  pub Goes-stops : (a b : Wired S) (sent heard : List (List ℕ)) (xs : List Answer) → Goes answers a sent heard xs b → Stops answers a sent heard xs b
+  unfoldable pub Goes-stops : (a b : Wired S) (sent heard : List (List ℕ)) (xs : List Answer) → Goes answers a sent heard xs b → Stops answers a sent heard xs b
   Goes-stops a b sent heard xs p =
       record { told = p.told; unwritten = b.kept; written = p.written; unheard = b.held; read = p.read; contents = p.contents }
 

@@ -2,6 +2,7 @@
 -- a producer id (protocol guide, "Metadata API (Key: 3)" and "InitProducerId API (Key: 22)"; KIP-98).
 use Rattle.std.specs.Prelude.{◌≡◌, ◌⊎◌, ℕ, ◌^◌, ◌-◌, List, [], ◌∷◌, ◌++◌, length, pos, Some, None, Result, Ok, Err}
 use Rattle.std.specs.Global.{Vec}
+use Rattle.std.specs.List.{concat}
 use Rattle.kp_frames.specs.declared.fault.FrameFault.TheVariants as frame
 use Rattle.kp_frames.specs.declared.request.Request.{Request}
 use Rattle.kp_frames.specs.declared.request.RequestBody.TheVariants as body
@@ -14,10 +15,10 @@ use Rattle.kp_connection.specs.declared.fault.HandshakeFault.TheVariants.{Io, Fr
 use Rattle.kp_connection.specs.declared.handshake.stage.Stage.{Stage}
 use Rattle.kp_connection.specs.declared.handshake.stage.Stage.TheVariants.{Opening, Metadata, ProducerId}
 use Rattle.kp_connection.specs.declared.hello.Hello.{Hello}
-use Rattle.kp_connection.specs.Answers.{Answer}
+use Rattle.kp_connection.specs.Answers.{Answer, came, gone}
 use Rattle.kp_connection.specs.Answers.Answer.{Came, Read_waits, Read_failed, Went, Write_waits, Write_failed}
 use Rattle.kp_connection.specs.Hello.{metadata_given, producer_id_given}
-use Rattle.kp_connection.specs.Wire.{Told, Wired, Goes, Stops, Met}
+use Rattle.kp_connection.specs.Wire.{Told, Wired, frames, Goes, Stops, IsOneAtMost, Met}
 
 -- ---- the requests
 
@@ -80,13 +81,34 @@ Hears topic Opening heard Metadata = heard ≡ []
 Hears topic Metadata heard Opening = ⊥
 Hears topic Metadata heard Metadata = heard ≡ []
 
--- From old it came to this stage: the requests that are asked until then were handed to write, each once, the answers
--- until then were heard, and behind them these contents; the stream's calls answered so.
+-- what is asked from this stage on before a producer id is
+abbrev pub asked_first : Names → Stage → List (List ℕ)
+asked_first names Opening = frame_of (metadata_request names) ∷ []
+asked_first names Metadata = []
+asked_first names (ProducerId n) = []
+
+-- Up to some answer of the stream's just what was kept and these frames were written, and just what is heard was read.
+pub record Turns {S : Type 0} (old : Wired S) (first heard : List (List ℕ)) (xs : List Answer) : Type 0 where
+  pub until : List Answer
+  pub behind : List Answer
+  pub is : xs ≡ until ++ behind
+  pub written : gone until ≡ old.kept ++ concat first
+  pub read : old.held ++ came until ≡ frames heard
+
+-- A producer id is asked for in its turn: not before the answer to Metadata was read.
+abbrev pub InTurn : {S : Type 0} → Names → Stage → Wired S → List (List ℕ) → List Answer → Stage → Type 0
+InTurn names Opening old heard xs (ProducerId n) = Turns old (asked_first names Opening) heard xs
+InTurn names Metadata old heard xs (ProducerId n) = Turns old (asked_first names Metadata) heard xs
+InTurn names stage old heard xs new = Unit {0}
+
+-- From old it came to this stage: the requests that are asked until then were handed to write, each once and in its turn,
+-- the answers until then were heard, and behind them these contents; the stream's calls answered so.
 pub record Comes {S : Type 0} (answers : Told S) (old : Talking S) (stage : Stage) (last : List (List ℕ)) (xs : List Answer) (wire : Wired S) : Type 0 where
   pub sent : List (List ℕ)
   pub heard : List (List ℕ)
   pub asks : asked old.names old.stage ++ sent ≡ asked old.names stage
   pub hears : Hears old.names.topic old.stage heard stage
+  pub turn : InTurn old.names old.stage old.wire heard xs stage
   pub goes : Goes answers old.wire sent (heard ++ last) xs wire
 
 -- ---- a poll that waits
@@ -126,10 +148,11 @@ pub record Fails {S : Type 0} (answers : Told S) (old : Talking S) : Type 0 wher
   pub stage : Stage
   pub wire : Wired S
   pub comes : Comes answers old stage [] xs wire
+  pub partial : framing.first wire.held ≡ Err frame.Short
   pub failed : HasFailed xs
 
--- Memory was refused: what was written is a beginning of what is asked until then, and what was heard are the first
--- frames of what was read.
+-- Memory was refused: what was written is a beginning of what is asked until then, and behind what was heard at most one
+-- frame was read.
 pub record Lacks {S : Type 0} (answers : Told S) (old : Talking S) : Type 0 where
   pub xs : List Answer
   pub stage : Stage
@@ -138,7 +161,9 @@ pub record Lacks {S : Type 0} (answers : Told S) (old : Talking S) : Type 0 wher
   pub heard : List (List ℕ)
   pub asks : asked old.names old.stage ++ sent ≡ asked old.names stage
   pub hears : Hears old.names.topic old.stage heard stage
+  pub turn : InTurn old.names old.stage old.wire heard xs stage
   pub stops : Stops answers old.wire sent heard xs wire
+  pub one : IsOneAtMost stops.unheard
 
 -- the answer that is awaited gives this fault
 abbrev pub GivesFault : List ℕ → Stage → List ℕ → HandshakeFault → Type 0
@@ -173,6 +198,7 @@ pub record Unasked {S : Type 0} (answers : Told S) (old : Talking S) (fault : Ha
   pub xs : List Answer
   pub wire : Wired S
   pub comes : Comes answers old Opening [] xs wire
+  pub partial : framing.first wire.held ≡ Err frame.Short
   pub refused : Unwritable (metadata_request old.names) fault
 
 -- The second has none, once the first was answered.

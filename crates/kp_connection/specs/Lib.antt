@@ -8,3 +8,4 @@ pub mod Hello
 pub mod Handshake
 pub mod Listening
 pub mod Talking
+pub mod Introducing

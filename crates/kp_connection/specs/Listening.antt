@@ -10,7 +10,7 @@ use Rattle.kp_connection.specs.declared.fault.HandshakeFault.TheVariants.{Io, Fr
 use Rattle.kp_connection.specs.Answers.{Answer}
 use Rattle.kp_connection.specs.Answers.Answer.{Read_waits, Write_waits}
 use Rattle.kp_connection.specs.Handshake.{HasFailed}
-use Rattle.kp_connection.specs.Wire.{Told, Wired, Goes, Stops, Met}
+use Rattle.kp_connection.specs.Wire.{Told, Wired, Goes, Stops, IsOneAtMost, Met}
 
 -- All was written, and this was read, with nothing behind it.
 pub record Hears {S : Type 0} (answers : Told S) (old : Wired S) (content : List ℕ) (new : Wired S) : Type 0 where
@@ -28,6 +28,7 @@ pub record Waits {S : Type 0} (answers : Told S) (old new : Wired S) : Type 0 wh
 pub record Fails {S : Type 0} (answers : Told S) (old new : Wired S) : Type 0 where
   pub xs : List Answer
   pub goes : Goes answers old [] [] xs new
+  pub partial : framing.first new.held ≡ Err frame.Short
   pub failed : HasFailed xs
 
 pub record Overflows {S : Type 0} (answers : Told S) (old new : Wired S) : Type 0 where
@@ -40,6 +41,7 @@ pub record Overflows {S : Type 0} (answers : Told S) (old new : Wired S) : Type 
 pub record Lacks {S : Type 0} (answers : Told S) (old new : Wired S) : Type 0 where
   pub xs : List Answer
   pub stops : Stops answers old [] [] xs new
+  pub one : IsOneAtMost stops.unheard
 
 abbrev pub Listens : {S : Type 0} → Told S → Wired S → Result (Poll (Vec ℕ)) HandshakeFault → Wired S → Type 0
 Listens answers old (Ok Pending) new = Waits answers old new

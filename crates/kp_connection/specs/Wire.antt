@@ -64,6 +64,10 @@ pub record Stops {S : Type 0} (answers : Told S) (old : Wired S) (sent heard : L
   pub read : frames heard ++ unheard ≡ old.held ++ came xs
   pub contents : AreContents heard
 
+-- A whole frame that is at its beginning is all of it.
+abbrev pub IsOneAtMost : List ℕ → Type 0
+IsOneAtMost bytes = (content rest : List ℕ) → framing.first bytes ≡ Ok (content, rest) → rest ≡ []
+
 -- the stream gave this answer
 abbrev pub Met : Answer → List Answer → Type 0
 Met x xs = Contains xs x
@@ -98,10 +102,10 @@ pub record Refuses {S : Type 0} (answers : Told S) (most : ℕ) (old new : Wired
   pub held : new.held ≡ framing.kept (old.held ++ bytes)
   pub breaks : Breaks answers old [] [] (Came bytes ∷ []) new
 
--- There was no room, either before it or for what it brought, which is lost.
+-- There was no room: either before it, and then nothing was done, or for what it brought, which is lost.
 pub record Lacks {S : Type 0} (answers : Told S) (most : ℕ) (old new : Wired S) : Type 0 where
   pub xs : List Answer
-  pub once : (xs ≡ []) ⊎ ((bytes : List ℕ) × (length bytes ≤ most) × (xs ≡ Came bytes ∷ []))
+  pub once : ((xs ≡ []) × (new ≡ old)) ⊎ ((bytes : List ℕ) × (length bytes ≤ most) × (xs ≡ Came bytes ∷ []))
   pub kept : new.kept ≡ old.kept
   pub held : new.held ≡ old.held
   pub stops : Stops answers old [] [] xs new

@@ -4,6 +4,7 @@
 
 mod fault;
 mod handshake;
+pub mod handshake_laws;
 mod hello;
 mod kept;
 pub mod laws;

@@ -11,7 +11,7 @@ returns-in_err-frame g c =
     let old = c.args.self.now in
     let names : c.self.inside.names ≡ old.names = ap (λ (t : Talking g.row.S.Denot). t.names) c.self.view_is in
     given_back (λ r. Opens g.S.Stream.answers old r old) c.from_residual.result c.in_err-frame.field-0.0 c.from_residual.ensures.1
-    (not_written g.S.Stream.answers old g.met.S.Stream.answers_nothing c.in_err-frame.field-0.0 c.requires.opening
+    (not_written g.S.Stream.answers old g.met.S.Stream.answers_nothing c.in_err-frame.field-0.0 c.requires.opening c.requires.sound.partial
     (subst (λ (n : Names). IsWritten (metadata_request n) (Err c.in_err-frame.field-0.0)) names c.in_err-frame.ensures))
 
 pub returns : goal.returns
