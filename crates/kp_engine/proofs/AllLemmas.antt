@@ -17,7 +17,7 @@ use Rattle.kp_engine.proofs.AgreementLemmas.{none_some}
 use Rattle.kp_engine.proofs.RunLemmas.{runs_none, runs_then}
 use Rattle.kp_engine.proofs.SideLemmas.{idle_still, runs_from, same_side}
 
-parts_kept : (n : ℕ) (old new newer : ℕ → Side) (calls : List Call) → ((k : ℕ) → k < n → newer k ≡ new k) → SenderParts n old calls new → SenderParts n old calls newer
+pub parts_kept : (n : ℕ) (old new newer : ℕ → Side) (calls : List Call) → ((k : ℕ) → k < n → newer k ≡ new k) → SenderParts n old calls new → SenderParts n old calls newer
 parts_kept zero old new newer calls same parts = parts
 parts_kept (suc n) old new newer calls same parts = (
   parts.0,

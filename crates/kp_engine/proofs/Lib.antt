@@ -8,3 +8,10 @@ pub mod FreshLemmas
 pub mod AllLemmas
 pub mod MailLemmas
 pub mod SendLemmas
+pub mod TalkLemmas
+pub mod WritingLemmas
+pub mod EndingLemmas
+pub mod TalkingLemmas
+pub mod TurnLemmas
+pub mod EngineLemmas
+pub mod HearingLemmas

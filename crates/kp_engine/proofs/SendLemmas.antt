@@ -228,7 +228,7 @@ module _ (i : ℕ) (r : Report) (a m b : Exchange) (was : (mail_of a i).held ≡
 
 -- ---- all senders
 
-mail_parts_kept : (n : ℕ) (old new newer : ℕ → Mail) (calls : List Call) → ((k : ℕ) → k < n → newer k ≡ new k) → MailParts n old calls new → MailParts n old calls newer
+pub mail_parts_kept : (n : ℕ) (old new newer : ℕ → Mail) (calls : List Call) → ((k : ℕ) → k < n → newer k ≡ new k) → MailParts n old calls new → MailParts n old calls newer
 mail_parts_kept zero old new newer calls same parts = parts
 mail_parts_kept (suc n) old new newer calls same parts = (
   parts.0,
@@ -317,6 +317,7 @@ all_until n a m b all h u only = record {
   senders = n + 1;
   calls = h.calls ++ u.calls;
   parts = parts_behind n a m b h.calls h.parts u.calls (h.later n (omega arith)) u.part only;
+  later = λ k far. only.others k (λ same. omega (arith, far, same)) ∙ h.later k (omega (arith, far));
   runs = runs_then a m b h.calls u.calls h.runs u.runs;
 }
 

@@ -4,3 +4,6 @@ pub mod Turn
 pub mod Exchange
 pub mod Steps
 pub mod Opening
+pub mod Talking
+pub mod Polls
+pub mod Engine

@@ -268,6 +268,7 @@ pub record SendsAllUntil (old new : Exchange) : Type 0 where
   pub senders : ℕ
   pub calls : List Call
   pub parts : MailParts senders (mail_of old) calls (mail_of new)
+  pub later : (k : ℕ) → senders ≤ k → mail_of new k ≡ mail_of old k
   pub runs : Runs old calls new
 
 abbrev pub SendsEach : Exchange → Result Bool AllocError → Exchange → Type 0

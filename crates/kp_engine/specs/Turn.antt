@@ -1,6 +1,7 @@
 -- A turn of the engine: its calls on the core, in five parts.
-use Rattle.std.specs.Prelude.{◌≡◌, ℕ, zero, suc, ◌+◌, ◌<◌, ◌≤◌, Bool, List, [], ◌∷◌, ◌++◌, length, map, drop, Option, Some, None, option_to_list, IsSome, Result, Ok, Err, if◌then◌else◌}
+use Rattle.std.specs.Prelude.{◌≡◌, ℕ, zero, suc, ◌+◌, ◌<◌, ◌≤◌, Bool, List, [], ◌∷◌, ◌++◌, length, map, drop, Option, Some, None, option_to_list, IsSome, IsTrue, Result, Ok, Err, if◌then◌else◌}
 use Rattle.std.specs.List.{AllByRecursion}
+use Rattle.std.specs.Option.{ForSome}
 use Rattle.kp_accum.specs.declared.fault.AppendFault.{AppendFault}
 use Rattle.kp_accum.specs.declared.fault.AppendFault.TheVariants as append
 use Rattle.kp_accum.specs.declared.item.Item.{Item}
@@ -112,12 +113,30 @@ abbrev pub asks : ℕ → Option (Result (Option Outgoing) CoreFault) → List C
 asks now None = []
 asks now (Some answer) = Request now answer ∷ []
 
+-- the calls whose requests go out
+abbrev pub requests : ℕ → List Outgoing → List Call
+requests now sent = map (λ request. Request now (Ok (Some request))) sent
+
 -- Up to 16 requests go out, and the core may be asked once more, where it gives none.
 pub record RequestsPart (now : ℕ) (sent : List Outgoing) (calls : List Call) : Type 0 where
   pub last : Option (Result (Option Outgoing) CoreFault)
   pub few : length sent + length (asks now last) ≤ 16
-  pub none : (answer : Result (Option Outgoing) CoreFault) → last ≡ Some answer → GivesNone answer
-  pub made : calls ≡ map (λ request. Request now (Ok (Some request))) sent ++ asks now last
+  pub none : ForSome last GivesNone
+  pub made : calls ≡ requests now sent ++ asks now last
+
+-- Memory was refused, by the core or for the copy of the request that is kept.
+abbrev pub LacksMemory : Result (Option Outgoing) CoreFault → Type 0
+LacksMemory (Ok None) = ⊥
+LacksMemory (Ok (Some request)) = Unit {0}
+LacksMemory (Err OutOfMemory) = Unit {0}
+LacksMemory (Err fault) = ⊥
+
+-- The same until memory was refused.
+pub record RequestsPartUntil (now : ℕ) (sent : List Outgoing) (calls : List Call) : Type 0 where
+  pub last : Option (Result (Option Outgoing) CoreFault)
+  pub few : length sent + length (asks now last) ≤ 16
+  pub lacking : ForSome last LacksMemory
+  pub made : calls ≡ requests now sent ++ asks now last
 
 -- ---- the fourth part: replies
 
@@ -128,9 +147,9 @@ pub record Heard : Type 0 where
 
 -- the connection goes on after this answer
 abbrev pub GoesOn : Result Replied CoreFault → Type 0
-GoesOn (Ok replied) = Unit {0}
-GoesOn (Err Ended) = Unit {0}
-GoesOn (Err fault) = ⊥
+GoesOn (Err (ReplyFault fault)) = ⊥
+GoesOn (Err OutOfMemory) = ⊥
+GoesOn answer = Unit {0}
 
 abbrev pub hears : ℕ → Heard → Call
 hears now heard = Reply now heard.content heard.answer
@@ -141,10 +160,23 @@ refused_with None = []
 refused_with (Some x) = record { content = x.0; answer = Err (ReplyFault x.1) } ∷ []
 
 -- Up to 16 replies are heard, of which the last may be refused.
-pub record RepliesPart (now : ℕ) (heard : List Heard) (calls : List Call) : Type 0 where
+pub record RepliesPart (now : ℕ) (heard : List Heard) (refused : Option (List ℕ × FrameFault)) (calls : List Call) : Type 0 where
   pub before : List Heard
-  pub refused : Option (List ℕ × FrameFault)
   pub are_heard : heard ≡ before ++ refused_with refused
+  pub few : length heard ≤ 16
+  pub going : AllByRecursion (λ x. GoesOn x.answer) before
+  pub made : calls ≡ map (hears now) heard
+
+-- a reply for which there was no memory
+abbrev pub lacking_memory : Option (List ℕ) → List Heard
+lacking_memory None = []
+lacking_memory (Some content) = record { content = content; answer = Err OutOfMemory } ∷ []
+
+-- The same until memory was refused.
+pub record RepliesPartUntil (now : ℕ) (heard : List Heard) (calls : List Call) : Type 0 where
+  pub before : List Heard
+  pub lacking : Option (List ℕ)
+  pub are_heard : heard ≡ before ++ lacking_memory lacking
   pub few : length heard ≤ 16
   pub going : AllByRecursion (λ x. GoesOn x.answer) before
   pub made : calls ≡ map (hears now) heard
@@ -182,3 +214,14 @@ pub record ReportsPart (senders now : ℕ) (cut : Bool) (old : ℕ → Mail) (ca
   pub of_senders : List Call
   pub parts : MailParts senders old of_senders new
   pub made : calls ≡ if_so cut (Disconnect now) ++ of_senders
+
+-- The same until memory was refused: of so many senders' parts the last may be cut short.
+pub record ReportsPartUntil (now : ℕ) (cut : Bool) (old : ℕ → Mail) (calls : List Call)
+    (new : ℕ → Mail) : Type 0 where
+  pub dropped : Bool
+  pub only_cut : IsTrue dropped → IsTrue cut
+  pub senders : ℕ
+  pub of_senders : List Call
+  pub parts : MailParts senders old of_senders new
+  pub later : (k : ℕ) → senders ≤ k → new k ≡ old k
+  pub made : calls ≡ if_so dropped (Disconnect now) ++ of_senders

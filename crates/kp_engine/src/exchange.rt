@@ -3,6 +3,7 @@
 ghost use Rattle.std.specs.Prelude.{◌≡◌, ◌≤◌, length, vec_len, vec_capacity};
 ghost use Rattle.kp_engine.specs.Agreement.{Agree};
 
+mod asking;
 mod calling;
 mod closing;
 mod opening;

@@ -2,13 +2,18 @@
 #![tactic(auto)]
 
 mod clock;
+mod engine;
 mod exchange;
+mod moves;
 mod notes;
 mod parts;
 mod stop;
+mod turn;
 mod turned;
 
 pub use clock::Clock;
+pub use engine::Engine;
+pub use moves::Moves;
 pub use parts::{Held, Parts};
 pub use stop::{Cause, Stop};
 pub use turned::Turned;

@@ -1,20 +1,24 @@
 //! The calls of a turn, where they are kept for a caller.
 
-ghost use Rattle.std.specs.Prelude.{◌≡◌, [], ◌∷◌, Option, None, Some, OnOk, IfOk, option_map, if◌then◌else◌};
+ghost use Rattle.std.specs.Prelude.{◌≡◌, [], ◌∷◌, Option, None, Some, Ok, OnOk, IfOk, option_map, if◌then◌else◌};
 ghost use Rattle.std.specs.Option.{option_copied};
 ghost use Rattle.kp_accum.specs.declared.item.Item.{Item};
-ghost use Rattle.kp_rules.specs.Calls.{Append};
+ghost use Rattle.kp_rules.specs.Calls.{Append, Request};
 ghost use Rattle.kp_engine.specs.Turned.{append_answer, call_of, calls_in, noted, HasPlace};
 
+use crate::moves::Moves;
 use crate::turned::Turned;
 use kp_accum::{AppendFault, Item};
+use kp_rules::Outgoing;
 use std::alloc::{AllocError, Global};
 
-/// The calls of a turn, where they are kept for a caller.
+/// The calls of a turn, where they are kept for a caller, and what it has moved.
 #[derive(Drop)]
 pub(crate) struct Notes {
     alloc: Global,
     pub(crate) turn: Option<Vec<Turned>>,
+    /// What the turn has moved, whether or not its calls are kept.
+    pub(crate) moves: Moves,
 }
 
 impl Notes {
@@ -24,13 +28,18 @@ impl Notes {
         ensures entries { option_map (λ v. v.items) result.turn ≡ (if keeps then Some [] else None) }
     {
         let turn = if keeps { Some(Vec::new(alloc)) } else { None };
-        Notes { alloc, turn }
+        Notes {
+            alloc,
+            turn,
+            moves: Moves::none(),
+        }
     }
 
     /// Forgets the calls of an earlier turn.
     pub(crate) fn clear(&mut self)
         ensures { calls_in self.new.turn ≡ option_map (λ _. []) (calls_in self.old.turn) }
     {
+        self.moves = Moves::none();
         if let Some(entries) = &mut self.turn {
             entries.clear();
         }
@@ -67,9 +76,25 @@ impl Notes {
         requires { HasPlace self.old.turn }
         ensures { calls_in self.new.turn ≡ noted (call_of entry ∷ []) (calls_in self.old.turn) }
     {
+        self.moves.note(&entry);
         if let Some(entries) = &mut self.turn {
             entries.push_reserved(entry);
         }
+    }
+
+    /// Notes that the request goes out: its frame. Where calls are kept, the frame is copied.
+    pub(crate) fn add_request(&mut self, now: u64, request: Outgoing) -> Result<Vec<u8>, AllocError>
+        requires { HasPlace self.old.turn }
+        ensures noted { calls_in self.new.turn ≡ noted (Request now (Ok (Some request)) ∷ []) (calls_in self.old.turn) }
+        ensures frame { IfOk result (λ frame. frame.items ≡ request.bytes) }
+    {
+        self.moves.note_move();
+        if self.turn.is_none() {
+            return Ok(request.bytes.into_vec());
+        }
+        let copy = Vec::from_slice(self.alloc, request.bytes.as_slice());
+        self.add(Turned::Request(now, Ok(Some(request))));
+        copy
     }
 
     /// Notes that the item was appended of which this is the copy.
@@ -78,6 +103,9 @@ impl Notes {
         ensures { (item : Item) → copy ≡ option_map (λ _. item) (calls_in self.old.turn)
             → calls_in self.new.turn ≡ noted (Append item (append_answer fault) ∷ []) (calls_in self.old.turn) }
     {
+        if fault.is_none() {
+            self.moves.note_move();
+        }
         if let Some(item) = copy {
             self.add(Turned::Append(item, fault));
         }

@@ -4,6 +4,7 @@ ghost use Rattle.std.specs.Prelude.{◌≡◌, ◌+◌, ◌≤◌, [], Some, Non
 ghost use Rattle.std.specs.List.{flat_map};
 ghost use Rattle.std.specs.Option.{option_copied};
 ghost use Rattle.kp_rules.specs.Calls.{End, Step};
+ghost use Rattle.kp_engine.specs.Engine.{Cleared};
 ghost use Rattle.kp_engine.specs.Exchange.{OnlyCore};
 ghost use Rattle.kp_engine.specs.Opening.{MayTurn};
 
@@ -50,6 +51,13 @@ impl Exchange {
             notes: Notes::new(alloc, keeps_turns),
             held,
         })
+    }
+
+    /// Forgets the calls of the last turn.
+    pub(crate) fn clear(&mut self)
+        ensures { Cleared self.old self.new }
+    {
+        self.notes.clear();
     }
 
     /// The calls of the last turn, where they are kept.

@@ -41,7 +41,10 @@ impl Exchange {
         ensures only { OnlyMail sender self.old self.new }
     {
         match self.intake.report(report) {
-            Ok(()) => true,
+            Ok(()) => {
+                self.notes.moves.serve(sender);
+                true
+            }
             Err(back) => {
                 self.reports[sender as usize] = Some(back);
                 false

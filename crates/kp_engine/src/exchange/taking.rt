@@ -21,7 +21,11 @@ impl Exchange {
         ensures takes { TakesOne sender self.old result self.new }
         ensures only { OnlyLane sender self.old self.new }
     {
-        self.intake.take(sender)
+        let taken = self.intake.take(sender);
+        if taken.is_some() {
+            self.notes.moves.serve(sender);
+        }
+        taken
     }
 
     /// Appends the sender's items: the one that is held back, or else those that are taken. Whether the lane was found
@@ -84,6 +88,7 @@ impl Exchange {
         if !self.intake.asked(sender) {
             return Ok(());
         }
+        self.notes.moves.serve(sender);
         self.core.flush();
         self.notes.add(Turned::Flush);
         Ok(())

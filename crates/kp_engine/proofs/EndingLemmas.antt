@@ -1,0 +1,72 @@
+-- The last part of a turn.
+use Rattle.std.proofs.Common.{◌≡◌, ℕ, ◌<◌, ◌≤◌, Bool, true, false, List, [], ◌∷◌, ◌++◌, length, refl, sym, ap, ◌∙◌, subst, arith}
+use Rattle.std.specs.Prelude.{Option, Some, None, Result, Ok, Err, IsTrue}
+use Rattle.std.specs.declared.alloc.AllocError.{AllocError}
+use Rattle.kp_accum.specs.declared.item.Item.{Item}
+use Rattle.kp_lanes.specs.Intake.{told_of}
+use Rattle.kp_lanes.specs.declared.intake.Intake.{Intake}
+use Rattle.kp_rules.specs.Calls.{Call, Disconnect}
+use Rattle.kp_rules.specs.Partitions.{all_untold}
+use Rattle.kp_rules.specs.declared.outcome.Report.{Report}
+use Rattle.kp_engine.specs.Agreement.{held_at, waiting_of}
+use Rattle.kp_engine.specs.Exchange.{AreIdle, OnlyCore, Runs, mail_of, senders_of, side_of}
+use Rattle.kp_engine.specs.Polls.{FinishesAll, FinishesUntil, IsDone, is_cut}
+use Rattle.kp_engine.specs.Steps.{OnlyMails, SendsAll, SendsAllUntil}
+use Rattle.kp_engine.specs.Turn.{Mail, Side, MailParts, if_so}
+use Rattle.kp_engine.specs.declared.exchange.Exchange.{Exchange}
+use Rattle.kp_engine.specs.declared.stop.Cause.{Cause}
+use Rattle.kp_engine.proofs.RunLemmas.{runs_then}
+
+mail_in : Intake → List (Option Report) → ℕ → Mail
+mail_in intake reports i = record { told = told_of intake i; held = held_at reports i }
+
+-- What holds of the mail before, holds of the mail after calls on the core alone.
+pub mail_through : (P : (ℕ → Mail) → Type 0) (x y : Exchange) → OnlyCore x y → P (mail_of y) → P (mail_of x)
+mail_through P x y only p =
+    subst (λ (t : Intake). P (λ i. record { told = told_of t i; held = held_at x.reports.items i })) only.intake
+    (subst (λ (rs : List (Option Report)). P (λ i. record { told = told_of y.intake i; held = held_at rs i })) only.reports p)
+
+module _ (now : ℕ) (cut : Option Cause) (x y z : Exchange) (drops : Runs x (if_so (is_cut cut) (Disconnect now)) y) (only : OnlyCore x y) where
+  pub finished_until : SendsAllUntil y z → FinishesUntil now cut x z
+  finished_until h = record {
+    calls = if_so (is_cut cut) (Disconnect now) ++ h.calls;
+    part = record {
+      dropped = is_cut cut;
+      only_cut = λ is. is;
+      senders = h.senders;
+      of_senders = h.calls;
+      parts = mail_through (λ (old : ℕ → Mail). MailParts h.senders old h.calls (mail_of z)) x y only h.parts;
+      later = λ k far. mail_through (λ (old : ℕ → Mail). mail_of z k ≡ old k) x y only (h.later k far);
+      made = refl;
+    };
+    runs = runs_then x y z (if_so (is_cut cut) (Disconnect now)) h.calls drops h.runs;
+  }
+
+  pub finished : (idle all done : Bool) → SendsAll y z all → OnlyMails x z
+      → (IsTrue done → IsTrue idle × IsTrue all × (z.closed ≡ true) × (all_untold z.core ≡ [])) → FinishesAll now cut x idle done z
+  finished idle all done h mails is = record {
+    calls = if_so (is_cut cut) (Disconnect now) ++ h.calls;
+    part = record {
+      of_senders = h.calls;
+      parts = mail_through (λ (old : ℕ → Mail). MailParts (senders_of x) old h.calls (mail_of z)) x y only
+          (subst (λ (n : ℕ). MailParts n (mail_of y) h.calls (mail_of z)) (ap length only.items) h.parts);
+      made = refl;
+    };
+    runs = runs_then x y z (if_so (is_cut cut) (Disconnect now)) h.calls drops h.runs;
+    moved = h.moved;
+    done = λ yes. (
+      (is yes).0,
+      λ idle_before. record {
+        closed = (is yes).2;
+        all_told = (is yes).3;
+        no_item = λ i near. ap (λ (s : Side). s.held) (mails.sides i) ∙ (idle_before i (omega (arith, near, mails.lanes.senders))).none_held;
+        no_report = λ i near.
+            let none = h.none_held (is yes).1 i near in
+            (none, (h.moved i near).moved none);
+      },
+    );
+  }
+
+-- nothing was dropped, where the turn was not cut
+pub drops_none : (now : ℕ) (cut : Option Cause) (x : Exchange) → cut ≡ None → Runs x [] x → Runs x (if_so (is_cut cut) (Disconnect now)) x
+drops_none now cut x none runs = subst (λ (o : Option Cause). Runs x (if_so (is_cut o) (Disconnect now)) x) (sym none) runs

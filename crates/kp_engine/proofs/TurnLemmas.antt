@@ -1,0 +1,321 @@
+-- A whole turn, of its parts.
+use Rattle.std.proofs.Common.{◌≡◌, ◌⊎◌, ℕ, zero, suc, ◌<◌, Bool, true, false, List, [], ◌∷◌, ◌++◌, length, Some, None, Ok, Err, refl, sym, ap, subst, ◌∙◌, inl, inr, append-nil, append_assoc, arith}
+use Rattle.std.specs.Prelude.{Option, Result, IsTrue, ◌||◌}
+use Rattle.std.specs.declared.alloc.AllocError.{AllocError}
+use Rattle.futures.specs.declared.task.Poll.{Poll}
+use Rattle.futures.specs.declared.task.Poll.TheVariants.{Ready, Pending}
+use Rattle.kp_accum.specs.declared.item.Item.{Item}
+use Rattle.kp_connection.specs.Answers.{Answer}
+use Rattle.kp_connection.specs.Wire.{Told, Wired, Stops}
+use Rattle.kp_connection.proofs.WireLemmas.{Goes-nothing, Goes-stops}
+use Rattle.kp_lanes.specs.Intake.{lanes_of, intake_limits, intake_view}
+use Rattle.kp_lanes.specs.declared.intake.Intake.{Intake}
+use Rattle.kp_rules.specs.Calls.{Call, Tick}
+use Rattle.kp_frames.specs.declared.fault.FrameFault.{FrameFault}
+use Rattle.kp_rules.specs.declared.outgoing.Outgoing.{Outgoing}
+use Rattle.kp_rules.specs.declared.ticked.Ticked.{Ticked}
+use Rattle.kp_engine.specs.Exchange.{AreIdle, IsIdle, IsQuiet, OnlyCore, Runs, SameLanes, SameMail, mail_of, senders_of, side_of}
+use Rattle.kp_engine.specs.Polls.{CutFor, FinishesAll, FinishesUntil, IsDone, TalksAll, TalksCut, TalksOn, TalksOut, Turn, TurnUntil, Turns, TurnsCut, TurnsOn, TurnsOut, is_cut, stop_of}
+use Rattle.kp_engine.specs.Steps.{OnlyMails, TakesAndCloses, TakesUntil}
+use Rattle.kp_engine.specs.Talking.{contents_of, frames_of}
+use Rattle.kp_engine.specs.Turn.{Heard, ItemsPart, ItemsPartUntil, Mail, MailPart, MailParts, RepliesPart, ReportsPart, ReportsPartUntil, RequestsPart, Side}
+use Rattle.kp_engine.specs.declared.exchange.Exchange.{Exchange}
+use Rattle.kp_engine.specs.declared.stop.Cause.{Cause}
+use Rattle.kp_engine.specs.declared.stop.Cause.TheVariants.{Io, TimedOut, BadReply}
+use Rattle.kp_engine.specs.declared.stop.Stop.{Stop}
+use Rattle.kp_engine.specs.declared.stop.Stop.TheVariants.{Done, NeedStream, OutOfMemory}
+use Rattle.kp_engine.proofs.AgreementLemmas.{none_some}
+use Rattle.kp_engine.proofs.AllLemmas.{parts_kept}
+use Rattle.kp_engine.proofs.EndingLemmas.{mail_through}
+use Rattle.kp_engine.proofs.RunLemmas.{runs_then}
+use Rattle.kp_engine.proofs.SideLemmas.{idle_still, of_core, same_lanes}
+use Rattle.kp_engine.proofs.TalkLemmas.{some_same}
+
+-- ---- pointwise the same mail before
+
+pub mail_parts_from : (n : ℕ) (old older new : ℕ → Mail) (calls : List Call) → ((k : ℕ) → old k ≡ older k) → MailParts n old calls new → MailParts n older calls new
+mail_parts_from zero old older new calls same parts = parts
+mail_parts_from (suc n) old older new calls same parts = (
+  parts.0,
+  parts.1,
+  parts.2,
+  mail_parts_from n old older new parts.0 same parts.3,
+  subst (λ (x : Mail). MailPart n x parts.1 (new n)) (same n) parts.4,
+)
+
+pub reports_from : (now senders : ℕ) (cut : Bool) (old older new : ℕ → Mail) (calls : List Call) → ((k : ℕ) → old k ≡ older k) → ReportsPart senders now cut old calls new → ReportsPart senders now cut older calls new
+reports_from now senders cut old older new calls same p = record {
+  of_senders = p.of_senders;
+  parts = mail_parts_from senders old older new p.of_senders same p.parts;
+  made = p.made;
+}
+
+reports_until_from : (now : ℕ) (cut : Bool) (old older new : ℕ → Mail) (calls : List Call) → ((k : ℕ) → old k ≡ older k) → ReportsPartUntil now cut old calls new → ReportsPartUntil now cut older calls new
+reports_until_from now cut old older new calls same p = record {
+  dropped = p.dropped;
+  only_cut = p.only_cut;
+  senders = p.senders;
+  of_senders = p.of_senders;
+  parts = mail_parts_from p.senders old older new p.of_senders same p.parts;
+  later = λ k far. p.later k far ∙ same k;
+  made = p.made;
+}
+
+items_kept : (n : ℕ) (old new newer : ℕ → Side) (closes : Bool) (calls : List Call) → ((k : ℕ) → newer k ≡ new k) → ItemsPart n old closes calls new → ItemsPart n old closes calls newer
+items_kept n old new newer closes calls same p = record {
+  of_senders = p.of_senders;
+  parts = parts_kept n old new newer p.of_senders (λ k near. same k) p.parts;
+  made = p.made;
+}
+
+-- ---- what calls on the core leave
+
+pub lanes_then : (a b c : Exchange) → SameLanes a b → SameLanes b c → SameLanes a c
+lanes_then a b c p q = record { lanes = q.lanes ∙ p.lanes; limits = q.limits ∙ p.limits; senders = q.senders ∙ p.senders }
+
+core_lanes : (a b : Exchange) → OnlyCore a b → SameLanes a b
+core_lanes a b h = same_lanes a b h.intake (ap length h.items)
+
+core_sides : (a b : Exchange) → OnlyCore a b → (k : ℕ) → side_of b k ≡ side_of a k
+core_sides a b h k = (of_core (suc k) a b h).others k (λ same. omega (arith, same))
+
+core_mail : (a b : Exchange) → OnlyCore a b → (k : ℕ) → mail_of b k ≡ mail_of a k
+core_mail a b h k = (of_core k a b h).mail k
+
+idle_then : (a b : Exchange) → ((k : ℕ) → side_of b k ≡ side_of a k) → SameLanes a b → intake_view b.intake ≡ intake_view a.intake → AreIdle a → AreIdle b
+idle_then a b sides lanes view h k near = idle_still k a b (sides k) lanes.lanes view (h k (omega (arith, near, lanes.senders)))
+
+-- ---- a turn
+
+module _ (now : ℕ) (x a b c d : Exchange) (idle : Bool) (ticked : Ticked) (takes : TakesAndCloses x a idle) (same_mail : SameMail x a) (same_lanes_taken : SameLanes x a)
+    (ticks : Runs a (Tick now ticked ∷ []) b) (tick_only : OnlyCore a b) (talk_only : OnlyCore b c) (mails : OnlyMails c d) where
+  sides : (k : ℕ) → side_of d k ≡ side_of a k
+  sides k = mails.sides k ∙ core_sides b c talk_only k ∙ core_sides a b tick_only k
+
+  mail_before : (k : ℕ) → mail_of c k ≡ mail_of x k
+  mail_before k = core_mail b c talk_only k ∙ core_mail a b tick_only k ∙ same_mail k
+
+  pub lanes_all : SameLanes x d
+  lanes_all = lanes_then x a d same_lanes_taken (lanes_then a b d (core_lanes a b tick_only) (lanes_then b c d (core_lanes b c talk_only) mails.lanes))
+
+  view_all : intake_view d.intake ≡ intake_view a.intake
+  view_all = mails.view ∙ ap intake_view talk_only.intake ∙ ap intake_view tick_only.intake
+
+  senders_before : senders_of c ≡ senders_of x
+  senders_before = ap length talk_only.items ∙ ap length tick_only.items ∙ same_lanes_taken.senders
+
+  pub idle_all : AreIdle a → AreIdle d
+  idle_all h = idle_then a d sides (lanes_then a b d (core_lanes a b tick_only) (lanes_then b c d (core_lanes b c talk_only) mails.lanes)) view_all h
+
+  pub idle_talked : AreIdle a → AreIdle c
+  idle_talked h = idle_then a c (λ k. core_sides b c talk_only k ∙ core_sides a b tick_only k) (lanes_then a b c (core_lanes a b tick_only) (core_lanes b c talk_only))
+      (ap intake_view talk_only.intake ∙ ap intake_view tick_only.intake) h
+
+  closed_all : d.closed ≡ (x.closed || takes.closes)
+  closed_all = mails.closed ∙ talk_only.closed ∙ tick_only.closed ∙ takes.closed
+
+  only_all : IsTrue takes.closes → (x.closed ≡ false) × IsQuiet d × AreIdle d
+  only_all so = let p = takes.only so in (p.0, ap (λ v. v.knows_quiet) view_all ∙ p.1, idle_all p.2)
+
+  pub items_all : ItemsPart (senders_of x) (side_of x) takes.closes takes.calls (side_of d)
+  items_all = items_kept (senders_of x) (side_of x) (side_of a) (side_of d) takes.closes takes.calls sides takes.part
+
+  pub runs_ticked : Runs x (takes.calls ++ (Tick now ticked ∷ [])) b
+  runs_ticked = runs_then x a b takes.calls (Tick now ticked ∷ []) takes.runs ticks
+
+  pub runs_talked : (calls : List Call) → Runs b calls c → Runs x (takes.calls ++ (Tick now ticked ∷ []) ++ calls) c
+  runs_talked calls talk = runs_then x b c (takes.calls ++ (Tick now ticked ∷ [])) calls runs_ticked talk
+
+  pub runs_all : (calls reports : List Call) → Runs b calls c → Runs c reports d → Runs x (takes.calls ++ (Tick now ticked ∷ []) ++ calls ++ reports) d
+  runs_all calls reports talk finish =
+      runs_then x c d (takes.calls ++ (Tick now ticked ∷ []) ++ calls) reports (runs_talked calls talk) finish
+
+  reports_all : (cut : Bool) (reports : List Call) → ReportsPart (senders_of c) now cut (mail_of c) reports (mail_of d) → ReportsPart (senders_of x) now cut (mail_of x) reports (mail_of d)
+  reports_all cut reports p = subst (λ (n : ℕ). ReportsPart n now cut (mail_of x) reports (mail_of d)) senders_before
+      (reports_from now (senders_of c) cut (mail_of c) (mail_of x) (mail_of d) reports mail_before p)
+
+  module _ {S : Type 0} (answers : Told S) (w v : Wired S) where
+    -- the connection goes on
+    pub turned_on : (done : Bool) → ticked.reconnect ≡ false → TalksOn answers now b w c v → FinishesAll now None c idle done d → TurnsOn answers now x w d v
+    turned_on done on_time p f = record {
+      sent = p.sent;
+      heard = p.heard;
+      calls = takes.calls ++ (Tick now ticked ∷ []) ++ (p.asked ++ p.replied) ++ f.calls;
+      xs = p.xs;
+      turn = record {
+        closes = takes.closes;
+        ticked = ticked;
+        items = takes.calls;
+        tick = Tick now ticked ∷ [];
+        asked = p.asked;
+        replied = p.replied;
+        reports = f.calls;
+        of_items = items_all;
+        of_tick = refl;
+        of_requests = p.of_requests;
+        of_replies = p.of_replies;
+        of_reports = reports_all false f.calls f.part;
+        made = refl;
+        late = (λ so. absurd (not_both ticked.reconnect on_time so), λ some. absurd (none_some some));
+        nothing_tried = λ some. absurd (none_some some);
+        closed = closed_all;
+        only = only_all;
+        moved = f.moved;
+      };
+      runs = runs_all (p.asked ++ p.replied) f.calls p.talks.runs f.runs;
+      lanes = lanes_all;
+      goes = p.talks.goes;
+      waits = p.waits;
+      sound = p.sound;
+    }
+      where
+        not_both : (late : Bool) → late ≡ false → IsTrue late → ⊥
+        not_both late is so = cc
+
+    late_cut : (cause : Cause) (held : List ℕ) (xs : List Answer) (heard : List Heard) (refused : Option (List ℕ × FrameFault)) (calls : List Call) → CutFor ticked.reconnect held xs heard refused calls cause
+        → (IsTrue ticked.reconnect → Some cause ≡ Some TimedOut) × (Some cause ≡ Some TimedOut → IsTrue ticked.reconnect) × (Some cause ≡ Some TimedOut → calls ≡ [])
+    late_cut Io held xs heard refused calls h = (λ so. absurd (not_late ticked.reconnect h.0 so), λ is. absurd (other is), λ is. absurd (other is))
+      where
+        other : Some Io ≡ Some TimedOut → ⊥
+        other is = cc
+
+        not_late : (late : Bool) → late ≡ false → IsTrue late → ⊥
+        not_late late is so = cc
+    late_cut TimedOut held xs heard refused calls h = (λ so. refl, λ is. late_is ticked.reconnect h.0, λ is. h.2)
+      where
+        late_is : (late : Bool) → late ≡ true → IsTrue late
+        late_is late is = is
+    late_cut (BadReply fault) held xs heard refused calls h = (λ so. absurd (not_late ticked.reconnect h.0 so), λ is. absurd (other is), λ is. absurd (other is))
+      where
+        other : Some (BadReply fault) ≡ Some TimedOut → ⊥
+        other is = cc
+
+        not_late : (late : Bool) → late ≡ false → IsTrue late → ⊥
+        not_late late is so = cc
+
+    -- the connection is of no use any more
+    pub turned_cut : (done : Bool) (cause : Cause) → TalksCut answers now ticked.reconnect b w cause c v → FinishesAll now (Some cause) c idle done d → TurnsCut answers now x w cause d v
+    turned_cut done cause p f =
+        let l = late_cut cause w.held p.xs p.heard p.refused (p.asked ++ p.replied) p.cut in record {
+          sent = p.sent;
+          heard = p.heard;
+          refused = p.refused;
+          calls = takes.calls ++ (Tick now ticked ∷ []) ++ (p.asked ++ p.replied) ++ f.calls;
+          xs = p.xs;
+          turn = record {
+            closes = takes.closes;
+            ticked = ticked;
+            items = takes.calls;
+            tick = Tick now ticked ∷ [];
+            asked = p.asked;
+            replied = p.replied;
+            reports = f.calls;
+            of_items = items_all;
+            of_tick = refl;
+            of_requests = p.of_requests;
+            of_replies = p.of_replies;
+            of_reports = reports_all true f.calls f.part;
+            made = refl;
+            late = (l.0, l.1);
+            nothing_tried = l.2;
+            closed = closed_all;
+            only = only_all;
+            moved = f.moved;
+          };
+          runs = runs_all (p.asked ++ p.replied) f.calls p.talks.runs f.runs;
+          lanes = lanes_all;
+          stops = p.talks.stops;
+          cut = p.cut;
+        }
+
+    -- what a turn answers, by its end
+    pub turned : (done : Bool) (cut : Option Cause) → TalksAll answers now ticked.reconnect b w (Ok cut) c v → FinishesAll now cut c idle done d → Turns answers now x w (stop_of done cut) d v
+    turned true None p f = (ended f.done, inl (turned_on true p.0 p.1 f))
+      where
+        ended : (IsTrue true → IsTrue idle × (AreIdle c → IsDone d)) → IsDone d
+        ended h = (h refl).1 (idle_talked (takes.found (h refl).0))
+    turned true (Some cause) p f = (ended f.done, inr (cause, turned_cut true cause p f))
+      where
+        ended : (IsTrue true → IsTrue idle × (AreIdle c → IsDone d)) → IsDone d
+        ended h = (h refl).1 (idle_talked (takes.found (h refl).0))
+    turned false None p f = turned_on false p.0 p.1 f
+    turned false (Some cause) p f = turned_cut false cause p f
+
+    -- memory was refused in the last part
+    until_reports : (cut : Bool) (sent : List Outgoing) (heard : List Heard) (refused : Option (List ℕ × FrameFault)) (asked replied reports : List Call)
+        → RequestsPart now sent asked → RepliesPart now heard refused replied → ReportsPartUntil now cut (mail_of c) reports (mail_of d)
+        → TurnUntil now x d sent heard (takes.calls ++ (Tick now ticked ∷ []) ++ (asked ++ replied) ++ reports)
+    until_reports cut sent heard refused asked replied reports p q r =
+        TurnUntil.in_reports takes.closes ticked takes.calls (Tick now ticked ∷ []) asked replied reports sent heard refused cut items_all refl p q
+        (reports_until_from now cut (mail_of c) (mail_of x) (mail_of d) reports mail_before r)
+
+    pub out_in_reports : (cut : Option Cause) → TalksAll answers now ticked.reconnect b w (Ok cut) c v → FinishesUntil now cut c d → TurnsOut answers now x w d v
+    out_in_reports None p f =
+        let t = p.1 in record {
+          sent = t.sent;
+          heard = t.heard;
+          calls = takes.calls ++ (Tick now ticked ∷ []) ++ (t.asked ++ t.replied) ++ f.calls;
+          xs = t.xs;
+          turn = until_reports false t.sent t.heard None t.asked t.replied f.calls t.of_requests t.of_replies f.part;
+          runs = runs_all (t.asked ++ t.replied) f.calls t.talks.runs f.runs;
+          lanes = lanes_all;
+          stops = Goes-stops answers w v (frames_of t.sent) (contents_of t.heard) t.xs t.talks.goes;
+        }
+    out_in_reports (Some cause) t f = record {
+      sent = t.sent;
+      heard = t.heard;
+      calls = takes.calls ++ (Tick now ticked ∷ []) ++ (t.asked ++ t.replied) ++ f.calls;
+      xs = t.xs;
+      turn = until_reports true t.sent t.heard t.refused t.asked t.replied f.calls t.of_requests t.of_replies f.part;
+      runs = runs_all (t.asked ++ t.replied) f.calls t.talks.runs f.runs;
+      lanes = lanes_all;
+      stops = t.talks.stops;
+    }
+
+-- ---- until memory was refused, before the last part
+
+module _ {S : Type 0} (answers : Told S) (nothing : (s : S) → answers s [] s) (now : ℕ) (x a : Exchange) (w : Wired S) (same_mail : SameMail x a) (same_lanes_taken : SameLanes x a) where
+  nothing_stops : Stops answers w [] [] [] w
+  nothing_stops = Goes-stops answers w w [] [] [] (Goes-nothing answers nothing w)
+
+  pub out_in_items : TakesUntil x a → TurnsOut answers now x w a w
+  out_in_items p = record {
+    sent = [];
+    heard = [];
+    calls = p.calls;
+    xs = [];
+    turn = TurnUntil.in_items p.calls p.part same_mail;
+    runs = p.runs;
+    lanes = same_lanes_taken;
+    stops = nothing_stops;
+  }
+
+  module _ (idle : Bool) (takes : TakesAndCloses x a idle) (b : Exchange) (tick_only : OnlyCore a b) where
+    pub out_before_the_tick : Runs a [] b → TurnsOut answers now x w b w
+    out_before_the_tick runs = record {
+      sent = [];
+      heard = [];
+      calls = takes.calls;
+      xs = [];
+      turn = TurnUntil.before_the_tick takes.closes takes.calls
+          (items_kept (senders_of x) (side_of x) (side_of a) (side_of b) takes.closes takes.calls (core_sides a b tick_only) takes.part)
+          (λ k. core_mail a b tick_only k ∙ same_mail k);
+      runs = subst (λ (calls : List Call). Runs x calls b) (append-nil takes.calls) (runs_then x a b takes.calls [] takes.runs runs);
+      lanes = lanes_then x a b same_lanes_taken (core_lanes a b tick_only);
+      stops = nothing_stops;
+    }
+
+    pub out_in_talk : (ticked : Ticked) (c : Exchange) (v : Wired S) → Runs a (Tick now ticked ∷ []) b → TalksOut answers now b w c v → TurnsOut answers now x w c v
+    out_in_talk ticked c v ticks p = record {
+      sent = p.sent;
+      heard = p.heard;
+      calls = takes.calls ++ (Tick now ticked ∷ []) ++ p.calls;
+      xs = p.xs;
+      turn = TurnUntil.in_talk takes.closes ticked takes.calls (Tick now ticked ∷ []) p.calls p.sent p.heard
+          (items_kept (senders_of x) (side_of x) (side_of a) (side_of c) takes.closes takes.calls (λ k. core_sides b c p.talks.only k ∙ core_sides a b tick_only k) takes.part)
+          refl p.until
+          (λ k. core_mail b c p.talks.only k ∙ core_mail a b tick_only k ∙ same_mail k);
+      runs = runs_then x b c (takes.calls ++ (Tick now ticked ∷ [])) p.calls (runs_then x a b takes.calls (Tick now ticked ∷ []) takes.runs ticks) p.talks.runs;
+      lanes = lanes_then x a c same_lanes_taken (lanes_then a b c (core_lanes a b tick_only) (core_lanes b c p.talks.only));
+      stops = p.talks.stops;
+    }

@@ -1,0 +1,80 @@
+//! One turn: the core, the lanes and the connection.
+
+ghost use Rattle.std.specs.Prelude.{◌≡◌, None, false, IfOk};
+ghost use Rattle.futures.specs.Poll.{OnPending};
+ghost use Rattle.futures.specs.Task.{Covers, Keeps};
+ghost use Rattle.kp_frames.specs.Stream.{is_faulty};
+ghost use Rattle.kp_engine.specs.Polls.{TalksAll, Turns, stop_of};
+
+mod ending;
+mod hearing;
+mod writing;
+
+use crate::exchange::Exchange;
+use crate::stop::{Cause, Stop};
+use futures::task::{Context, Poll};
+use kp_connection::{Stream, Wire};
+use std::alloc::AllocError;
+
+/// One turn at this moment: items, and the close; the tick; requests; replies; reports.
+pub(crate) fn turn<S: Stream>(
+    exchange: &mut Exchange,
+    wire: &mut Wire<S>,
+    cx: &mut Context<'_>,
+    now: u64,
+) -> Poll<Stop>
+    requires { is_faulty wire.old.held ≡ false }
+    ensures turns { Turns S.answers now exchange.old wire.old result exchange.new wire.new }
+    ensures registered { OnPending result (Covers cx.new (S.reader wire.new.stream)) }
+    ensures kept { Keeps cx.old cx.new }
+{
+    let Ok(idle) = exchange.take_items() else {
+        return Poll::Ready(Stop::OutOfMemory);
+    };
+    let Ok(ticked) = exchange.tick(now) else {
+        return Poll::Ready(Stop::OutOfMemory);
+    };
+    let Ok(cut) = talk(exchange, wire, cx, now, ticked.reconnect) else {
+        return Poll::Ready(Stop::OutOfMemory);
+    };
+    let Ok(done) = ending::finish(exchange, cut, idle, now) else {
+        return Poll::Ready(Stop::OutOfMemory);
+    };
+    stop_of(done, cut)
+}
+
+/// Requests and replies, unless a request has waited too long. Why the connection is of no use any more.
+fn talk<S: Stream>(
+    exchange: &mut Exchange,
+    wire: &mut Wire<S>,
+    cx: &mut Context<'_>,
+    now: u64,
+    late: bool,
+) -> Result<Option<Cause>, AllocError>
+    requires { is_faulty wire.old.held ≡ false }
+    ensures talks { TalksAll S.answers now late exchange.old wire.old result exchange.new wire.new }
+    ensures registered { IfOk result (λ cut. cut ≡ None → Covers cx.new (S.reader wire.new.stream)) }
+    ensures kept { Keeps cx.old cx.new }
+{
+    if late {
+        return Ok(Some(Cause::TimedOut));
+    }
+    match writing::write_requests(exchange, wire, cx, now) {
+        Err(refused) => Err(refused),
+        Ok(false) => Ok(Some(Cause::Io)),
+        Ok(true) => hearing::listen(exchange, wire, cx, now),
+    }
+}
+
+/// What a turn answers.
+fn stop_of(done: bool, cut: Option<Cause>) -> Poll<Stop>
+    ensures { result ≡ stop_of done cut }
+{
+    if done {
+        return Poll::Ready(Stop::Done);
+    }
+    match cut {
+        Some(cause) => Poll::Ready(Stop::NeedStream(cause)),
+        None => Poll::Pending,
+    }
+}
