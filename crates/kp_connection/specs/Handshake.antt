@@ -81,12 +81,6 @@ Hears topic Opening heard Metadata = heard ≡ []
 Hears topic Metadata heard Opening = ⊥
 Hears topic Metadata heard Metadata = heard ≡ []
 
--- what is asked from this stage on before a producer id is
-abbrev pub asked_first : Names → Stage → List (List ℕ)
-asked_first names Opening = frame_of (metadata_request names) ∷ []
-asked_first names Metadata = []
-asked_first names (ProducerId n) = []
-
 -- Up to some answer of the stream's just what was kept and these frames were written, and just what is heard was read.
 pub record Turns {S : Type 0} (old : Wired S) (first heard : List (List ℕ)) (xs : List Answer) : Type 0 where
   pub until : List Answer
@@ -97,8 +91,8 @@ pub record Turns {S : Type 0} (old : Wired S) (first heard : List (List ℕ)) (x
 
 -- A producer id is asked for in its turn: not before the answer to Metadata was read.
 abbrev pub InTurn : {S : Type 0} → Names → Stage → Wired S → List (List ℕ) → List Answer → Stage → Type 0
-InTurn names Opening old heard xs (ProducerId n) = Turns old (asked_first names Opening) heard xs
-InTurn names Metadata old heard xs (ProducerId n) = Turns old (asked_first names Metadata) heard xs
+InTurn names Opening old heard xs (ProducerId n) = Turns old (frame_of (metadata_request names) ∷ []) heard xs
+InTurn names Metadata old heard xs (ProducerId n) = Turns old [] heard xs
 InTurn names stage old heard xs new = Unit {0}
 
 -- From old it came to this stage: the requests that are asked until then were handed to write, each once and in its turn,
