@@ -55,13 +55,27 @@ fn ask(broker: &mut Broker, content: &[u8]) -> Result<Vec<u8>, BrokerFault> {
     broker.answer(content)
 }
 
-/// What the broker answers to the content that these digits spell.
-fn answer(alloc: Global, broker: &mut Broker, content: &str) -> Result<Vec<u8>, Fail> {
-    let content = bytes_of(alloc, content)?;
-    Ok(ask(broker, &content)?)
+/// The digits of what the broker answers.
+fn answer(alloc: Global, broker: &mut Broker, content: &[u8]) -> Result<String, Fail> {
+    let frame = ask(broker, content)?;
+    Ok(encode(alloc, frame.as_slice())?)
 }
 
-/// Asserts that the broker answers this content with this frame.
+/// Asserts that the broker answers this content with the frame that these digits spell.
+fn assert_asked(
+    rt: &impl Abort,
+    alloc: Global,
+    broker: &mut Broker,
+    content: &[u8],
+    frame: &str,
+) -> Result<(), Fail> {
+    let told = answer(alloc, broker, content)?;
+    let wanted = joined(alloc, frame)?;
+    assert_eq!(rt; told.as_str(), wanted.as_str());
+    Ok(())
+}
+
+/// The same of the content that these digits spell.
 fn assert_answer(
     rt: &impl Abort,
     alloc: Global,
@@ -69,10 +83,8 @@ fn assert_answer(
     content: &str,
     frame: &str,
 ) -> Result<(), Fail> {
-    let told = encode(alloc, answer(alloc, broker, content)?.as_slice())?;
-    let wanted = joined(alloc, frame)?;
-    assert_eq!(rt; told.as_str(), wanted.as_str());
-    Ok(())
+    let content = bytes_of(alloc, content)?;
+    assert_asked(rt, alloc, broker, &content, frame)
 }
 
 /// A record without key and headers.
@@ -106,12 +118,20 @@ fn value_at(broker: &Broker, partition: u32, offset: u64) -> Option<&[u8]> {
     Some(stored.body.value.as_ref()?.as_slice())
 }
 
+/// Whether a partition has a record of this value at an offset.
+fn has_value(broker: &Broker, partition: u32, offset: u64, value: &[u8]) -> bool {
+    match value_at(broker, partition, offset) {
+        Some(held) => held == value,
+        None => false,
+    }
+}
+
 /// How many records a partition has.
 fn len_of(broker: &Broker, partition: u32) -> Option<u64> {
     Some(broker.log(partition)?.len())
 }
 
-/// The fault of a content that is not answered.
-fn fault_of(broker: &mut Broker, content: &[u8]) -> Option<BrokerFault> {
-    ask(broker, content).err()
+/// Asserts that a partition is there and has so many records.
+fn assert_len(rt: &impl Abort, broker: &Broker, partition: u32, len: u64) {
+    assert_eq!(rt; len_of(broker, partition), Some(len));
 }

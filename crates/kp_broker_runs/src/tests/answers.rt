@@ -1,13 +1,16 @@
 //! What a broker answers to Produce requests.
 
-use crate::tests::{PRODUCE, ask, assert_answer, batch_of, broker_of, bytes_of, len_of, value_at};
+use crate::tests::{
+    PRODUCE, ask, assert_answer, assert_asked, assert_len, batch_of, broker_of, has_value, len_of,
+};
 use kp_broker::Broker;
 use kp_frames::{
-    Api, PartitionProduceData, ProduceRequest, Request, RequestBody, ResponseBody,
-    TopicProduceData, read_response, write_request,
+    Api, PartitionProduceData, ProduceRequest, ProduceResponse, Request, RequestBody, Response,
+    ResponseBody, TopicProduceData, read_response, write_request,
 };
 use kp_wire::{Blob, Seq, Text};
-use std::alloc::Global;
+use std::alloc::{AllocError, Global};
+use std::process::Abort;
 use std::test::Fail;
 
 /// The answer to the batch of the other tests' Produce request.
@@ -68,17 +71,24 @@ fn request_of(
     Ok(write_request(alloc, &request)?)
 }
 
-/// Of each entry of the answer the partition, the code and the base offset.
-fn entries(
-    alloc: Global,
-    broker: &mut Broker,
-    request: &[u8],
-) -> Result<Vec<(i32, i16, i64)>, Fail> {
-    let frame = ask(broker, request.get(4..).unwrap_or(&[]))?;
-    let response = read_response(alloc, Api::Produce, frame.get(4..).unwrap_or(&[]))?;
-    let ResponseBody::Produce(answer) = &response.body else {
-        return Err("an answer to Produce".into());
-    };
+/// A request for topic "t" without a transactional id.
+fn request_for(alloc: Global, acks: i16, parts: &[(i32, i32, &[u8])]) -> Result<Vec<u8>, Fail> {
+    let parts = parts_of(alloc, parts)?;
+    request_of(alloc, None, acks, one_topic(alloc, "t", parts)?)
+}
+
+/// What a frame holds behind its size.
+fn content_of(frame: &[u8]) -> &[u8] {
+    frame.get(4..).unwrap_or(&[])
+}
+
+fn response_to(alloc: Global, broker: &mut Broker, request: &[u8]) -> Result<Response, Fail> {
+    let frame = ask(broker, content_of(request))?;
+    Ok(read_response(alloc, Api::Produce, content_of(&frame))?)
+}
+
+/// Of each entry of an answer the partition, the code and the base offset.
+fn entries_of(alloc: Global, answer: &ProduceResponse) -> Result<Vec<(i32, i16, i64)>, AllocError> {
     let mut entries = Vec::new(alloc);
     for topic in answer.topics.as_slice() {
         for entry in topic.partitions.as_slice() {
@@ -88,13 +98,41 @@ fn entries(
     Ok(entries)
 }
 
+/// The same of the broker's answer.
+fn entries(
+    alloc: Global,
+    broker: &mut Broker,
+    request: &[u8],
+) -> Result<Vec<(i32, i16, i64)>, Fail> {
+    let response = response_to(alloc, broker, request)?;
+    match &response.body {
+        ResponseBody::Produce(answer) => Ok(entries_of(alloc, answer)?),
+        _ => Err("an answer to Produce".into()),
+    }
+}
+
+/// Asserts that a request is answered with these entries, and that partition 0 then has so many records.
+fn assert_told(
+    rt: &impl Abort,
+    alloc: Global,
+    broker: &mut Broker,
+    request: &[u8],
+    wanted: &[(i32, i16, i64)],
+    len: u64,
+) -> Result<(), Fail> {
+    let told = entries(alloc, broker, request)?;
+    assert_eq!(rt; told.as_slice(), wanted);
+    assert_len(rt, broker, 0, len);
+    Ok(())
+}
+
 #[test]
 fn a_batch_is_appended(rt: HostRuntime) -> Result<(), Fail> {
     let mut broker = broker_of(rt.alloc(), 1)?;
     assert_answer(&rt, rt.alloc(), &mut broker, PRODUCE, APPENDED)?;
-    assert_eq!(rt; len_of(&broker, 0), Some(1));
-    assert_eq!(rt; value_at(&broker, 0, 0).ok_or("a record")?, b"a".as_slice());
-    assert_eq!(rt; len_of(&broker, 1), None);
+    assert_len(&rt, &broker, 0, 1);
+    assert!(rt; has_value(&broker, 0, 0, b"a"));
+    assert!(rt; len_of(&broker, 1).is_none());
     Ok(())
 }
 
@@ -103,94 +141,89 @@ fn a_batch_that_comes_again_is_appended_once(rt: HostRuntime) -> Result<(), Fail
     let mut broker = broker_of(rt.alloc(), 1)?;
     assert_answer(&rt, rt.alloc(), &mut broker, PRODUCE, APPENDED)?;
     assert_answer(&rt, rt.alloc(), &mut broker, PRODUCE, APPENDED)?;
-    assert_eq!(rt; len_of(&broker, 0), Some(1));
+    assert_len(&rt, &broker, 0, 1);
     Ok(())
 }
 
 #[test]
 fn each_partition_of_a_request_has_its_own_log(rt: HostRuntime) -> Result<(), Fail> {
-    let alloc = rt.alloc();
-    let mut broker = broker_of(alloc, 2)?;
-    let parts = parts_of(alloc, &[(0, 0, b"a"), (1, 0, b"b")])?;
-    let request = request_of(alloc, None, -1, one_topic(alloc, "t", parts)?)?;
-    let frame = ask(&mut broker, request.get(4..).unwrap_or(&[]))?;
-    let wanted = bytes_of(
-        alloc,
+    let mut broker = broker_of(rt.alloc(), 2)?;
+    let request = request_for(rt.alloc(), -1, &[(0, 0, b"a"), (1, 0, b"b")])?;
+    assert_asked(
+        &rt,
+        rt.alloc(),
+        &mut broker,
+        content_of(&request),
         "0000003f 00000002 00000001 0001 74 00000002 00000000 0000 0000000000000000 ffffffffffffffff \
          00000001 0000 0000000000000000 ffffffffffffffff 00000000",
     )?;
-    assert_eq!(rt; frame.as_slice(), wanted.as_slice());
-    assert_eq!(rt; value_at(&broker, 0, 0).ok_or("a record")?, b"a".as_slice());
-    assert_eq!(rt; value_at(&broker, 1, 0).ok_or("a record")?, b"b".as_slice());
+    assert!(rt; has_value(&broker, 0, 0, b"a"));
+    assert!(rt; has_value(&broker, 1, 0, b"b"));
     Ok(())
 }
 
 #[test]
 fn a_partition_that_stands_twice_takes_both_batches_in_order(rt: HostRuntime) -> Result<(), Fail> {
-    let alloc = rt.alloc();
-    let mut broker = broker_of(alloc, 1)?;
-    let parts = parts_of(alloc, &[(0, 0, b"a"), (0, 1, b"b")])?;
-    let request = request_of(alloc, None, -1, one_topic(alloc, "t", parts)?)?;
-    let told = entries(alloc, &mut broker, &request)?;
-    assert_eq!(rt; told.as_slice(), [(0, 0, 0), (0, 0, 1)].as_slice());
-    assert_eq!(rt; len_of(&broker, 0), Some(2));
-    Ok(())
+    let mut broker = broker_of(rt.alloc(), 1)?;
+    let request = request_for(rt.alloc(), -1, &[(0, 0, b"a"), (0, 1, b"b")])?;
+    let told = [(0, 0, 0), (0, 0, 1)];
+    assert_told(&rt, rt.alloc(), &mut broker, &request, &told, 2)
+}
+
+/// Three parts of topic "t" behind one of topic "u".
+fn request_for_two_topics(alloc: Global) -> Result<Vec<u8>, Fail> {
+    let mut topics = one_topic(alloc, "u", parts_of(alloc, &[(0, 0, b"a")])?)?;
+    let parts = parts_of(alloc, &[(2, 0, b"a"), (1, 0, b"b"), (-1, 0, b"c")])?;
+    topics.push(topic_of(alloc, "t", parts)?)?;
+    request_of(alloc, None, -1, topics)
 }
 
 #[test]
 fn what_is_not_there_is_told_and_the_rest_appended(rt: HostRuntime) -> Result<(), Fail> {
-    let alloc = rt.alloc();
-    let mut broker = broker_of(alloc, 2)?;
-    let mut topics = one_topic(alloc, "u", parts_of(alloc, &[(0, 0, b"a")])?)?;
-    let parts = parts_of(alloc, &[(2, 0, b"a"), (1, 0, b"b"), (-1, 0, b"c")])?;
-    topics.push(topic_of(alloc, "t", parts)?)?;
-    let request = request_of(alloc, None, -1, topics)?;
-    let told = entries(alloc, &mut broker, &request)?;
-    assert_eq!(rt;
-        told.as_slice(),
-        [(0, 3, -1), (2, 3, -1), (1, 0, 0), (-1, 3, -1)].as_slice()
-    );
-    assert_eq!(rt; len_of(&broker, 0), Some(0));
-    assert_eq!(rt; value_at(&broker, 1, 0).ok_or("a record")?, b"b".as_slice());
+    let mut broker = broker_of(rt.alloc(), 2)?;
+    let request = request_for_two_topics(rt.alloc())?;
+    let told = [(0, 3, -1), (2, 3, -1), (1, 0, 0), (-1, 3, -1)];
+    assert_told(&rt, rt.alloc(), &mut broker, &request, &told, 0)?;
+    assert!(rt; has_value(&broker, 1, 0, b"b"));
     Ok(())
 }
 
 #[test]
 fn other_acks_are_refused_for_each_partition(rt: HostRuntime) -> Result<(), Fail> {
-    let alloc = rt.alloc();
-    let mut broker = broker_of(alloc, 1)?;
+    let mut broker = broker_of(rt.alloc(), 1)?;
+    let request = request_for(rt.alloc(), 1, &[(0, 0, b"a"), (1, 0, b"b")])?;
+    let told = [(0, 42, -1), (1, 42, -1)];
+    assert_told(&rt, rt.alloc(), &mut broker, &request, &told, 0)
+}
+
+/// The request with the transactional id "x".
+fn transactional_request(alloc: Global) -> Result<Vec<u8>, Fail> {
     let parts = parts_of(alloc, &[(0, 0, b"a"), (1, 0, b"b")])?;
-    let request = request_of(alloc, None, 1, one_topic(alloc, "t", parts)?)?;
-    let told = entries(alloc, &mut broker, &request)?;
-    assert_eq!(rt; told.as_slice(), [(0, 42, -1), (1, 42, -1)].as_slice());
-    assert_eq!(rt; len_of(&broker, 0), Some(0));
-    Ok(())
+    let name = Text::from_str(alloc, "x")?;
+    request_of(alloc, Some(name), -1, one_topic(alloc, "t", parts)?)
 }
 
 #[test]
 fn a_transactional_id_is_refused_for_each_partition(rt: HostRuntime) -> Result<(), Fail> {
-    let alloc = rt.alloc();
-    let mut broker = broker_of(alloc, 1)?;
-    let parts = parts_of(alloc, &[(0, 0, b"a"), (1, 0, b"b")])?;
-    let name = Text::from_str(alloc, "x")?;
-    let request = request_of(alloc, Some(name), -1, one_topic(alloc, "t", parts)?)?;
-    let told = entries(alloc, &mut broker, &request)?;
-    assert_eq!(rt; told.as_slice(), [(0, 42, -1), (1, 42, -1)].as_slice());
-    assert_eq!(rt; len_of(&broker, 0), Some(0));
-    Ok(())
+    let mut broker = broker_of(rt.alloc(), 1)?;
+    let request = transactional_request(rt.alloc())?;
+    let told = [(0, 42, -1), (1, 42, -1)];
+    assert_told(&rt, rt.alloc(), &mut broker, &request, &told, 0)
 }
 
-#[test]
-fn bytes_that_are_no_batch_are_corrupt(rt: HostRuntime) -> Result<(), Fail> {
-    let alloc = rt.alloc();
-    let mut broker = broker_of(alloc, 1)?;
+/// A request whose records are no batch.
+fn request_without_a_batch(alloc: Global) -> Result<Vec<u8>, Fail> {
     let mut parts = Vec::new(alloc);
     parts.push(PartitionProduceData {
         partition: 0,
         records: Blob::from_slice(alloc, b"no batch")?,
     })?;
-    let request = request_of(alloc, None, -1, one_topic(alloc, "t", parts)?)?;
-    let told = entries(alloc, &mut broker, &request)?;
-    assert_eq!(rt; told.as_slice(), [(0, 2, -1)].as_slice());
-    Ok(())
+    request_of(alloc, None, -1, one_topic(alloc, "t", parts)?)
+}
+
+#[test]
+fn bytes_that_are_no_batch_are_corrupt(rt: HostRuntime) -> Result<(), Fail> {
+    let mut broker = broker_of(rt.alloc(), 1)?;
+    let request = request_without_a_batch(rt.alloc())?;
+    assert_told(&rt, rt.alloc(), &mut broker, &request, &[(0, 2, -1)], 0)
 }

@@ -3,53 +3,64 @@
 use kp_broker::{Action, FaultPlan, PlanFault};
 use kp_log::ErrorCode;
 use std::alloc::Global;
+use std::process::Abort;
 use std::test::Fail;
 
 fn code_of(number: i16) -> Result<ErrorCode, Fail> {
     Ok(ErrorCode::new(number).ok_or("an error code")?)
 }
 
-/// The fault of a text that spells no plan.
-fn fault_of(alloc: Global, text: &str) -> Option<PlanFault> {
-    FaultPlan::parse(alloc, text).err()
+/// The plan that a text spells.
+fn parse(alloc: Global, text: &str) -> Result<FaultPlan, PlanFault> {
+    FaultPlan::parse(alloc, text)
+}
+
+/// Asserts that a text spells no plan.
+fn assert_bad(rt: &impl Abort, alloc: Global, text: &str) {
+    assert_eq!(rt;
+        parse(alloc, text).err(),
+        Some(PlanFault::BadPlan),
+        "{text}"
+    );
+}
+
+/// Asserts what a plan has for a number.
+fn assert_action(rt: &impl Abort, plan: &FaultPlan, number: u64, action: Option<Action>) {
+    assert_eq!(rt; plan.action(number), action);
 }
 
 #[test]
 fn each_entry_is_found_by_its_number(rt: HostRuntime) -> Result<(), Fail> {
     let text = "10=hang-up,0=late:7,1=drop-reply,2=repeat,3=refuse:99,4=drop-request,5=late:1";
-    let plan = FaultPlan::parse(rt.alloc(), text)?;
-    assert_eq!(rt; plan.action(0), Some(Action::Late(code_of(7)?)));
-    assert_eq!(rt; plan.action(1), Some(Action::DropReply));
-    assert_eq!(rt; plan.action(2), Some(Action::Repeat));
-    assert_eq!(rt; plan.action(3), Some(Action::Refuse(code_of(99)?)));
-    assert_eq!(rt; plan.action(4), Some(Action::DropRequest));
-    assert_eq!(rt; plan.action(5), Some(Action::Late(code_of(1)?)));
-    assert_eq!(rt; plan.action(6), None);
-    assert_eq!(rt; plan.action(10), Some(Action::HangUp));
+    let plan = parse(rt.alloc(), text)?;
+    assert_action(&rt, &plan, 0, Some(Action::Late(code_of(7)?)));
+    assert_action(&rt, &plan, 1, Some(Action::DropReply));
+    assert_action(&rt, &plan, 2, Some(Action::Repeat));
+    assert_action(&rt, &plan, 3, Some(Action::Refuse(code_of(99)?)));
+    assert_action(&rt, &plan, 4, Some(Action::DropRequest));
+    assert_action(&rt, &plan, 5, Some(Action::Late(code_of(1)?)));
+    assert_action(&rt, &plan, 6, None);
+    assert_action(&rt, &plan, 10, Some(Action::HangUp));
     Ok(())
 }
 
 #[test]
 fn nothing_is_planned_by_none(rt: HostRuntime) {
     let plan = FaultPlan::none(rt.alloc());
-    assert_eq!(rt; plan.action(0), None);
-    assert_eq!(rt; plan.action(u64::MAX), None);
+    assert_action(&rt, &plan, 0, None);
+    assert_action(&rt, &plan, u64::MAX, None);
 }
 
 #[test]
 fn the_greatest_number_is_the_last_before_u64_max(rt: HostRuntime) -> Result<(), Fail> {
-    let plan = FaultPlan::parse(rt.alloc(), "18446744073709551614=repeat")?;
-    assert_eq!(rt; plan.action(u64::MAX - 1), Some(Action::Repeat));
+    let plan = parse(rt.alloc(), "18446744073709551614=repeat")?;
+    assert_action(&rt, &plan, u64::MAX - 1, Some(Action::Repeat));
     for text in [
         "18446744073709551615=repeat",
         "18446744073709551616=repeat",
         "184467440737095516140=repeat",
     ] {
-        assert_eq!(rt;
-            fault_of(rt.alloc(), text),
-            Some(PlanFault::BadPlan),
-            "{text}"
-        );
+        assert_bad(&rt, rt.alloc(), text);
     }
     Ok(())
 }
@@ -57,11 +68,7 @@ fn the_greatest_number_is_the_last_before_u64_max(rt: HostRuntime) -> Result<(),
 #[test]
 fn a_number_comes_once(rt: HostRuntime) {
     for text in ["1=repeat,1=repeat", "1=repeat,2=repeat,1=hang-up"] {
-        assert_eq!(rt;
-            fault_of(rt.alloc(), text),
-            Some(PlanFault::BadPlan),
-            "{text}"
-        );
+        assert_bad(&rt, rt.alloc(), text);
     }
 }
 
@@ -78,11 +85,7 @@ fn a_number_has_one_form(rt: HostRuntime) {
         " 1=repeat",
         "1.0=repeat",
     ] {
-        assert_eq!(rt;
-            fault_of(rt.alloc(), text),
-            Some(PlanFault::BadPlan),
-            "{text}"
-        );
+        assert_bad(&rt, rt.alloc(), text);
     }
 }
 
@@ -103,11 +106,7 @@ fn a_code_is_from_1_to_99_and_not_46(rt: HostRuntime) {
         "1=late: 7",
         "1=refuse:65543",
     ] {
-        assert_eq!(rt;
-            fault_of(rt.alloc(), text),
-            Some(PlanFault::BadPlan),
-            "{text}"
-        );
+        assert_bad(&rt, rt.alloc(), text);
     }
 }
 
@@ -132,10 +131,6 @@ fn an_entry_is_a_number_and_an_action(rt: HostRuntime) {
         "1=hangup",
         "repeat=1",
     ] {
-        assert_eq!(rt;
-            fault_of(rt.alloc(), text),
-            Some(PlanFault::BadPlan),
-            "{text}"
-        );
+        assert_bad(&rt, rt.alloc(), text);
     }
 }

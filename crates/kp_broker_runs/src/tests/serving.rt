@@ -1,10 +1,11 @@
 //! Connections over memory, and some that fail.
 
-use crate::tests::{PRODUCE, broker_of, bytes_of, len_of};
+use crate::tests::{PRODUCE, assert_len, broker_of, bytes_of};
 use kp_broker::{Broker, BrokerFault, FaultPlan, Served};
 use kp_frames::FrameFault;
 use std::alloc::Global;
 use std::io::{self, ErrorKind, Read, Write};
+use std::process::Abort;
 use std::test::Fail;
 
 // ---- streams
@@ -37,7 +38,8 @@ fn frame_of(alloc: Global, correlation: u8, code: u8, base_offset: i64) -> Resul
 fn frames_of(alloc: Global, answers: &[(u8, u8, i64)]) -> Result<Vec<u8>, Fail> {
     let mut frames = Vec::new(alloc);
     for (correlation, code, base_offset) in answers {
-        frames.extend_from_slice(&frame_of(alloc, *correlation, *code, *base_offset)?)?;
+        let frame = frame_of(alloc, *correlation, *code, *base_offset)?;
+        frames.extend_from_slice(&frame)?;
     }
     Ok(frames)
 }
@@ -133,119 +135,148 @@ impl Write for Narrow {
     }
 }
 
-/// How a connection over these bytes ended, and what was written.
-fn serve(
+/// How a connection ended.
+fn serve<R: Read, W: Write>(
+    broker: &mut Broker,
+    reader: &mut R,
+    writer: &mut W,
+    plan: &FaultPlan,
+) -> Result<Served, BrokerFault> {
+    broker.serve(reader, writer, plan)
+}
+
+/// The same by no plan.
+fn serve_all<R: Read, W: Write>(
+    alloc: Global,
+    broker: &mut Broker,
+    reader: &mut R,
+    writer: &mut W,
+) -> Result<Served, BrokerFault> {
+    serve(broker, reader, writer, &FaultPlan::none(alloc))
+}
+
+/// Asserts how a connection over these bytes ends, and that the frames of these answers were written then.
+fn assert_served(
+    rt: &impl Abort,
     alloc: Global,
     broker: &mut Broker,
     mut input: &[u8],
     plan: &FaultPlan,
-) -> (Result<Served, BrokerFault>, Vec<u8>) {
+    ended: Result<Served, BrokerFault>,
+    answers: &[(u8, u8, i64)],
+) -> Result<(), Fail> {
     let mut output = Vec::new(alloc);
-    let ended = broker.serve(&mut input, &mut output, plan);
-    (ended, output)
+    let served = serve(broker, &mut input, &mut output, plan);
+    let wanted = frames_of(alloc, answers)?;
+    assert_eq!(rt; served, ended);
+    assert_eq!(rt; output.as_slice(), wanted.as_slice());
+    Ok(())
 }
 
-/// The same by the text of a plan, on a new broker; also how many records partition 0 has then.
-fn serve_new(
+/// The same by the text of a plan, on a new broker, which then has so many records.
+fn assert_ended(
+    rt: &impl Abort,
     alloc: Global,
     input: &[u8],
     plan: &str,
-) -> Result<(Result<Served, BrokerFault>, Vec<u8>, Option<u64>), Fail> {
+    ended: Result<Served, BrokerFault>,
+    answers: &[(u8, u8, i64)],
+    len: u64,
+) -> Result<(), Fail> {
     let mut broker = broker_of(alloc, 1)?;
     let plan = FaultPlan::parse(alloc, plan)?;
-    let (ended, output) = serve(alloc, &mut broker, input, &plan);
-    Ok((ended, output, len_of(&broker, 0)))
+    assert_served(rt, alloc, &mut broker, input, &plan, ended, answers)?;
+    assert_len(rt, &broker, 0, len);
+    Ok(())
 }
 
 // ---- plans
 
 #[test]
 fn a_plan_alters_the_answers_of_the_requests_that_it_names(rt: HostRuntime) -> Result<(), Fail> {
-    let alloc = rt.alloc();
-    let input = requests(alloc, &[2, 3, 4])?;
-    let (ended, output, len) = serve_new(alloc, &input, "0=late:7,1=drop-reply,2=repeat")?;
-    let wanted = frames_of(alloc, &[(2, 7, -1), (4, 0, 0)])?;
-    assert_eq!(rt; ended, Ok(Served::End));
-    assert_eq!(rt; output.as_slice(), wanted.as_slice());
-    assert_eq!(rt; len, Some(1));
-    Ok(())
+    let input = requests(rt.alloc(), &[2, 3, 4])?;
+    let plan = "0=late:7,1=drop-reply,2=repeat";
+    let answers = [(2, 7, -1), (4, 0, 0)];
+    assert_ended(&rt, rt.alloc(), &input, plan, Ok(Served::End), &answers, 1)
 }
 
 #[test]
 fn a_plan_hangs_up(rt: HostRuntime) -> Result<(), Fail> {
-    let alloc = rt.alloc();
-    let input = requests(alloc, &[2, 3, 4])?;
-    let (ended, output, len) = serve_new(alloc, &input, "1=hang-up")?;
-    let wanted = frames_of(alloc, &[(2, 0, 0)])?;
-    assert_eq!(rt; ended, Ok(Served::HungUp));
-    assert_eq!(rt; output.as_slice(), wanted.as_slice());
-    assert_eq!(rt; len, Some(1));
-    Ok(())
+    let input = requests(rt.alloc(), &[2, 3, 4])?;
+    let ended = Ok(Served::HungUp);
+    assert_ended(&rt, rt.alloc(), &input, "1=hang-up", ended, &[(2, 0, 0)], 1)
 }
 
 #[test]
 fn a_request_that_is_dropped_or_refused_is_not_appended(rt: HostRuntime) -> Result<(), Fail> {
-    let alloc = rt.alloc();
-    let input = requests(alloc, &[2, 3])?;
-    let (ended, output, len) = serve_new(alloc, &input, "0=drop-request,1=refuse:99")?;
-    let wanted = frames_of(alloc, &[(3, 99, -1)])?;
-    assert_eq!(rt; ended, Ok(Served::End));
-    assert_eq!(rt; output.as_slice(), wanted.as_slice());
-    assert_eq!(rt; len, Some(0));
-    Ok(())
+    let input = requests(rt.alloc(), &[2, 3])?;
+    let plan = "0=drop-request,1=refuse:99";
+    let answers = [(3, 99, -1)];
+    assert_ended(&rt, rt.alloc(), &input, plan, Ok(Served::End), &answers, 0)
 }
 
 #[test]
 fn requests_are_counted_over_all_connections(rt: HostRuntime) -> Result<(), Fail> {
-    let alloc = rt.alloc();
-    let mut broker = broker_of(alloc, 1)?;
-    let plan = FaultPlan::parse(alloc, "1=refuse:7,3=drop-reply")?;
+    let mut broker = broker_of(rt.alloc(), 1)?;
+    let plan = FaultPlan::parse(rt.alloc(), "1=refuse:7,3=drop-reply")?;
     for (correlations, answers) in [
         ([2, 3].as_slice(), [(2, 0, 0), (3, 7, -1)].as_slice()),
         ([4, 5, 6].as_slice(), [(4, 0, 0), (6, 0, 0)].as_slice()),
     ] {
-        let input = requests(alloc, correlations)?;
-        let (ended, output) = serve(alloc, &mut broker, &input, &plan);
-        let wanted = frames_of(alloc, answers)?;
-        assert_eq!(rt; ended, Ok(Served::End));
-        assert_eq!(rt; output.as_slice(), wanted.as_slice());
+        let input = requests(rt.alloc(), correlations)?;
+        let ended = Ok(Served::End);
+        assert_served(&rt, rt.alloc(), &mut broker, &input, &plan, ended, answers)?;
     }
     Ok(())
 }
 
 // ---- streams that are cut, lie or fail
 
+/// Asserts that a stream that comes so many bytes at a time is answered with these bytes.
+fn assert_cut(
+    rt: &impl Abort,
+    alloc: Global,
+    input: &[u8],
+    len: usize,
+    wanted: &[u8],
+) -> Result<(), Fail> {
+    let mut broker = broker_of(alloc, 1)?;
+    let mut reader = Pieces::new(input, len, 0);
+    let mut writer = Narrow::new(alloc, 7, 0, false);
+    let ended = serve_all(alloc, &mut broker, &mut reader, &mut writer);
+    assert_eq!(rt; ended, Ok(Served::End));
+    assert_eq!(rt; writer.held.as_slice(), wanted);
+    Ok(())
+}
+
 #[test]
 fn answers_do_not_depend_on_how_a_stream_is_cut(rt: HostRuntime) -> Result<(), Fail> {
-    let alloc = rt.alloc();
-    let input = requests(alloc, &[2, 3])?;
-    let wanted = frames_of(alloc, &[(2, 0, 0), (3, 0, 0)])?;
+    let input = requests(rt.alloc(), &[2, 3])?;
+    let wanted = frames_of(rt.alloc(), &[(2, 0, 0), (3, 0, 0)])?;
     for len in [1, 3, 111, 112, 113, 224] {
-        let mut broker = broker_of(alloc, 1)?;
-        let mut reader = Pieces::new(&input, len, 0);
-        let mut writer = Narrow::new(alloc, 7, 0, false);
-        let ended = broker.serve(&mut reader, &mut writer, &FaultPlan::none(alloc));
-        assert_eq!(rt; ended, Ok(Served::End));
-        assert_eq!(rt; writer.held.as_slice(), wanted.as_slice());
+        assert_cut(&rt, rt.alloc(), &input, len, &wanted)?;
     }
     Ok(())
 }
 
 #[test]
 fn half_a_frame_at_the_end_is_ignored(rt: HostRuntime) -> Result<(), Fail> {
-    let alloc = rt.alloc();
-    let input = requests(alloc, &[2, 3])?;
-    let (ended, output, len) = serve_new(alloc, input.get(..223).unwrap_or(&[]), "9=repeat")?;
-    let wanted = frames_of(alloc, &[(2, 0, 0)])?;
-    assert_eq!(rt; ended, Ok(Served::End));
-    assert_eq!(rt; output.as_slice(), wanted.as_slice());
-    assert_eq!(rt; len, Some(1));
-    Ok(())
+    let input = requests(rt.alloc(), &[2, 3])?;
+    let input = input.get(..223).unwrap_or(&[]);
+    let ended = Ok(Served::End);
+    assert_ended(&rt, rt.alloc(), input, "9=repeat", ended, &[(2, 0, 0)], 1)
+}
+
+/// The frame of a request, these bytes, and the frame of another request.
+fn around(alloc: Global, digits: &str) -> Result<Vec<u8>, Fail> {
+    let mut input = requests(alloc, &[2])?;
+    input.extend_from_slice(&bytes_of(alloc, digits)?)?;
+    input.extend_from_slice(&requests(alloc, &[3])?)?;
+    Ok(input)
 }
 
 #[test]
 fn frames_before_a_faulty_one_are_answered(rt: HostRuntime) -> Result<(), Fail> {
-    let alloc = rt.alloc();
     for (digits, fault) in [
         // No size of a frame.
         ("01000001", FrameFault::TooLarge),
@@ -254,25 +285,19 @@ fn frames_before_a_faulty_one_are_answered(rt: HostRuntime) -> Result<(), Fail> 
         ("00000002 0001", FrameFault::UnknownApi),
         ("00000000", FrameFault::Short),
     ] {
-        let mut input = requests(alloc, &[2])?;
-        input.extend_from_slice(&bytes_of(alloc, digits)?)?;
-        input.extend_from_slice(&requests(alloc, &[3])?)?;
-        let (ended, output, len) = serve_new(alloc, &input, "9=repeat")?;
-        let wanted = frames_of(alloc, &[(2, 0, 0)])?;
-        assert_eq!(rt; ended, Err(BrokerFault::Frame(fault)), "{digits}");
-        assert_eq!(rt; output.as_slice(), wanted.as_slice());
-        assert_eq!(rt; len, Some(1));
+        let input = around(rt.alloc(), digits)?;
+        let ended = Err(BrokerFault::Frame(fault));
+        assert_ended(&rt, rt.alloc(), &input, "9=repeat", ended, &[(2, 0, 0)], 1)?;
     }
     Ok(())
 }
 
 #[test]
 fn a_connection_has_a_million_reads(rt: HostRuntime) -> Result<(), Fail> {
-    let alloc = rt.alloc();
-    let mut broker = broker_of(alloc, 1)?;
+    let mut broker = broker_of(rt.alloc(), 1)?;
     let mut reader = Drops { reads: 0 };
-    let mut output = Vec::new(alloc);
-    let ended = broker.serve(&mut reader, &mut output, &FaultPlan::none(alloc));
+    let mut output = Vec::new(rt.alloc());
+    let ended = serve_all(rt.alloc(), &mut broker, &mut reader, &mut output);
     assert_eq!(rt; ended, Err(BrokerFault::TooLong));
     assert_eq!(rt; reader.reads, 1_000_000);
     assert!(rt; output.is_empty());
@@ -281,24 +306,39 @@ fn a_connection_has_a_million_reads(rt: HostRuntime) -> Result<(), Fail> {
 
 #[test]
 fn a_reader_that_fails_breaks_the_connection(rt: HostRuntime) -> Result<(), Fail> {
-    let alloc = rt.alloc();
-    let mut broker = broker_of(alloc, 1)?;
-    let input = requests(alloc, &[2, 3])?;
+    let mut broker = broker_of(rt.alloc(), 1)?;
+    let input = requests(rt.alloc(), &[2, 3])?;
+    let wanted = frames_of(rt.alloc(), &[(2, 0, 0)])?;
     let mut reader = Pieces::new(&input, 100, 3);
-    let mut output = Vec::new(alloc);
-    let ended = broker.serve(&mut reader, &mut output, &FaultPlan::none(alloc));
-    let wanted = frames_of(alloc, &[(2, 0, 0)])?;
+    let mut output = Vec::new(rt.alloc());
+    let ended = serve_all(rt.alloc(), &mut broker, &mut reader, &mut output);
     assert_eq!(rt; ended, Err(BrokerFault::Io));
     assert_eq!(rt; output.as_slice(), wanted.as_slice());
-    assert_eq!(rt; len_of(&broker, 0), Some(1));
+    assert_len(&rt, &broker, 0, 1);
+    Ok(())
+}
+
+/// Asserts that a connection with this writer breaks once its first request was answered, and that the writer then has
+/// these bytes.
+fn assert_broken(
+    rt: &impl Abort,
+    alloc: Global,
+    mut input: &[u8],
+    mut writer: Narrow,
+    held: &[u8],
+) -> Result<(), Fail> {
+    let mut broker = broker_of(alloc, 1)?;
+    let ended = serve_all(alloc, &mut broker, &mut input, &mut writer);
+    assert_eq!(rt; ended, Err(BrokerFault::Io));
+    assert_eq!(rt; writer.held.as_slice(), held);
+    assert_len(rt, &broker, 0, 1);
     Ok(())
 }
 
 #[test]
 fn a_writer_that_fails_breaks_the_connection(rt: HostRuntime) -> Result<(), Fail> {
-    let alloc = rt.alloc();
-    let input = requests(alloc, &[2, 3])?;
-    let first = frames_of(alloc, &[(2, 0, 0)])?;
+    let input = requests(rt.alloc(), &[2, 3])?;
+    let first = frames_of(rt.alloc(), &[(2, 0, 0)])?;
     for (len, fails_at, flush_fails, held) in [
         (100, 1, false, 0),
         (100, 2, false, 45),
@@ -306,13 +346,9 @@ fn a_writer_that_fails_breaks_the_connection(rt: HostRuntime) -> Result<(), Fail
         (0, 0, false, 0),
         (100, 0, true, 45),
     ] {
-        let mut broker = broker_of(alloc, 1)?;
-        let mut reader = input.as_slice();
-        let mut writer = Narrow::new(alloc, len, fails_at, flush_fails);
-        let ended = broker.serve(&mut reader, &mut writer, &FaultPlan::none(alloc));
-        assert_eq!(rt; ended, Err(BrokerFault::Io));
-        assert_eq!(rt; writer.held.as_slice(), first.get(..held).unwrap_or(&[]));
-        assert_eq!(rt; len_of(&broker, 0), Some(1));
+        let writer = Narrow::new(rt.alloc(), len, fails_at, flush_fails);
+        let held = first.get(..held).unwrap_or(&[]);
+        assert_broken(&rt, rt.alloc(), &input, writer, held)?;
     }
     Ok(())
 }
