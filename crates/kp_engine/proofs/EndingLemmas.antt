@@ -1,16 +1,14 @@
 -- The last part of a turn.
-use Rattle.std.proofs.Common.{◌≡◌, ℕ, ◌<◌, ◌≤◌, Bool, true, false, List, [], ◌∷◌, ◌++◌, length, refl, sym, ap, ◌∙◌, subst, arith}
-use Rattle.std.specs.Prelude.{Option, Some, None, Result, Ok, Err, IsTrue}
-use Rattle.std.specs.declared.alloc.AllocError.{AllocError}
-use Rattle.kp_accum.specs.declared.item.Item.{Item}
+use Rattle.std.proofs.Common.{◌≡◌, ℕ, Bool, true, List, [], ◌++◌, length, refl, sym, ap, ◌∙◌, subst, arith}
+use Rattle.std.specs.Prelude.{Option, None, IsTrue}
 use Rattle.kp_lanes.specs.Intake.{told_of}
 use Rattle.kp_lanes.specs.declared.intake.Intake.{Intake}
-use Rattle.kp_rules.specs.Calls.{Call, Disconnect}
+use Rattle.kp_rules.specs.Calls.{Disconnect}
 use Rattle.kp_rules.specs.Partitions.{all_untold}
 use Rattle.kp_rules.specs.declared.outcome.Report.{Report}
-use Rattle.kp_engine.specs.Agreement.{held_at, waiting_of}
-use Rattle.kp_engine.specs.Exchange.{AreIdle, OnlyCore, Runs, mail_of, senders_of, side_of}
-use Rattle.kp_engine.specs.Polls.{FinishesAll, FinishesUntil, IsDone, is_cut}
+use Rattle.kp_engine.specs.Agreement.{held_at}
+use Rattle.kp_engine.specs.Exchange.{OnlyCore, Runs, mail_of, senders_of}
+use Rattle.kp_engine.specs.Polls.{FinishesAll, FinishesUntil, is_cut}
 use Rattle.kp_engine.specs.Steps.{OnlyMails, SendsAll, SendsAllUntil}
 use Rattle.kp_engine.specs.Turn.{Mail, Side, MailParts, if_so}
 use Rattle.kp_engine.specs.declared.exchange.Exchange.{Exchange}

@@ -16,12 +16,12 @@ use Rattle.kp_engine.specs.Agreement.{Agree, held_at}
 use Rattle.kp_engine.specs.Opening.{IsFresh, MayTurn}
 use Rattle.kp_engine.proofs.AgreementLemmas.{none_some}
 
-none_at : {A : Type 0} (n i : ℕ) → held_at {A = A} (replicate n None) i ≡ None
+pub none_at : {A : Type 0} (n i : ℕ) → held_at {A = A} (replicate n None) i ≡ None
 none_at zero i = refl
 none_at (suc n) zero = refl
 none_at (suc n) (suc i) = none_at n i
 
-nothing_at : {A : Type 0} (n i : ℕ) → get_or {A = List A} (replicate n []) i [] ≡ []
+pub nothing_at : {A : Type 0} (n i : ℕ) → get_or {A = List A} (replicate n []) i [] ≡ []
 nothing_at zero i = refl
 nothing_at (suc n) zero = refl
 nothing_at (suc n) (suc i) = nothing_at n i
@@ -43,7 +43,7 @@ unfolding new_core without_audits
 config_in true c names partitions senders id correlation = refl
 config_in false c names partitions senders id correlation = refl
 
-fresh_reports : (core : Core) (f : IsFresh core) → core.reports ≡ replicate f.senders []
+pub fresh_reports : (core : Core) (f : IsFresh core) → core.reports ≡ replicate f.senders []
 fresh_reports core f = ap (λ (s : Core). s.reports) f.is ∙ reports_in f.audits f.config f.names f.partitions f.senders f.id f.correlation
 
 fresh_config : (core : Core) (f : IsFresh core) → core.config ≡ f.config

@@ -15,3 +15,7 @@ pub mod TalkingLemmas
 pub mod TurnLemmas
 pub mod EngineLemmas
 pub mod HearingLemmas
+pub mod ServingLemmas
+pub mod ServedLemmas
+pub mod BegunLemmas
+pub mod FrameLemmas

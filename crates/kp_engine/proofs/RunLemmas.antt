@@ -12,7 +12,7 @@ use Rattle.kp_engine.specs.Steps.{AppendsOne, OnlyItem}
 use Rattle.kp_engine.specs.Turned.{append_answer, noted}
 use Rattle.kp_engine.specs.declared.exchange.Exchange.{Exchange}
 
-nothing_lived : (s t : Core) → t ≡ s → Lives s [] (record { appended = []; told = []; packets = [] }) t
+pub nothing_lived : (s t : Core) → t ≡ s → Lives s [] (record { appended = []; told = []; packets = [] }) t
 unfolding Lives
 nothing_lived s t same = (refl, same)
 

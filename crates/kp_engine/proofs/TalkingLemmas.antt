@@ -1,20 +1,19 @@
 -- Requests and replies of a turn together.
-use Rattle.std.proofs.Common.{◌≡◌, ◌⊎◌, ℕ, ◌+◌, ◌≤◌, Bool, true, false, List, [], ◌∷◌, ◌++◌, length, map, Some, None, Ok, Err, refl, sym, ap, subst, ◌∙◌, inl, inr, append-nil, append_assoc, arith}
-use Rattle.std.specs.Prelude.{Option, Result, IsSome}
+use Rattle.std.proofs.Common.{◌≡◌, ◌⊎◌, ℕ, Bool, true, false, List, [], ◌++◌, length, map, Some, None, Ok, Err, refl, sym, ap, subst, ◌∙◌, inl, inr, append-nil, append_assoc, arith}
+use Rattle.std.specs.Prelude.{Option, Result}
 use Rattle.std.specs.declared.alloc.AllocError.{AllocError}
 use Rattle.std.proofs.lemmas.List.Concat.{flat_map-append}
 use Rattle.std.proofs.lemmas.List.Elements.{Contains-append_right, Contains-append_left}
 use Rattle.kp_connection.specs.Answers.{Answer, came, came_by}
-use Rattle.kp_connection.specs.Answers.Answer.{Came, Read_failed, Read_waits, Went, Write_failed, Write_waits}
-use Rattle.kp_connection.specs.Wire.{Told, Wired, Goes, Stops, Met}
+use Rattle.kp_connection.specs.Answers.Answer.{Came, Read_failed, Read_waits, Write_waits}
+use Rattle.kp_connection.specs.Wire.{Told, Wired, Met}
 use Rattle.kp_connection.proofs.WireLemmas.{Goes-stops, Stops-then}
 use Rattle.kp_frames.specs.declared.fault.FrameFault.{FrameFault}
-use Rattle.kp_frames.specs.declared.fault.FrameFault.TheVariants.{TooLarge}
 use Rattle.kp_frames.specs.Stream.{stream, is_faulty}
 use Rattle.kp_rules.specs.Calls.{Call}
 use Rattle.kp_rules.specs.declared.outgoing.Outgoing.{Outgoing}
 use Rattle.kp_engine.specs.Exchange.{OnlyCore}
-use Rattle.kp_engine.specs.Polls.{CutFor, TalkUntil, TalksAll, TalksCut, TalksOn, TalksOut, Waits}
+use Rattle.kp_engine.specs.Polls.{CutFor, TalkUntil, TalksAll, TalksCut, TalksOn, TalksOut}
 use Rattle.kp_engine.specs.Talking.{CutBy, HeardAll, ListensCut, ListensOn, ListensUntil, Listens, Talks, TalksUntil, WritesCut, WritesOn, WritesUntil, contents_of, frames_of}
 use Rattle.kp_engine.specs.Turn.{Heard, RepliesPart, RequestsPart, asks, hears, lacking_memory, refused_with, requests}
 use Rattle.kp_engine.specs.declared.exchange.Exchange.{Exchange}

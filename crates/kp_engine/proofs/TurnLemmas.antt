@@ -1,35 +1,26 @@
 -- A whole turn, of its parts.
-use Rattle.std.proofs.Common.{◌≡◌, ◌⊎◌, ℕ, zero, suc, ◌<◌, Bool, true, false, List, [], ◌∷◌, ◌++◌, length, Some, None, Ok, Err, refl, sym, ap, subst, ◌∙◌, inl, inr, append-nil, append_assoc, arith}
-use Rattle.std.specs.Prelude.{Option, Result, IsTrue, ◌||◌}
-use Rattle.std.specs.declared.alloc.AllocError.{AllocError}
-use Rattle.futures.specs.declared.task.Poll.{Poll}
-use Rattle.futures.specs.declared.task.Poll.TheVariants.{Ready, Pending}
-use Rattle.kp_accum.specs.declared.item.Item.{Item}
+use Rattle.std.proofs.Common.{◌≡◌, ℕ, zero, suc, Bool, true, false, List, [], ◌∷◌, ◌++◌, length, Some, None, Ok, refl, ap, subst, ◌∙◌, inl, inr, append-nil, arith}
+use Rattle.std.specs.Prelude.{Option, IsTrue, ◌||◌}
 use Rattle.kp_connection.specs.Answers.{Answer}
 use Rattle.kp_connection.specs.Wire.{Told, Wired, Stops}
 use Rattle.kp_connection.proofs.WireLemmas.{Goes-nothing, Goes-stops}
-use Rattle.kp_lanes.specs.Intake.{lanes_of, intake_limits, intake_view}
-use Rattle.kp_lanes.specs.declared.intake.Intake.{Intake}
+use Rattle.kp_lanes.specs.Intake.{intake_view}
 use Rattle.kp_rules.specs.Calls.{Call, Tick}
 use Rattle.kp_frames.specs.declared.fault.FrameFault.{FrameFault}
 use Rattle.kp_rules.specs.declared.outgoing.Outgoing.{Outgoing}
 use Rattle.kp_rules.specs.declared.ticked.Ticked.{Ticked}
-use Rattle.kp_engine.specs.Exchange.{AreIdle, IsIdle, IsQuiet, OnlyCore, Runs, SameLanes, SameMail, mail_of, senders_of, side_of}
-use Rattle.kp_engine.specs.Polls.{CutFor, FinishesAll, FinishesUntil, IsDone, TalksAll, TalksCut, TalksOn, TalksOut, Turn, TurnUntil, Turns, TurnsCut, TurnsOn, TurnsOut, is_cut, stop_of}
+use Rattle.kp_engine.specs.Exchange.{AreIdle, IsQuiet, OnlyCore, Runs, SameLanes, SameMail, mail_of, senders_of, side_of}
+use Rattle.kp_engine.specs.Polls.{CutFor, FinishesAll, FinishesUntil, IsDone, TalksAll, TalksCut, TalksOn, TalksOut, TurnUntil, Turns, TurnsCut, TurnsOn, TurnsOut, stop_of}
 use Rattle.kp_engine.specs.Steps.{OnlyMails, TakesAndCloses, TakesUntil}
 use Rattle.kp_engine.specs.Talking.{contents_of, frames_of}
-use Rattle.kp_engine.specs.Turn.{Heard, ItemsPart, ItemsPartUntil, Mail, MailPart, MailParts, RepliesPart, ReportsPart, ReportsPartUntil, RequestsPart, Side}
+use Rattle.kp_engine.specs.Turn.{Heard, ItemsPart, Mail, MailPart, MailParts, RepliesPart, ReportsPart, ReportsPartUntil, RequestsPart, Side}
 use Rattle.kp_engine.specs.declared.exchange.Exchange.{Exchange}
 use Rattle.kp_engine.specs.declared.stop.Cause.{Cause}
 use Rattle.kp_engine.specs.declared.stop.Cause.TheVariants.{Io, TimedOut, BadReply}
-use Rattle.kp_engine.specs.declared.stop.Stop.{Stop}
-use Rattle.kp_engine.specs.declared.stop.Stop.TheVariants.{Done, NeedStream, OutOfMemory}
 use Rattle.kp_engine.proofs.AgreementLemmas.{none_some}
 use Rattle.kp_engine.proofs.AllLemmas.{parts_kept}
-use Rattle.kp_engine.proofs.EndingLemmas.{mail_through}
 use Rattle.kp_engine.proofs.RunLemmas.{runs_then}
 use Rattle.kp_engine.proofs.SideLemmas.{idle_still, of_core, same_lanes}
-use Rattle.kp_engine.proofs.TalkLemmas.{some_same}
 
 -- ---- pointwise the same mail before
 
@@ -73,13 +64,13 @@ items_kept n old new newer closes calls same p = record {
 pub lanes_then : (a b c : Exchange) → SameLanes a b → SameLanes b c → SameLanes a c
 lanes_then a b c p q = record { lanes = q.lanes ∙ p.lanes; limits = q.limits ∙ p.limits; senders = q.senders ∙ p.senders }
 
-core_lanes : (a b : Exchange) → OnlyCore a b → SameLanes a b
+pub core_lanes : (a b : Exchange) → OnlyCore a b → SameLanes a b
 core_lanes a b h = same_lanes a b h.intake (ap length h.items)
 
-core_sides : (a b : Exchange) → OnlyCore a b → (k : ℕ) → side_of b k ≡ side_of a k
+pub core_sides : (a b : Exchange) → OnlyCore a b → (k : ℕ) → side_of b k ≡ side_of a k
 core_sides a b h k = (of_core (suc k) a b h).others k (λ same. omega (arith, same))
 
-core_mail : (a b : Exchange) → OnlyCore a b → (k : ℕ) → mail_of b k ≡ mail_of a k
+pub core_mail : (a b : Exchange) → OnlyCore a b → (k : ℕ) → mail_of b k ≡ mail_of a k
 core_mail a b h k = (of_core k a b h).mail k
 
 idle_then : (a b : Exchange) → ((k : ℕ) → side_of b k ≡ side_of a k) → SameLanes a b → intake_view b.intake ≡ intake_view a.intake → AreIdle a → AreIdle b

@@ -1,13 +1,11 @@
 -- Requests written, one after another.
-use Rattle.std.proofs.Common.{◌≡◌, ◌⊎◌, ℕ, ◌+◌, ◌≤◌, ◌<◌, List, [], ◌∷◌, ◌++◌, length, Some, None, Ok, Err, refl, sym, ap, subst, ◌∙◌, inl, inr, append-nil, arith, true}
-use Rattle.std.specs.Prelude.{Option, Result, IsSome}
+use Rattle.std.proofs.Common.{◌≡◌, ◌⊎◌, ℕ, ◌+◌, ◌≤◌, ◌<◌, List, [], ◌∷◌, ◌++◌, length, Some, None, Ok, Err, refl, sym, ap, subst, ◌∙◌, inl, inr, append-nil, arith}
+use Rattle.std.specs.Prelude.{Option, Result}
 use Rattle.std.specs.Global.{Vec}
-use Rattle.std.specs.Option.{ForSome}
 use Rattle.std.specs.declared.alloc.AllocError.{AllocError}
 use Rattle.std.specs.declared.io.Error.{Error}
 use Rattle.std.proofs.lemmas.List.{length-append, map-append}
-use Rattle.std.proofs.lemmas.List.Elements.{Contains-append_right, Contains-append_left}
-use Rattle.futures.specs.declared.task.Poll.{Poll}
+use Rattle.std.proofs.lemmas.List.Elements.{Contains-append_right}
 use Rattle.futures.specs.declared.task.Poll.TheVariants.{Ready, Pending}
 use Rattle.kp_connection.specs.Answers.{Answer}
 use Rattle.kp_connection.specs.Answers.Answer.{Went, Write_waits, Write_failed}
@@ -15,12 +13,12 @@ use Rattle.kp_connection.specs.Wire.{Told, Wired, Goes, Met, Writes}
 use Rattle.kp_rules.specs.Calls.{Call, Request}
 use Rattle.kp_rules.specs.declared.fault.CoreFault.{CoreFault}
 use Rattle.kp_rules.specs.declared.outgoing.Outgoing.{Outgoing}
-use Rattle.kp_engine.specs.Exchange.{OnlyCore, Runs}
-use Rattle.kp_engine.specs.Talking.{AsksOne, Talks, WritesAll, WritesOn, WritesCut, WritesUntil, frames_of}
-use Rattle.kp_engine.specs.Turn.{Heard, asks, requests}
+use Rattle.kp_engine.specs.Exchange.{OnlyCore}
+use Rattle.kp_engine.specs.Talking.{AsksOne, Talks, WritesOn, WritesCut, WritesUntil}
+use Rattle.kp_engine.specs.Turn.{asks, requests}
 use Rattle.kp_engine.specs.declared.exchange.Exchange.{Exchange}
 use Rattle.kp_engine.proofs.AgreementLemmas.{none_some}
-use Rattle.kp_engine.proofs.TalkLemmas.{for_some, talks_none, talks_by_core, talks_then, talks_then_core, talks_then_wire}
+use Rattle.kp_engine.proofs.TalkLemmas.{for_some, talks_none, talks_then, talks_then_core, talks_then_wire}
 
 -- So many requests were handed to write.
 pub record Written {S : Type 0} (answers : Told S) (now count : ℕ) (x : Exchange) (w : Wired S) (y : Exchange) (v : Wired S) : Type 0 where

@@ -1,13 +1,12 @@
 -- What contracts see of an engine.
-use Rattle.std.specs.Prelude.{◌≡◌, ℕ, true, false, not, Bool, List, [], length, replicate, Option, Some, None, option_map, if◌then◌else◌}
+use Rattle.std.specs.Prelude.{◌≡◌, ℕ, true, false, not, Bool, [], length, replicate, Option, Some, None, option_map, if◌then◌else◌}
 use Rattle.futures.specs.declared.task.Poll.{Poll}
 use Rattle.futures.specs.declared.task.Poll.TheVariants.{Ready, Pending}
 use Rattle.kp_connection.specs.Wire.{Told, Wired}
 use Rattle.kp_frames.specs.Stream.{is_faulty}
 use Rattle.kp_lanes.specs.declared.intake.Intake.{Intake}
-use Rattle.kp_rules.specs.Calls.{Call}
 use Rattle.kp_rules.specs.Records.{Core}
-use Rattle.kp_engine.specs.Exchange.{kept_calls, senders_of}
+use Rattle.kp_engine.specs.Exchange.{kept_calls}
 use Rattle.kp_engine.specs.Polls.{Turns}
 use Rattle.kp_engine.specs.declared.engine.Line.{Line}
 use Rattle.kp_engine.specs.declared.engine.Line.TheVariants.{Open, Stopped}

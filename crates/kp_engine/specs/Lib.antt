@@ -7,3 +7,4 @@ pub mod Opening
 pub mod Talking
 pub mod Polls
 pub mod Engine
+pub mod Serving

@@ -1,5 +1,5 @@
 -- What a poll of the engine did.
-use Rattle.std.specs.Prelude.{◌≡◌, ◌⊎◌, ◌↔◌, ℕ, ◌<◌, ◌||◌, true, false, Bool, List, [], ◌∷◌, ◌++◌, length, Option, Some, None, IsSome, IsTrue, Result, Ok, Err}
+use Rattle.std.specs.Prelude.{◌≡◌, ◌⊎◌, ◌↔◌, ℕ, ◌<◌, ◌||◌, true, false, Bool, List, [], ◌++◌, length, Option, Some, None, IsSome, IsTrue, Result, Ok, Err}
 use Rattle.std.specs.declared.alloc.AllocError.{AllocError}
 use Rattle.futures.specs.declared.task.Poll.{Poll}
 use Rattle.futures.specs.declared.task.Poll.TheVariants.{Ready, Pending}
@@ -8,14 +8,13 @@ use Rattle.kp_connection.specs.Answers.Answer.{Read_waits, Went, Write_failed, W
 use Rattle.kp_connection.specs.Wire.{Told, Wired, Goes, Stops, Met}
 use Rattle.kp_frames.specs.declared.fault.FrameFault.{FrameFault}
 use Rattle.kp_frames.specs.Stream.{stream, is_faulty}
-use Rattle.kp_lanes.specs.Intake.{intake_view}
 use Rattle.kp_rules.specs.Calls.{Call}
 use Rattle.kp_rules.specs.declared.fault.CoreFault.{CoreFault}
 use Rattle.kp_rules.specs.declared.outgoing.Outgoing.{Outgoing}
 use Rattle.kp_rules.specs.declared.ticked.Ticked.{Ticked}
 use Rattle.kp_rules.specs.Partitions.{all_untold}
 use Rattle.kp_engine.specs.Agreement.{waiting_of}
-use Rattle.kp_engine.specs.Exchange.{AreIdle, HasMoved, IsQuiet, Runs, SameClosed, SameLanes, SameMail, SameSides, mail_of, senders_of, side_of}
+use Rattle.kp_engine.specs.Exchange.{AreIdle, HasMoved, IsQuiet, Runs, SameLanes, SameMail, mail_of, senders_of, side_of}
 use Rattle.kp_engine.specs.Talking.{CutBy, HeardAll, Talks, TalksUntil, contents_of, frames_of}
 use Rattle.kp_engine.specs.Turn.{Heard, ItemsPart, ItemsPartUntil, RepliesPart, RepliesPartUntil, ReportsPart, ReportsPartUntil, RequestsPart, RequestsPartUntil, TickPart}
 use Rattle.kp_engine.specs.declared.exchange.Exchange.{Exchange}

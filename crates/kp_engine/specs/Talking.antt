@@ -6,7 +6,6 @@ use Rattle.std.specs.Option.{ForSome}
 use Rattle.std.specs.declared.alloc.AllocError.{AllocError}
 use Rattle.kp_connection.specs.Answers.{Answer, came}
 use Rattle.kp_connection.specs.Answers.Answer.{Read_waits, Read_failed, Came, Write_waits, Write_failed, Went}
-use Rattle.kp_connection.specs.Handshake.{HasFailed}
 use Rattle.kp_connection.specs.Wire.{Told, Wired, Goes, Stops, Met}
 use Rattle.kp_frames.specs.declared.fault.FrameFault.{FrameFault}
 use Rattle.kp_frames.specs.declared.fault.FrameFault.TheVariants.{TooLarge}

@@ -10,7 +10,7 @@ use Rattle.kp_lanes.specs.Entries.{items_of, has_mark}
 use Rattle.kp_lanes.specs.declared.entry.Entry.{Entry}
 use Rattle.kp_rules.specs.Calls.{Call, Append, Close, Disconnect, Fetch, Flush, Reply, Request, Tick}
 use Rattle.kp_rules.specs.declared.fault.CoreFault.{CoreFault}
-use Rattle.kp_rules.specs.declared.fault.CoreFault.TheVariants.{OutOfMemory, ReplyFault, Ended}
+use Rattle.kp_rules.specs.declared.fault.CoreFault.TheVariants.{OutOfMemory, ReplyFault}
 use Rattle.kp_rules.specs.declared.outcome.Report.{Report}
 use Rattle.kp_rules.specs.declared.outgoing.Outgoing.{Outgoing}
 use Rattle.kp_rules.specs.declared.ticked.Replied.{Replied}

@@ -4,6 +4,7 @@
 mod clock;
 mod engine;
 mod exchange;
+pub mod laws;
 mod moves;
 mod notes;
 mod parts;

@@ -1,0 +1,114 @@
+//! Laws of polls, one after the other.
+
+ghost use Rattle.std.specs.Prelude.{◌≡◌, ◌<◌, ◌+◌, ◌++◌, ◌∷◌, ℕ, Bool, [], true, List, Option, flat_map, map, option_to_list, sum_by};
+ghost use Rattle.futures.specs.declared.task.Poll.{Poll};
+ghost use Rattle.kp_accum.specs.declared.item.Item.{Item};
+ghost use Rattle.kp_connection.specs.Wire.{Wired};
+ghost use Rattle.kp_frames.specs.declared.fault.FrameFault.{FrameFault};
+ghost use Rattle.kp_lanes.specs.Entries.{items_of};
+ghost use Rattle.kp_lanes.specs.declared.intake.Intake.{Intake};
+ghost use Rattle.kp_rules.specs.Calls.{Call, End, Step};
+ghost use Rattle.kp_rules.specs.Partitions.{all_untold};
+ghost use Rattle.kp_rules.specs.Records.{Core};
+ghost use Rattle.kp_rules.specs.Reports.{reports_to};
+ghost use Rattle.kp_rules.specs.declared.outgoing.Outgoing.{Outgoing};
+ghost use Rattle.kp_engine.specs.Engine.{IsNew, Polls};
+ghost use Rattle.kp_engine.specs.Exchange.{senders_of, side_of, OnlyCore};
+ghost use Rattle.kp_engine.specs.Opening.{MayTurn};
+ghost use Rattle.kp_engine.specs.Polls.{Turn, Turns, TurnUntil};
+ghost use Rattle.kp_engine.specs.Serving.{asked_by, from_sender, replied_by, reports_of, HasPlaces, HasServed, Served};
+ghost use Rattle.kp_engine.specs.Talking.{contents_of, frames_of};
+ghost use Rattle.kp_engine.specs.Turn.{Heard};
+ghost use Rattle.kp_engine.specs.declared.engine.Line.{Line};
+ghost use Rattle.kp_engine.specs.declared.exchange.Exchange.{Exchange};
+ghost use Rattle.kp_engine.specs.declared.stop.Cause.{Cause};
+ghost use Rattle.kp_engine.specs.declared.stop.Stop.{Stop};
+
+use kp_connection::Stream;
+
+// ---- polls serve
+
+/// A turn serves, whatever it answers: also where it is cut, and where memory is refused.
+pub fn a_turn_serves<S: Stream>()
+    ensures { (now : ℕ) (x : Exchange) (w : Wired S) (result : Poll Stop) (y : Exchange) (v : Wired S)
+        → HasPlaces x → Turns S.answers now x w result y v → (calls : List Call) × Served x calls y }
+{}
+
+/// So does a poll; where the connection was given up before, it makes no calls.
+pub fn a_poll_serves<S: Stream>()
+    ensures { (line : Line S) (x : Exchange) (result : Poll Stop) (y : Exchange) (left : Line S)
+        → HasPlaces x → Polls S.answers line x result y left → (calls : List Call) × Served x calls y }
+{}
+
+/// So does an end.
+pub fn an_end_serves()
+    ensures { (x y : Exchange) (told : ℕ) → HasPlaces x → Step x.core (End told) y.core → OnlyCore x y
+        → Served x (End told ∷ []) y }
+{}
+
+/// What is served in two stretches is served in one.
+pub fn serving_joins()
+    ensures { (x y z : Exchange) (a b : List Call) → Served x a y → Served y b z → Served x (a ++ b) z }
+{}
+
+// ---- since the engine was made
+
+/// A new engine has its places.
+pub fn a_new_one_has_places()
+    ensures { (core : Core) (intake : Intake) (keeps : Bool) (x : Exchange) → IsNew core intake keeps x → HasPlaces x }
+{}
+
+/// What was taken of a sender's lane is what was appended of it, and behind it the item that is held; and what was told of
+/// its items, in order, was handed to its ring, is held since the ring was full, or waits in the core.
+pub fn what_was_taken_is_appended_or_held()
+    ensures { (core : Core) (intake : Intake) (keeps : Bool) (x y : Exchange) (calls : List Call)
+        → MayTurn core intake → IsNew core intake keeps x → (served : Served x calls y) → (i : ℕ) → i < senders_of x
+        → (items_of (side_of y i).passed ≡ from_sender i served.life.appended ++ option_to_list (side_of y i).held)
+        × (reports_of y i ≡ reports_to i served.life.told) }
+{}
+
+/// Each item that was taken of a sender's lane is held, or untold in the core, or was told, as often as it was taken. (Give
+/// items any weights: both sides weigh the same.)
+pub fn what_was_taken_is_held_or_untold_or_told()
+    ensures { (core : Core) (intake : Intake) (calls : List Call) (y : Exchange) → (h : HasServed core intake calls y)
+        → (i : ℕ) → i < senders_of y → (f : Item → ℕ)
+        → sum_by f (items_of (side_of y i).passed)
+        ≡ sum_by f (option_to_list (side_of y i).held) + sum_by f (from_sender i (all_untold y.core))
+        + sum_by f (from_sender i (map (λ x. x.item) h.served.life.told)) }
+{}
+
+/// So each has one report, unless it is held or untold. (Items and reports are weighed by their partitions and numbers.)
+pub fn each_item_taken_has_one_report()
+    ensures { (core : Core) (intake : Intake) (calls : List Call) (y : Exchange) → HasServed core intake calls y
+        → (i : ℕ) → i < senders_of y → (f : ℕ → ℕ → ℕ)
+        → sum_by (λ x. f x.partition x.number) (items_of (side_of y i).passed)
+        ≡ sum_by (λ x. f x.partition x.number) (option_to_list (side_of y i).held)
+        + sum_by (λ x. f x.partition x.number) (from_sender i (all_untold y.core))
+        + sum_by (λ r. f r.partition r.number) (reports_of y i) }
+{}
+
+/// Once the core has ended nothing is untold: each item that was taken has one report, unless it is held.
+pub fn after_the_end_each_has_one_report()
+    ensures { (core : Core) (intake : Intake) (calls : List Call) (y : Exchange) → HasServed core intake calls y
+        → y.core.ended ≡ true → (i : ℕ) → i < senders_of y → (f : ℕ → ℕ → ℕ)
+        → sum_by (λ x. f x.partition x.number) (items_of (side_of y i).passed)
+        ≡ sum_by (λ x. f x.partition x.number) (option_to_list (side_of y i).held)
+        + sum_by (λ r. f r.partition r.number) (reports_of y i) }
+{}
+
+// ---- what goes over the connection
+
+/// The requests of a turn are those that its calls on the core gave, and the replies those that the core heard.
+pub fn calls_go_over_the_connection()
+    ensures { (now : ℕ) (x y : Exchange) (sent : List Outgoing) (heard : List Heard)
+        (refused : Option (List ℕ × FrameFault)) (cut : Option Cause) (calls : List Call)
+        → Turn now x sent heard refused cut calls y
+        → (flat_map asked_by calls ≡ frames_of sent) × (flat_map replied_by calls ≡ contents_of heard) }
+{}
+
+/// Where memory is refused, those that went are the first of them.
+pub fn calls_go_until_memory_is_refused()
+    ensures { (now : ℕ) (x y : Exchange) (sent : List Outgoing) (heard : List Heard) (calls : List Call)
+        → TurnUntil now x y sent heard calls → (more : List (List ℕ)) × (flat_map asked_by calls ≡ frames_of sent ++ more)
+        × (flat_map replied_by calls ≡ contents_of heard) }
+{}
