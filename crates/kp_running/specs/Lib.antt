@@ -1,0 +1,3 @@
+pub mod Bells
+pub mod Pace
+pub mod Running

@@ -1,0 +1,65 @@
+//! The bells of a producer.
+
+ghost use Rattle.std.specs.Prelude.{◌≡◌, ◌<◌, IfOk, vec_len};
+ghost use Rattle.kp_running.specs.Bells.{bells_in};
+
+use crate::bell::{Bell, SenderBell};
+use crate::turning::Turning;
+use std::alloc::{AllocError, Global};
+
+/// The bells of a producer: the engine's, and one of each sender, numbered from 0. The threads share them by reference.
+#[derive(Drop)]
+pub struct Bells {
+    engine: Bell,
+    senders: Vec<SenderBell>,
+}
+
+impl Bells {
+    pub fn new(alloc: Global, senders: usize) -> Result<Bells, AllocError>
+        ensures { IfOk result (λ bells. bells_in bells ≡ senders) }
+    {
+        let mut bells = Vec::with_capacity(alloc, senders)?;
+        for _ in 0..senders {
+            bells.push_reserved(SenderBell::new());
+        }
+        Ok(Bells {
+            engine: Bell::new(alloc)?,
+            senders: bells,
+        })
+    }
+
+    /// How many senders there are.
+    pub fn senders(&self) -> usize
+        ensures { result ≡ bells_in self.now }
+    {
+        self.senders.len()
+    }
+
+    /// The engine's bell.
+    pub fn engine(&self) -> &Bell {
+        &self.engine
+    }
+
+    /// A sender's bell.
+    pub fn of(&self, sender: u32) -> &SenderBell
+        requires { sender < bells_in self.now }
+    {
+        &self.senders[sender as usize]
+    }
+
+    /// Rings for each sender, as where the engine has stopped.
+    pub fn ring_all(&self) {
+        for bell in &self.senders {
+            bell.ring();
+        }
+    }
+
+    /// Rings for each sender that the last poll served.
+    pub(crate) fn ring_served<E: Turning>(&self, engine: &E) {
+        for (sender, bell) in self.senders.iter().enumerate() {
+            if engine.has_served(sender) {
+                bell.ring();
+            }
+        }
+    }
+}

@@ -1,0 +1,14 @@
+//! How a polled engine is run without keeping a processor busy: bells between the threads of a producer, and a future
+//! that owns the engine and waits for work.
+#![tactic(auto)]
+
+mod bell;
+mod bells;
+mod pace;
+mod running;
+mod turning;
+
+pub use bell::{Bell, SenderBell};
+pub use bells::Bells;
+pub use running::Running;
+pub use turning::Turning;
