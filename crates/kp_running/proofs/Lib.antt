@@ -1,1 +1,2 @@
+mod EngineLemmas
 mod ReachesLemmas

@@ -1,3 +1,4 @@
 pub mod Bells
+pub mod Engines
 pub mod Pace
 pub mod Running

@@ -1,7 +1,7 @@
 //! The bells of a producer.
 
-ghost use Rattle.std.specs.Prelude.{◌≡◌, ◌<◌, IfOk, vec_len};
-ghost use Rattle.kp_running.specs.Bells.{bells_in};
+ghost use Rattle.std.specs.Prelude.{◌≡◌, ◌<◌, Some, IfOk, length, slice_get};
+ghost use Rattle.kp_running.specs.Bells.{engine_bell, sender_bells};
 
 use crate::bell::{Bell, SenderBell};
 use crate::turning::Turning;
@@ -16,7 +16,7 @@ pub struct Bells {
 
 impl Bells {
     pub fn new(alloc: Global, senders: usize) -> Result<Bells, AllocError>
-        ensures { IfOk result (λ bells. bells_in bells ≡ senders) }
+        ensures { IfOk result (λ bells. length (sender_bells bells) ≡ senders) }
     {
         let mut bells = Vec::with_capacity(alloc, senders)?;
         for _ in 0..senders {
@@ -30,19 +30,22 @@ impl Bells {
 
     /// How many senders there are.
     pub fn senders(&self) -> usize
-        ensures { result ≡ bells_in self.now }
+        ensures { result ≡ length (sender_bells self.now) }
     {
         self.senders.len()
     }
 
     /// The engine's bell.
-    pub fn engine(&self) -> &Bell {
+    pub fn engine(&self) -> &Bell
+        ensures { result.now ≡ engine_bell self.now }
+    {
         &self.engine
     }
 
     /// A sender's bell.
     pub fn of(&self, sender: u32) -> &SenderBell
-        requires { sender < bells_in self.now }
+        requires { sender < length (sender_bells self.now) }
+        ensures { slice_get (sender_bells self.now) sender ≡ Some result.now }
     {
         &self.senders[sender as usize]
     }

@@ -4,11 +4,14 @@
 
 mod bell;
 mod bells;
+mod engine;
+mod millis;
 mod pace;
 mod running;
 mod turning;
 
 pub use bell::{Bell, SenderBell};
 pub use bells::Bells;
+pub use millis::Millis;
 pub use running::Running;
 pub use turning::Turning;

@@ -5,7 +5,6 @@ ghost use Rattle.futures.specs.Poll.{OnPending};
 ghost use Rattle.futures.specs.Task.{Covers, Hears, IsArmed, Keeps};
 ghost use Rattle.tokio.specs.Locks.{notified_source};
 ghost use Rattle.tokio.specs.Timers.{sleep_source};
-ghost use Rattle.kp_running.specs.Running.{Reaches, engine_in};
 
 use crate::bells::Bells;
 use crate::pace::Pace;
@@ -37,6 +36,8 @@ pub struct Running<'a, R, E> {
 }
 
 impl<'a, R: Clock, E: Turning> Running<'a, R, E> {
+    ghost use Rattle.kp_running.specs.Running.{engine_in};
+
     /// Runs the engine in the runtime of this handle. Where memory is refused, or the clock cannot be read, the engine
     /// comes back.
     pub fn new(
@@ -67,7 +68,8 @@ impl<'a, R: Clock, E: Turning> Running<'a, R, E> {
     pub fn into_engine(self) -> Option<E>
         ensures { result ≡ engine_in self.entry }
     {
-        self.engine
+        let Running { engine, .. } = self;
+        engine
     }
 
     /// After a poll that moved something.
@@ -148,6 +150,8 @@ fn timer<R: Clock>(rt: &R, handle: &Handle) -> io::Result<Sleep> {
 }
 
 impl<R: Clock, E: Turning> Future for Running<'_, R, E> {
+    ghost use Rattle.kp_running.specs.Running.{Reaches};
+
     type Output = (E, E::Stop);
 
     ghost can_poll = { λ f. IsSome f.engine };
@@ -167,13 +171,13 @@ impl<R: Clock, E: Turning> Future for Running<'_, R, E> {
         match polled {
             Poll::Ready(stop) => Poll::Ready((engine, stop)),
             Poll::Pending => {
-                let has_moved = engine.has_moved();
-                let due = engine.due_in();
-                self.engine = Some(engine);
-                if has_moved {
+                if engine.has_moved() {
+                    self.engine = Some(engine);
                     self.note_move();
                     return cx.yield_now();
                 }
+                let due = engine.due_in();
+                self.engine = Some(engine);
                 self.poll_rest(cx, due)
             }
         }
