@@ -18,6 +18,9 @@
 //! it is written; `look N` does the same and looks 100,000 records up, and `list N` reads each and keeps all records in
 //! one list that has just their room. `ask N` writes N Produce requests with a batch of 148 records each, `store N` offers
 //! each batch to a log as its request is written, and `answer N` has a broker answer each request in place of that.
+//! `turn N` sends N records through an engine to a broker in the same process, in full batches, until their reports are
+//! fetched, and `hold N` makes as many and drops them in batches; `rest N` polls an engine N times that has one sender, one
+//! partition and nothing to do, and `rests N` one with 64 senders and 1,024 partitions.
 #![tactic(auto)]
 
 mod answering;
@@ -27,18 +30,22 @@ mod logging;
 mod messages;
 mod queueing;
 mod samples;
+mod turning;
 mod work;
 
 use answering::{answers, asks, stores};
 use delivering::{Course, Plan, asks_in_vain, asks_when, delivers, ticks};
+use futures::test::MockTask;
 use laning::{
     hears, loses, passes, passes_by_rounds, records, rings, rings_by_rounds, sends, takes_in_vain,
 };
 use logging::{lists, looks, offers, spells};
 use messages::{cuts_bytes, cuts_whole, requests, responses, takes_waiting};
 use queueing::{Way, makes, queues};
-use std::alloc::{AllocError, Global};
+use std::alloc::{AllocError, AllocGlobal, Global};
 use std::io;
+use std::random::RandomSource;
+use turning::{holds, turns, waits};
 use work::{checksums, reads, reads_and_drops, writes};
 
 fn goes_through(
@@ -109,14 +116,38 @@ fn answer(alloc: Global, line: &str) -> Result<Option<u64>, AllocError> {
         "ask" => asks(alloc, times).map(Some),
         "store" => stores(alloc, times).map(Some),
         "answer" => answers(alloc, times).map(Some),
+        "hold" => holds(alloc, times).map(Some),
         _ => Ok(None),
     }
+}
+
+/// What the work of an engine that this line names came to; None where it names none.
+fn polled<R: RandomSource + AllocGlobal>(rt: &R, line: &str) -> io::Result<Option<u64>> {
+    let Some((work, times)) = line.split_once(' ') else {
+        return Ok(None);
+    };
+    let Ok(times) = times.parse::<u32>() else {
+        return Ok(None);
+    };
+    let alloc = rt.alloc();
+    let task = MockTask::new(rt)?;
+    let sum = match work {
+        "turn" => task.enter(|cx| turns(alloc, cx, times)),
+        "rest" => task.enter(|cx| waits(alloc, cx, 1, 1, times)),
+        "rests" => task.enter(|cx| waits(alloc, cx, 64, 1024, times)),
+        _ => return Ok(None),
+    };
+    Ok(Some(sum?))
 }
 
 fn main(rt: HostRuntime) -> io::Result<()> {
     for line in rt.lines(rt.alloc()) {
         let line = line?;
-        match answer(rt.alloc(), line.as_str())? {
+        let sum = match answer(rt.alloc(), line.as_str())? {
+            Some(sum) => Some(sum),
+            None => polled(&rt, line.as_str())?,
+        };
+        match sum {
             Some(sum) => println!(rt; "{line} {sum}")?,
             None => println!(rt; "{line} is no work")?,
         }

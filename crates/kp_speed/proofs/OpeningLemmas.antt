@@ -1,0 +1,56 @@
+-- An engine may be made of a core that was opened without audits, and of new lanes.
+use Rattle.std.proofs.Common.{◌≡◌, ℕ, ◌≤◌, false, [], length, sym, ap, refl, ◌∙◌, subst, arith}
+use Rattle.std.specs.Prelude.{All, replicate}
+use Rattle.std.proofs.lemmas.List.{length-map, length-replicate}
+use Rattle.kp_accum.specs.declared.config.Config.{Config}
+use Rattle.kp_lanes.specs.Intake.{lanes_of, intake_limits, passed_lists, told_lists}
+use Rattle.kp_lanes.specs.declared.intake.Intake.{Intake}
+use Rattle.kp_lanes.specs.declared.limits.Limits.{Limits}
+use Rattle.kp_rules.specs.Auditing.{opened, without_audits, unaudited}
+use Rattle.kp_rules.specs.Opening.{MayOpen, new_core}
+use Rattle.kp_rules.specs.Partitions.{new_partition}
+use Rattle.kp_rules.specs.Records.{Core}
+use Rattle.kp_rules.specs.declared.names.Names.{Names}
+use Rattle.kp_engine.specs.Opening.{MayTurn}
+
+module _ (c : Config) (names : Names) (partitions senders id correlation : ℕ) where
+  abbrev new : Core
+  new = opened false (new_core c names partitions senders id correlation)
+
+  reports_in : length new.reports ≡ senders
+  unfolding new_core without_audits
+  reports_in = length-replicate senders []
+
+  partitions_in : length new.partitions ≡ partitions
+  unfolding new_core without_audits
+  partitions_in = length-map (replicate partitions (new_partition id)) unaudited ∙ length-replicate partitions (new_partition id)
+
+  config_in : new.config ≡ c
+  unfolding new_core without_audits
+  config_in = refl
+
+  pub may_turn : (core : Core) (intake : Intake) (most : ℕ) → core ≡ new → MayOpen c names partitions senders id correlation
+      → length (lanes_of intake) ≡ senders → intake_limits intake ≡ record { partitions = partitions; max_record = most }
+      → most ≤ c.max_request_size → most ≤ c.buffer_memory
+      → All (λ l. l ≡ []) (passed_lists intake) → All (λ l. l ≡ []) (told_lists intake) → MayTurn core intake
+  may_turn core intake most is may lanes limits request memory passed told =
+      let same : core.config ≡ c = ap (λ (s : Core). s.config) is ∙ config_in in
+      let largest : (intake_limits intake).max_record ≡ most = ap (λ (l : Limits). l.max_record) limits in record {
+        fresh = record {
+          audits = false;
+          config = c;
+          names = names;
+          partitions = partitions;
+          senders = senders;
+          id = id;
+          correlation = correlation;
+          may = may;
+          is = is;
+        };
+        senders = lanes ∙ sym (ap (λ (s : Core). length s.reports) is ∙ reports_in);
+        partitions = ap (λ (l : Limits). l.partitions) limits ∙ sym (ap (λ (s : Core). length s.partitions) is ∙ partitions_in);
+        request = subst (λ (k : Config). (intake_limits intake).max_record ≤ k.max_request_size) (sym same) (omega (arith, largest, request));
+        memory = subst (λ (k : Config). (intake_limits intake).max_record ≤ k.buffer_memory) (sym same) (omega (arith, largest, memory));
+        nothing_passed = passed;
+        nothing_told = told;
+      }
