@@ -4,7 +4,10 @@ use Rattle.std.specs.Prelude.{ℕ, Option, Some, None, Result, Ok, Err, OnErr, o
 use Rattle.kp_accum.specs.declared.fault.AppendFault.{AppendFault}
 use Rattle.kp_accum.specs.declared.fault.AppendFault.TheVariants.{BufferFull, OutOfMemory}
 use Rattle.kp_accum.specs.declared.item.Item.{Item}
+use Rattle.kp_wire.proofs.ListLemmas.{all_append}
 use Rattle.kp_rules.specs.Calls.{Call, Append, Step, Lives, life_of, followed_by}
+use Rattle.kp_rules.specs.Held.{IsRecord}
+use Rattle.kp_rules.specs.InOrder.{IsHeld}
 use Rattle.kp_rules.specs.Records.{Core}
 use Rattle.kp_rules.proofs.LeadingOnLemmas.{led_on, one_more}
 use Rattle.kp_engine.specs.Exchange.{Runs, kept_calls}
@@ -31,13 +34,15 @@ pub runs_none : (old new : Exchange) → new.core ≡ old.core → kept_calls ne
 runs_none old new core kept = record {
   life = record { appended = []; told = []; packets = [] };
   lives = nothing_lived old.core new.core core;
+  held = tt;
   kept = kept ∙ sym (none_noted (kept_calls old));
 }
 
-pub runs_one : (old new : Exchange) (x : Call) → Step old.core x new.core → kept_calls new ≡ noted (x ∷ []) (kept_calls old) → Runs old (x ∷ []) new
-runs_one old new x step kept = record {
+pub runs_one : (old new : Exchange) (x : Call) → IsHeld x → Step old.core x new.core → kept_calls new ≡ noted (x ∷ []) (kept_calls old) → Runs old (x ∷ []) new
+runs_one old new x held step kept = record {
   life = followed_by (record { appended = []; told = []; packets = [] }) (life_of old.core x);
   lives = one_lived old.core new.core x step;
+  held = (held, tt);
   kept = kept;
 }
 
@@ -45,6 +50,7 @@ pub runs_then : (a b c : Exchange) (xs ys : List Call) → Runs a xs b → Runs 
 runs_then a b c xs ys p q = record {
   life = followed_by p.life q.life;
   lives = led_on a.core b.core c.core xs ys p.life q.life p.lives q.lives;
+  held = all_append IsHeld xs ys p.held q.held;
   kept = q.kept ∙ ap (λ (o : Option (List Call)). noted ys o) p.kept ∙ noted_then xs ys (kept_calls a);
 }
 
@@ -71,12 +77,12 @@ first_same : (x y : Item × AppendFault) → Some x ≡ Some y → y.0 ≡ x.0
 first_same x y is = let same : x ≡ y = cc in ap (λ (p : Item × AppendFault). p.0) (sym same)
 
 -- an append that was refused, and whose item is held
-pub refused_one : (i : ℕ) (item : Item) (fault : AppendFault) (old new : Exchange) → Step old.core (Append item (Err fault)) new.core
+pub refused_one : (i : ℕ) (item : Item) (fault : AppendFault) (old new : Exchange) → IsRecord item.body → Step old.core (Append item (Err fault)) new.core
     → kept_calls new ≡ noted (Append item (Err fault) ∷ []) (kept_calls old) → OnlyItem i old (Some item) new → AppendsOne i item old (Err fault) new
-refused_one i item BufferFull old new step kept only = (runs_one old new (Append item (Err BufferFull)) step kept, only)
-refused_one i item OutOfMemory old new step kept only = record {
+refused_one i item BufferFull old new held step kept only = (runs_one old new (Append item (Err BufferFull)) held step kept, only)
+refused_one i item OutOfMemory old new held step kept only = record {
   last = Some (item, OutOfMemory);
   its = first_same (item, OutOfMemory);
-  runs = runs_one old new (Append item (Err OutOfMemory)) step kept;
+  runs = runs_one old new (Append item (Err OutOfMemory)) held step kept;
   only = only;
 }

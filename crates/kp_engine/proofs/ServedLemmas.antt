@@ -1,6 +1,7 @@
 -- What polls of the engine come to, one after the other.
 use Rattle.std.proofs.Common.{◌≡◌, ℕ, ◌<◌, List, [], ◌∷◌, ◌++◌, length, map, refl, sym, ap, ◌∙◌, subst, ⊎_elim, append-nil, append_assoc, arith}
 use Rattle.std.specs.Prelude.{Option, Some, None, filter, option_to_list, ◌==◌}
+use Rattle.std.specs.List.{AllByRecursion}
 use Rattle.std.proofs.lemmas.Grind.{flat_map-append}
 use Rattle.std.proofs.lemmas.List.{map-append}
 use Rattle.std.proofs.lemmas.List.Elements.{filter-append}
@@ -10,8 +11,10 @@ use Rattle.kp_accum.specs.declared.item.Item.{Item}
 use Rattle.kp_connection.specs.Wire.{Told, Wired}
 use Rattle.kp_frames.specs.declared.fault.FrameFault.{FrameFault}
 use Rattle.kp_lanes.specs.Entries.{items_of}
+use Rattle.kp_wire.proofs.ListLemmas.{all_append}
 use Rattle.kp_rules.specs.Calls.{Call, End, Life, Lives, Step, appended_by, told_by}
 use Rattle.kp_rules.specs.Calls as call
+use Rattle.kp_rules.specs.InOrder.{IsHeld}
 use Rattle.kp_rules.specs.Records.{Core}
 use Rattle.kp_rules.specs.Records as core
 use Rattle.kp_rules.specs.Reports.{reports_to}
@@ -89,10 +92,11 @@ all_reports told held waiting handed fetched told2 held2 waiting2 news p q r =
     ∙ ap (λ (rs : List Report). told ++ held ++ rs) (sym r)
     ∙ sym (append_assoc (told ++ held) waiting news)
 
-pub served : (x y : Exchange) (calls : List Call) (life : Life) → Lives x.core calls life y.core → HasPlaces x → SameLanes x y → Moves x calls y → Served x calls y
-served x y calls life lives places lanes moves = record {
+pub served : (x y : Exchange) (calls : List Call) (life : Life) → Lives x.core calls life y.core → AllByRecursion IsHeld calls → HasPlaces x → SameLanes x y → Moves x calls y → Served x calls y
+served x y calls life lives held places lanes moves = record {
   life = life;
   lives = lives;
+  held = held;
   lanes = lanes;
   places = lived_shape x.core calls life y.core lives ∙ places ∙ sym lanes.senders;
   took = λ i near. subst (λ (items : List Item). Took (side_of x i) (from_sender i items) (side_of y i)) (sym (lived_appends x.core calls life y.core lives)) (moves.sides i near);
@@ -123,6 +127,7 @@ pub joined : (x y z : Exchange) (a b : List Call) → Served x a y → Served y 
 joined x y z a b p q = record {
   life = call.followed_by p.life q.life;
   lives = led_on x.core y.core z.core a b p.life q.life p.lives q.lives;
+  held = all_append IsHeld a b p.held q.held;
   lanes = lanes_then x y z p.lanes q.lanes;
   places = q.places;
   took = λ i near.
@@ -210,7 +215,7 @@ until_moves now x y _ _ _ (TurnUntil.in_reports closes ticked items tick asked r
     (reports_until n now cut (mail_of x) (mail_of y) reports s)
 
 ran : (x y : Exchange) (calls : List Call) → Runs x calls y → HasPlaces x → SameLanes x y → Moves x calls y → (made : List Call) × Served x made y
-ran x y calls runs places lanes moves = (calls, served x y calls runs.life runs.lives places lanes moves)
+ran x y calls runs places lanes moves = (calls, served x y calls runs.life runs.lives runs.held places lanes moves)
 
 module _ {S : Type 0} (answers : Told S) (now : ℕ) (x : Exchange) (w : Wired S) (y : Exchange) (v : Wired S) (places : HasPlaces x) where
   on : TurnsOn answers now x w y v → (calls : List Call) × Served x calls y
@@ -230,18 +235,18 @@ module _ {S : Type 0} (answers : Told S) (now : ℕ) (x : Exchange) (w : Wired S
 
 -- ---- the core alone
 
-pub only_core_serves : (x y : Exchange) (calls : List Call) (life : Life) → Lives x.core calls life y.core → HasPlaces x → OnlyCore x y → Silent calls → Served x calls y
-only_core_serves x y calls life lives places only silent = served x y calls life lives places (core_lanes x y only) (record {
+pub only_core_serves : (x y : Exchange) (calls : List Call) (life : Life) → Lives x.core calls life y.core → AllByRecursion IsHeld calls → HasPlaces x → OnlyCore x y → Silent calls → Served x calls y
+only_core_serves x y calls life lives held places only silent = served x y calls life lives held places (core_lanes x y only) (record {
   sides = λ i near. subst (λ (items : List Item). Took (side_of x i) (from_sender i items) (side_of y i)) (sym silent.appends) (took_none (side_of x i) (side_of y i) (core_sides x y only i));
   mails = λ i near. subst (λ (rs : List Report). Handed (mail_of x i) rs (mail_of y i)) (sym (silent.fetches i)) (handed_none (mail_of x i) (mail_of y i) (core_mail x y only i));
 })
 
 pub end_serves : (x y : Exchange) (reports : ℕ) → HasPlaces x → Step x.core (End reports) y.core → OnlyCore x y → Served x (End reports ∷ []) y
-end_serves x y reports places step only = only_core_serves x y (End reports ∷ []) _ (one_lived x.core y.core (End reports) step) places only (record { appends = refl; fetches = λ i. refl })
+end_serves x y reports places step only = only_core_serves x y (End reports ∷ []) _ (one_lived x.core y.core (End reports) step) (tt, tt) places only (record { appends = refl; fetches = λ i. refl })
 
 cleared_serves : (x y : Exchange) → HasPlaces x → Cleared x y → Served x [] y
 cleared_serves x y places h =
-    only_core_serves x y [] _ (nothing_lived x.core y.core h.core) places (record { intake = h.intake; items = h.items; reports = h.reports; closed = h.closed })
+    only_core_serves x y [] _ (nothing_lived x.core y.core h.core) tt places (record { intake = h.intake; items = h.items; reports = h.reports; closed = h.closed })
     (record { appends = refl; fetches = λ i. refl })
 
 pub poll_serves : {S : Type 0} (answers : Told S) (line : Line S) (x : Exchange) (result : Poll Stop) (y : Exchange) (left : Line S)

@@ -1,9 +1,11 @@
 -- What contracts see of the core, the lanes and what is held between them.
 use Rattle.std.specs.Prelude.{◌≡◌, ◌⊎◌, ℕ, ◌+◌, ◌<◌, true, List, [], length, Option, None, IsSome}
+use Rattle.std.specs.List.{AllByRecursion}
 use Rattle.kp_lanes.specs.Intake.{lanes_of, intake_limits, intake_view, passed_of, asked_at_of, told_of, room_of, seen_of, places_of}
 use Rattle.kp_lanes.specs.Port.{HasNothing}
 use Rattle.kp_lanes.specs.declared.intake.Intake.{Intake}
 use Rattle.kp_rules.specs.Calls.{Call, Life, Lives}
+use Rattle.kp_rules.specs.InOrder.{IsHeld}
 use Rattle.kp_engine.specs.Agreement.{held_at, waiting_of}
 use Rattle.kp_engine.specs.Turn.{Side, Mail}
 use Rattle.kp_engine.specs.Turned.{calls_in, noted}
@@ -26,10 +28,11 @@ mail_of x i = record { told = told_of x.intake i; held = held_at x.reports.items
 abbrev pub kept_calls : Exchange → Option (List Call)
 kept_calls x = calls_in x.notes.turn
 
--- The core was run over these calls, and they are kept where that is asked for.
+-- The core was run over these calls, with values such as a program can hold, and they are kept where that is asked for.
 pub record Runs (old : Exchange) (calls : List Call) (new : Exchange) : Type 0 where
   pub life : Life
   pub lives : Lives old.core calls life new.core
+  pub held : AllByRecursion IsHeld calls
   pub kept : kept_calls new ≡ noted calls (kept_calls old)
 
 -- ---- what stays

@@ -43,11 +43,12 @@ pub record Reported (i : ℕ) (old : Exchange) (told : List Told) (new : Exchang
   pub handed : (mail_of new i).told ≡ (mail_of old i).told ++ more
   pub in_order : reports_of new i ≡ reports_of old i ++ reports_to i told
 
--- The core was run over these calls, on the same lanes. Each sender's items went from its lane into the core, and what
--- the core told of them went to its reports.
+-- The core was run over these calls, with values such as a program can hold, on the same lanes. Each sender's items went
+-- from its lane into the core, and what the core told of them went to its reports.
 pub record Served (old : Exchange) (calls : List Call) (new : Exchange) : Type 0 where
   pub life : Life
   pub lives : Lives old.core calls life new.core
+  pub held : AllByRecursion IsHeld calls
   pub lanes : SameLanes old new
   pub places : HasPlaces new
   pub took : (i : ℕ) → i < senders_of old → Took (side_of old i) (from_sender i life.appended) (side_of new i)
@@ -55,8 +56,7 @@ pub record Served (old : Exchange) (calls : List Call) (new : Exchange) : Type 0
 
 -- ---- from the beginning
 
--- An engine that was made of this core and of these lanes has served so, and is this one now. Its names are texts, and
--- the calls' values such as a program can hold.
+-- An engine that was made of this core and of these lanes has served so, and is this one now. Its names are texts.
 pub record HasServed (core : Core) (intake : Intake) (calls : List Call) (new : Exchange) : Type 0 where
   pub may : MayTurn core intake
   pub topic : IsUtf8 core.names.topic
@@ -64,7 +64,6 @@ pub record HasServed (core : Core) (intake : Intake) (calls : List Call) (new : 
   pub first : Exchange
   pub keeps : Bool
   pub is_new : IsNew core intake keeps first
-  pub held : AllByRecursion IsHeld calls
   pub served : Served first calls new
 
 -- ---- what goes over the connection

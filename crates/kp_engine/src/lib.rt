@@ -8,6 +8,7 @@ pub mod laws;
 mod moves;
 mod notes;
 mod parts;
+mod seen;
 mod stop;
 mod turn;
 mod turned;

@@ -7,6 +7,7 @@ ghost use Rattle.kp_engine.specs.Talking.{AsksOne, HearsOne, Requested};
 ghost use Rattle.kp_engine.specs.Turned.{HasPlace};
 
 use crate::exchange::Exchange;
+use crate::seen::see_bytes;
 use crate::turned::Turned;
 use kp_core::{CoreFault, Replied};
 use kp_frames::FrameFault;
@@ -78,6 +79,7 @@ impl Exchange {
         ensures runs { Runs self.old (Reply now content.items result ∷ []) self.new }
         ensures same { OnlyCore self.old self.new }
     {
+        see_bytes(content.as_slice());
         let answer = self.core.on_reply(content.as_slice(), now);
         self.notes
             .add(Turned::Reply(now, Blob::new(content), answer));

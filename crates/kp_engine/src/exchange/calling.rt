@@ -8,6 +8,7 @@ ghost use Rattle.kp_engine.specs.Exchange.{OnlyCore, Runs, senders_of};
 ghost use Rattle.kp_engine.specs.Steps.{AppendsOne, HoldsNow};
 
 use crate::exchange::Exchange;
+use crate::seen::see_record;
 use crate::turned::Turned;
 use kp_accum::{AppendFault, Item};
 use kp_core::Ticked;
@@ -47,6 +48,7 @@ impl Exchange {
         requires may { may_append item self.old.core ≡ true }
         ensures { AppendsOne sender item self.old result self.new }
     {
+        see_record(&item.body);
         let Ok(copy) = self.notes.reserve_append(&item) else {
             self.hold(sender, item);
             return Err(AppendFault::OutOfMemory);

@@ -27,7 +27,7 @@ invariant_of-self-in_default-append c = record {
 
 pub returns-in_default-append : goal.returns-in_default-append
 returns-in_default-append c = (
-  runs_one _ _ (Append c.args.item (Ok tt)) c.in_default-append.ensures.step
+  runs_one _ _ (Append c.args.item (Ok tt)) c.see_record.ensures c.in_default-append.ensures.step
       (noted_append c.args.item None c.in-Ok.copy _ _ _ c.add_append.ensures c.in-Ok.ensures.copy c.reserve_append.ensures.same),
   record { intake = refl; items = refl; reports = refl; closed = refl },
 )
@@ -49,7 +49,7 @@ pub returns : goal.returns
 returns c =
     let back : c.in-Err.item ≡ c.args.item = search rules in
     let h = c.hold-2.ensures in
-    refused_one c.args.sender c.args.item c.in-Err.fault c.args.self.now c.hold-2.new.self
+    refused_one c.args.sender c.args.item c.in-Err.fault c.args.self.now c.hold-2.new.self c.see_record.ensures
     (subst (λ t. Step c.args.self.now.core (Append c.args.item (Err c.in-Err.fault)) t) (sym h.core) c.in-Err.ensures.step)
     (h.kept ∙ noted_append c.args.item (Some c.in-Err.fault) c.in-Ok.copy _ _ _ c.add_append-2.ensures c.in-Ok.ensures.copy c.reserve_append.ensures.same)
     (record { intake = h.only.intake; items = h.only.items ∙ ap (λ (x : Item). slice_set c.args.self.now.items.items c.args.sender (Some x)) back; reports = h.only.reports; closed = h.only.closed })

@@ -16,7 +16,7 @@ invariant_of-self-2 c = record {
 
 pub returns-clause-ok : goal.returns-clause-ok
 returns-clause-ok c = record {
-  runs = runs_one c.args.self.now _ Close c.close.ensures (noted_behind (Close ∷ []) _ _ _ c.add.ensures c.reserve.ensures.same);
+  runs = runs_one c.args.self.now _ Close tt c.close.ensures (noted_behind (Close ∷ []) _ _ _ c.add.ensures c.reserve.ensures.same);
   closed = refl;
   intake = refl;
   items = refl;

@@ -15,4 +15,4 @@ invariant_of-self-2 c = record {
 }
 
 pub returns-clause-ok : goal.returns-clause-ok
-returns-clause-ok c = runs_one _ _ (Disconnect c.args.now) c.on_disconnect.ensures (noted_behind (Disconnect c.args.now ∷ []) _ _ _ c.add.ensures c.reserve.ensures.same)
+returns-clause-ok c = runs_one _ _ (Disconnect c.args.now) tt c.on_disconnect.ensures (noted_behind (Disconnect c.args.now ∷ []) _ _ _ c.add.ensures c.reserve.ensures.same)

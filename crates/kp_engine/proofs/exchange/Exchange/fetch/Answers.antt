@@ -34,7 +34,7 @@ returns-in-Some-clause-ok c =
     let near : c.args.sender < length c.args.self.now.core.reports = omega (arith, c.requires, c.args.self.now.agree.senders) in
     let waited = some_fetched c.args.self.now.core c.next_report.new.self c.args.sender c.in-Some.report near c.in-Some.ensures in
     let its : c.in-Some.report.sender ≡ c.args.sender = its_own c.args.sender c.in-Some.report _ _ waited (c.args.self.now.agree.its_waiting c.args.sender) in (
-      runs_one c.args.self.now _ (Fetch c.args.sender (Some c.in-Some.report)) c.in-Some.ensures
+      runs_one c.args.self.now _ (Fetch c.args.sender (Some c.in-Some.report)) tt c.in-Some.ensures
           (noted_behind (Fetch c.args.sender (Some c.in-Some.report) ∷ []) _ _ _ (c.add.ensures ∙ ap (λ (n : ℕ). noted (Fetch n (Some c.in-Some.report) ∷ []) (calls_in c.reserve.new.self.turn)) its) c.reserve.ensures.same),
       its,
       waited,

@@ -30,7 +30,7 @@ pub returns-clause-ok : goal.returns-clause-ok
 returns-clause-ok c =
     let near : c.args.sender < length (lanes_of c.args.self.now.intake) = omega (arith, c.requires, c.args.self.now.agree.lanes) in
     flushed c.args.sender c.args.self.now _ true near (sym c.if-not-asked.false ∙ c.asked.ensures.answer)
-    (runs_one c.args.self.now _ Flush c.flush.ensures (noted_behind (Flush ∷ []) _ _ _ c.add.ensures c.reserve.ensures.same))
+    (runs_one c.args.self.now _ Flush tt c.flush.ensures (noted_behind (Flush ∷ []) _ _ _ c.add.ensures c.reserve.ensures.same))
     c.asked.ensures.same.1 c.asked.ensures.since refl
 
 pub returns-clause-only : goal.returns-clause-only

@@ -30,11 +30,11 @@ pub returns-in-Ok-Some-clause-runs : goal.returns-in-Ok-Some-clause-runs
 returns-in-Ok-Some-clause-runs c = (
   c.in-Ok-Some.request,
   c.add_request.ensures.frame,
-  runs_one c.args.self.now _ (Request c.args.now (Ok (Some c.in-Ok-Some.request))) (asked_by _ _ _ c.in-Ok-Some.field-0 (Some c.in-Ok-Some.request) c.in-Ok-Some.field-0-is c.in-Ok-Some.ensures) c.add_request.ensures.noted,
+  runs_one c.args.self.now _ (Request c.args.now (Ok (Some c.in-Ok-Some.request))) tt (asked_by _ _ _ c.in-Ok-Some.field-0 (Some c.in-Ok-Some.request) c.in-Ok-Some.field-0-is c.in-Ok-Some.ensures) c.add_request.ensures.noted,
 )
 
 pub returns-in-Ok-None-clause-runs : goal.returns-in-Ok-None-clause-runs
-returns-in-Ok-None-clause-runs c = runs_one c.args.self.now _ (Request c.args.now (Ok None)) (asked_by _ _ _ c.in-Ok-None.field-0 None c.in-Ok-None.field-0-is c.in-Ok-None.ensures) c.add.ensures
+returns-in-Ok-None-clause-runs c = runs_one c.args.self.now _ (Request c.args.now (Ok None)) tt (asked_by _ _ _ c.in-Ok-None.field-0 None c.in-Ok-None.field-0-is c.in-Ok-None.ensures) c.add.ensures
 
 pub returns-in-Err-clause-runs : goal.returns-in-Err-clause-runs
-returns-in-Err-clause-runs c = runs_one c.args.self.now _ (Request c.args.now (Err c.in-Err.fault)) c.in-Err.ensures c.add-in-Err.ensures
+returns-in-Err-clause-runs c = runs_one c.args.self.now _ (Request c.args.now (Err c.in-Err.fault)) tt c.in-Err.ensures c.add-in-Err.ensures

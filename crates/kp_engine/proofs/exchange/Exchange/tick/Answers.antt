@@ -15,4 +15,4 @@ invariant_of-self-2 c = record {
 }
 
 pub returns-clause-ok : goal.returns-clause-ok
-returns-clause-ok c = runs_one _ _ (Tick c.args.now c.tick-ticked.result) c.tick-ticked.ensures (noted_behind (Tick c.args.now c.tick-ticked.result ∷ []) _ _ _ c.add.ensures c.reserve.ensures.same)
+returns-clause-ok c = runs_one _ _ (Tick c.args.now c.tick-ticked.result) tt c.tick-ticked.ensures (noted_behind (Tick c.args.now c.tick-ticked.result ∷ []) _ _ _ c.add.ensures c.reserve.ensures.same)
