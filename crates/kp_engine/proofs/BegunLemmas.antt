@@ -34,7 +34,7 @@ use Rattle.kp_engine.proofs.FreshLemmas.{fresh_reports, none_at, nothing_at}
 
 -- ---- a new engine
 
-empty_at : {A : Type 0} (xs : List (List A)) (i : ℕ) → All (λ l. l ≡ []) xs → get_or xs i [] ≡ []
+pub empty_at : {A : Type 0} (xs : List (List A)) (i : ℕ) → All (λ l. l ≡ []) xs → get_or xs i [] ≡ []
 empty_at xs i all = ⊎_elim (λ (near : i < length xs). All-get_or (λ l. l ≡ []) xs i [] near all) (λ (far : length xs ≤ i). nothing_beyond xs i far) (cases_lt i (length xs))
 
 pub new_places : (core : Core) (intake : Intake) (keeps : Bool) (x : Exchange) → IsNew core intake keeps x → HasPlaces x
@@ -193,16 +193,18 @@ module _ (core : Core) (intake : Intake) (calls : List Call) (y : Exchange) (h :
       add_up : (taken appended held told left : ℕ) → taken ≡ appended + held → appended ≡ told + left → taken ≡ held + left + told
       add_up taken appended held told left p q = omega (arith, p, q)
 
+  appended_at_the_end : y.core.ended ≡ true → (i : ℕ) → (w : Item → ℕ)
+      → sum_by w (from_sender i h.served.life.appended) ≡ sum_by w (from_sender i (map (λ t. t.item) h.served.life.told))
+  appended_at_the_end ended i w =
+      sym (sum_of_sender i w h.served.life.appended)
+      ∙ all_told f.config f.names f.partitions f.senders f.id f.correlation calls h.served.life alike.with_audits alike.lives (sym alike.end ∙ ended) (of_sender i w)
+      ∙ sum_of_sender i w (map (λ (t : Told). t.item) h.served.life.told)
+
   pub taken_at_the_end : y.core.ended ≡ true → (i : ℕ) → i < senders_of y → (w : Item → ℕ) → sum_by w (items_of (side_of y i).passed)
       ≡ sum_by w (option_to_list (side_of y i).held) + sum_by w (from_sender i (map (λ t. t.item) h.served.life.told))
   taken_at_the_end ended i near w =
-      let told = map (λ (t : Told). t.item) h.served.life.told in
-      let appended : sum_by w (from_sender i h.served.life.appended) ≡ sum_by w (from_sender i told) =
-      sym (sum_of_sender i w h.served.life.appended)
-      ∙ all_told f.config f.names f.partitions f.senders f.id f.correlation calls h.served.life alike.with_audits alike.lives (sym alike.end ∙ ended) (of_sender i w)
-      ∙ sum_of_sender i w told in
       add_up (sum_by w (items_of (side_of y i).passed)) (sum_by w (from_sender i h.served.life.appended)) (sum_by w (option_to_list (side_of y i).held))
-      (sum_by w (from_sender i told)) (taken_weighs i near w) appended
+      (sum_by w (from_sender i (map (λ (t : Told). t.item) h.served.life.told))) (taken_weighs i near w) (appended_at_the_end ended i w)
     where
       add_up : (taken appended held told : ℕ) → taken ≡ appended + held → appended ≡ told → taken ≡ held + told
       add_up taken appended held told p q = omega (arith, p, q)
@@ -225,3 +227,7 @@ module _ (core : Core) (intake : Intake) (calls : List Call) (y : Exchange) (h :
   taken_reported_at_the_end ended i near g =
       taken_at_the_end ended i near (λ x. g x.partition x.number)
       ∙ ap (λ (n : ℕ). sum_by (λ (x : Item). g x.partition x.number) (option_to_list (side_of y i).held) + n) (reports_weigh i near g)
+
+  pub appended_reported_at_the_end : y.core.ended ≡ true → (i : ℕ) → i < senders_of y → (g : ℕ → ℕ → ℕ)
+      → sum_by (λ x. g x.partition x.number) (from_sender i h.served.life.appended) ≡ sum_by (λ r. g r.partition r.number) (reports_of y i)
+  appended_reported_at_the_end ended i near g = appended_at_the_end ended i (λ x. g x.partition x.number) ∙ reports_weigh i near g

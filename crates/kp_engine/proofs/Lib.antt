@@ -18,4 +18,6 @@ pub mod HearingLemmas
 pub mod ServingLemmas
 pub mod ServedLemmas
 pub mod BegunLemmas
+pub mod SinceLemmas
+pub mod PartsLemmas
 pub mod FrameLemmas

@@ -8,3 +8,4 @@ pub mod Talking
 pub mod Polls
 pub mod Engine
 pub mod Serving
+pub mod Parts

@@ -1,6 +1,7 @@
 //! Laws of polls, one after the other.
 
 ghost use Rattle.std.specs.Prelude.{◌≡◌, ◌<◌, ◌+◌, ◌++◌, ◌∷◌, ℕ, Bool, [], true, List, Option, flat_map, map, option_to_list, sum_by};
+ghost use Rattle.std.specs.Str.{IsUtf8};
 ghost use Rattle.futures.specs.declared.task.Poll.{Poll};
 ghost use Rattle.kp_accum.specs.declared.item.Item.{Item};
 ghost use Rattle.kp_connection.specs.Wire.{Wired};
@@ -15,12 +16,14 @@ ghost use Rattle.kp_rules.specs.declared.outgoing.Outgoing.{Outgoing};
 ghost use Rattle.kp_engine.specs.Engine.{IsNew, Polls};
 ghost use Rattle.kp_engine.specs.Exchange.{senders_of, side_of, OnlyCore};
 ghost use Rattle.kp_engine.specs.Opening.{MayTurn};
+ghost use Rattle.kp_engine.specs.Parts.{ArePartsOf, IsAccounted};
 ghost use Rattle.kp_engine.specs.Polls.{Turn, Turns, TurnUntil};
 ghost use Rattle.kp_engine.specs.Serving.{asked_by, from_sender, replied_by, reports_of, HasPlaces, HasServed, Served};
 ghost use Rattle.kp_engine.specs.Talking.{contents_of, frames_of};
 ghost use Rattle.kp_engine.specs.Turn.{Heard};
 ghost use Rattle.kp_engine.specs.declared.engine.Line.{Line};
 ghost use Rattle.kp_engine.specs.declared.exchange.Exchange.{Exchange};
+ghost use Rattle.kp_engine.specs.declared.parts.Parts.{Parts};
 ghost use Rattle.kp_engine.specs.declared.stop.Cause.{Cause};
 ghost use Rattle.kp_engine.specs.declared.stop.Stop.{Stop};
 
@@ -94,6 +97,43 @@ pub fn after_the_end_each_has_one_report()
         → sum_by (λ x. f x.partition x.number) (items_of (side_of y i).passed)
         ≡ sum_by (λ x. f x.partition x.number) (option_to_list (side_of y i).held)
         + sum_by (λ r. f r.partition r.number) (reports_of y i) }
+{}
+
+// ---- poll by poll, since it was made
+
+/// A new engine has served no call.
+pub fn a_new_one_has_served_none()
+    ensures { (core : Core) (intake : Intake) (keeps : Bool) (x : Exchange) → MayTurn core intake
+        → IsUtf8 core.names.topic → IsUtf8 core.names.client → IsNew core intake keeps x → HasServed core intake [] x }
+{}
+
+/// With a poll it has served the poll's calls too.
+pub fn a_poll_is_served_too<S: Stream>()
+    ensures { (core : Core) (intake : Intake) (calls : List Call) (line : Line S) (x : Exchange) (result : Poll Stop)
+        (y : Exchange) (left : Line S) → HasServed core intake calls x → Polls S.answers line x result y left
+        → (more : List Call) × HasServed core intake (calls ++ more) y }
+{}
+
+/// And with an end, after which its core has ended.
+pub fn an_end_is_served_too()
+    ensures { (core : Core) (intake : Intake) (calls : List Call) (x y : Exchange) (told : ℕ) → HasServed core intake calls x
+        → Step x.core (End told) y.core → OnlyCore x y
+        → HasServed core intake (calls ++ End told ∷ []) y × (y.core.ended ≡ true) }
+{}
+
+// ---- an engine that is taken apart
+
+/// Once the core has ended, what the engine is taken apart into accounts for what was taken: of each sender's items, in
+/// order, those first have one report each, and the one behind them, if there is one, is held.
+pub fn parts_account_for_what_was_taken()
+    ensures { (core : Core) (intake : Intake) (calls : List Call) (x : Exchange) (parts : Parts)
+        → HasServed core intake calls x → x.core.ended ≡ true → ArePartsOf x parts → IsAccounted parts }
+{}
+
+/// A core and lanes of which no engine was made account for nothing.
+pub fn unmade_parts_account_for_nothing()
+    ensures { (core : Core) (intake : Intake) (parts : Parts) → MayTurn core intake → parts.core ≡ core
+        → parts.intake ≡ intake → parts.held.items.items ≡ [] → parts.held.reports.items ≡ [] → IsAccounted parts }
 {}
 
 // ---- what goes over the connection
