@@ -165,7 +165,7 @@ module _ (core : Core) (intake : Intake) (calls : List Call) (y : Exchange) (h :
 
   alike : LivedAlike f.config f.names f.partitions f.senders f.id f.correlation calls h.served.life y.core
   alike = lived_alike f.audits f.config f.names f.partitions f.senders f.id f.correlation calls h.served.life y.core f.may
-      (subst (λ (n : Names). IsUtf8 n.topic) its_names h.topic) (subst (λ (n : Names). IsUtf8 n.client) its_names h.client) h.served.held
+      (subst (λ (n : Names). IsUtf8 n.topic) its_names h.is_new.topic) (subst (λ (n : Names). IsUtf8 n.client) its_names h.is_new.client) h.served.held
       (subst (λ (s : Core). Lives s calls h.served.life y.core) (h.is_new.core ∙ f.is) h.served.lives)
 
   taken_weighs : (i : ℕ) → i < senders_of y → (w : Item → ℕ)

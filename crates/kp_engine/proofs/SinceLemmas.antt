@@ -1,7 +1,6 @@
 -- What an engine has served since it was made, poll by poll, up to its end.
 use Rattle.std.proofs.Common.{◌≡◌, ℕ, Bool, true, false, List, [], ◌∷◌, ◌++◌, refl, ap, ◌∙◌}
 use Rattle.std.specs.Prelude.{if◌then◌else◌}
-use Rattle.std.specs.Str.{IsUtf8}
 use Rattle.futures.specs.declared.task.Poll.{Poll}
 use Rattle.kp_connection.specs.Wire.{Told}
 use Rattle.kp_lanes.specs.declared.intake.Intake.{Intake}
@@ -19,12 +18,10 @@ use Rattle.kp_engine.proofs.BegunLemmas.{new_places}
 use Rattle.kp_engine.proofs.RunLemmas.{nothing_lived}
 use Rattle.kp_engine.proofs.ServedLemmas.{end_serves, joined, only_core_serves, poll_serves}
 
-pub none_served : (core : Core) (intake : Intake) (keeps : Bool) (x : Exchange) → MayTurn core intake → IsUtf8 core.names.topic
-    → IsUtf8 core.names.client → IsNew core intake keeps x → HasServed core intake [] x
-none_served core intake keeps x may topic client is_new = record {
+pub none_served : (core : Core) (intake : Intake) (keeps : Bool) (x : Exchange) → MayTurn core intake
+    → IsNew core intake keeps x → HasServed core intake [] x
+none_served core intake keeps x may is_new = record {
   may = may;
-  topic = topic;
-  client = client;
   first = x;
   keeps = keeps;
   is_new = is_new;
@@ -36,8 +33,6 @@ module _ (core : Core) (intake : Intake) (calls : List Call) (x y : Exchange) (h
   pub more_served : (more : List Call) → Served x more y → HasServed core intake (calls ++ more) y
   more_served more served = record {
     may = h.may;
-    topic = h.topic;
-    client = h.client;
     first = h.first;
     keeps = h.keeps;
     is_new = h.is_new;

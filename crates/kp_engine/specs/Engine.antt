@@ -1,5 +1,6 @@
 -- What contracts see of an engine.
 use Rattle.std.specs.Prelude.{◌≡◌, ℕ, true, false, not, Bool, [], length, replicate, Option, Some, None, option_map, if◌then◌else◌}
+use Rattle.std.specs.Str.{IsUtf8}
 use Rattle.futures.specs.declared.task.Poll.{Poll}
 use Rattle.futures.specs.declared.task.Poll.TheVariants.{Ready, Pending}
 use Rattle.kp_connection.specs.Wire.{Told, Wired}
@@ -39,9 +40,11 @@ NeedsStream line = (cause : Cause) × (line ≡ Stopped (NeedStream cause))
 
 -- ---- a new one
 
--- Nothing was taken, held or called, and the calls are kept where that is asked for.
+-- Nothing was taken, held or called, and the calls are kept where that is asked for. The core's names are texts.
 pub record IsNew (given : Core) (lanes : Intake) (keeps : Bool) (x : Exchange) : Type 0 where
   pub core : x.core ≡ given
+  pub topic : IsUtf8 given.names.topic
+  pub client : IsUtf8 given.names.client
   pub intake : x.intake ≡ lanes
   pub items : x.items.items ≡ replicate (length given.reports) None
   pub reports : x.reports.items ≡ replicate (length given.reports) None

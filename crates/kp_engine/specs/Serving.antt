@@ -1,7 +1,6 @@
 -- What polls of the engine come to, one after the other: what became of each sender's items, and where its reports are.
 use Rattle.std.specs.Prelude.{◌≡◌, ℕ, ◌<◌, ◌==◌, Bool, List, [], ◌∷◌, ◌++◌, length, filter, option_to_list, Some, Ok}
 use Rattle.std.specs.List.{AllByRecursion}
-use Rattle.std.specs.Str.{IsUtf8}
 use Rattle.kp_accum.specs.declared.item.Item.{Item}
 use Rattle.kp_lanes.specs.Entries.{items_of}
 use Rattle.kp_lanes.specs.declared.intake.Intake.{Intake}
@@ -56,11 +55,9 @@ pub record Served (old : Exchange) (calls : List Call) (new : Exchange) : Type 0
 
 -- ---- from the beginning
 
--- An engine that was made of this core and of these lanes has served so, and is this one now. Its names are texts.
+-- An engine that was made of this core and of these lanes has served so, and is this one now.
 pub record HasServed (core : Core) (intake : Intake) (calls : List Call) (new : Exchange) : Type 0 where
   pub may : MayTurn core intake
-  pub topic : IsUtf8 core.names.topic
-  pub client : IsUtf8 core.names.client
   pub first : Exchange
   pub keeps : Bool
   pub is_new : IsNew core intake keeps first

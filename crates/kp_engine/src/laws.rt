@@ -1,7 +1,6 @@
 //! Laws of polls, one after the other.
 
 ghost use Rattle.std.specs.Prelude.{◌≡◌, ◌<◌, ◌+◌, ◌++◌, ◌∷◌, ℕ, Bool, [], true, List, Option, flat_map, map, option_to_list, sum_by};
-ghost use Rattle.std.specs.Str.{IsUtf8};
 ghost use Rattle.futures.specs.declared.task.Poll.{Poll};
 ghost use Rattle.kp_accum.specs.declared.item.Item.{Item};
 ghost use Rattle.kp_connection.specs.Wire.{Wired};
@@ -104,7 +103,7 @@ pub fn after_the_end_each_has_one_report()
 /// A new engine has served no call.
 pub fn a_new_one_has_served_none()
     ensures { (core : Core) (intake : Intake) (keeps : Bool) (x : Exchange) → MayTurn core intake
-        → IsUtf8 core.names.topic → IsUtf8 core.names.client → IsNew core intake keeps x → HasServed core intake [] x }
+        → IsNew core intake keeps x → HasServed core intake [] x }
 {}
 
 /// With a poll it has served the poll's calls too.

@@ -10,13 +10,19 @@ ghost use Rattle.kp_rules.specs.Partitions.{all_untold, partition_at, used};
 use crate::machine::Core;
 use kp_accum::Config;
 use kp_parts::Partition;
-use kp_rules::Run;
+use kp_rules::{Names, Run};
 
 impl Core {
     pub fn config(&self) -> &Config
         ensures { result.now ≡ self.now.config }
     {
         &self.config
+    }
+
+    pub fn names(&self) -> &Names
+        ensures { result.now ≡ self.now.names }
+    {
+        &self.names
     }
 
     /// How many partitions there are.

@@ -3,6 +3,7 @@
 ghost use Rattle.std.specs.Prelude.{◌≡◌, ◌+◌, ◌≤◌, [], Some, None, IfOk, IfErr, false, length, option_map, option_to_list, replicate, vec_len, vec_capacity, if◌then◌else◌};
 ghost use Rattle.std.specs.List.{flat_map};
 ghost use Rattle.std.specs.Option.{option_copied};
+ghost use Rattle.std.specs.Str.{IsUtf8};
 ghost use Rattle.kp_rules.specs.Calls.{End, Step};
 ghost use Rattle.kp_engine.specs.Engine.{Cleared};
 ghost use Rattle.kp_engine.specs.Exchange.{OnlyCore};
@@ -11,6 +12,7 @@ ghost use Rattle.kp_engine.specs.Opening.{MayTurn};
 use crate::exchange::Exchange;
 use crate::notes::Notes;
 use crate::parts::{Held, Parts};
+use crate::seen::see_names;
 use crate::turned::Turned;
 use kp_accum::Item;
 use kp_core::{Core, Report};
@@ -29,9 +31,11 @@ impl Exchange {
         ensures made { IfOk result (λ x. (x.core ≡ core) × (x.intake ≡ intake) × (x.closed ≡ false)) }
         ensures items { IfOk result (λ x. x.items.items ≡ replicate (length core.reports) None) }
         ensures reports { IfOk result (λ x. x.reports.items ≡ replicate (length core.reports) None) }
+        ensures names { IfOk result (λ _. IsUtf8 core.names.topic × IsUtf8 core.names.client) }
         ensures turn { IfOk result (λ x. option_map (λ v. v.items) x.notes.turn ≡ (if keeps_turns then Some [] else None)) }
         ensures back { IfErr result (λ given. (given.0 ≡ core) × (given.1 ≡ intake)) }
     {
+        see_names(&core);
         let senders = core.senders();
         let Ok(items) = no_items(alloc, senders) else {
             return Err((core, intake));
