@@ -120,13 +120,13 @@ turn_goes now x y sent heard refused cut calls t =
 
 pub until_goes : (now : ℕ) (x y : Exchange) (sent : List Outgoing) (heard : List Heard) (calls : List Call) → TurnUntil now x y sent heard calls
     → (more : List (List ℕ)) × (flat_map asked_by calls ≡ frames_of sent ++ more) × (flat_map replied_by calls ≡ contents_of heard)
-until_goes now x y _ _ _ (TurnUntil.in_items calls p same) = (
+until_goes now x y _ _ _ (TurnUntil.in_items calls p closed same) = (
   [],
-  items_until_none asked_by (λ i answer. refl) refl refl (side_of x) (side_of y) calls p,
-  items_until_none replied_by (λ i answer. refl) refl refl (side_of x) (side_of y) calls p,
+  items_until_none asked_by (λ i answer. refl) refl (side_of x) (side_of y) calls p,
+  items_until_none replied_by (λ i answer. refl) refl (side_of x) (side_of y) calls p,
 )
-until_goes now x y _ _ _ (TurnUntil.before_the_tick closes items p same) = let goes = items_go x y closes items p in ([], goes.out, goes.back)
-until_goes now x y _ _ _ (TurnUntil.in_talk closes ticked items tick spoken sent heard p t q same) =
+until_goes now x y _ _ _ (TurnUntil.before_the_tick closes items p closed same) = let goes = items_go x y closes items p in ([], goes.out, goes.back)
+until_goes now x y _ _ _ (TurnUntil.in_talk closes ticked items tick spoken sent heard p closed t q same) =
     let spoke = talked now sent heard spoken q in
     let goes = goes_around items tick spoken [] (frames_of sent) spoke.more (contents_of heard)
     (items_go x y closes items p) (tick_goes now ticked tick t) (nothing_goes [] refl refl) spoke.goes in (
@@ -134,7 +134,7 @@ until_goes now x y _ _ _ (TurnUntil.in_talk closes ticked items tick spoken sent
       ap (flat_map asked_by) (sym (append-nil (items ++ tick ++ spoken))) ∙ goes.out,
       ap (flat_map replied_by) (sym (append-nil (items ++ tick ++ spoken))) ∙ goes.back,
     )
-until_goes now x y _ _ _ (TurnUntil.in_reports closes ticked items tick asked replied reports sent heard refused cut p t q r s) =
+until_goes now x y _ _ _ (TurnUntil.in_reports closes ticked items tick asked replied reports sent heard refused cut p closed t q r s) =
     let goes = goes_around items tick (asked ++ replied) reports (frames_of sent) [] (contents_of heard)
     (items_go x y closes items p) (tick_goes now ticked tick t)
     (nothing_goes reports

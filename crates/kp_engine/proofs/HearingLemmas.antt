@@ -37,19 +37,9 @@ use Rattle.kp_engine.specs.declared.turn.hearing.Listened.TheVariants as listene
 use Rattle.kp_engine.specs.declared.turn.hearing.Next.{Next}
 use Rattle.kp_engine.specs.declared.turn.hearing.Next.TheVariants as next
 use Rattle.kp_engine.proofs.RunLemmas.{runs_none, runs_then}
+use Rattle.kp_engine.proofs.TalkLemmas.{only_same, only_then}
 
 -- ---- what stays the same
-
-pub only_same : (x : Exchange) → OnlyCore x x
-only_same x = record { intake = refl; items = refl; reports = refl; closed = refl }
-
-pub only_through : (x y z : Exchange) → OnlyCore x y → OnlyCore y z → OnlyCore x z
-only_through x y z p q = record {
-  intake = q.intake ∙ p.intake;
-  items = q.items ∙ p.items;
-  reports = q.reports ∙ p.reports;
-  closed = q.closed ∙ p.closed;
-}
 
 -- Nothing was made of the core, but perhaps room in its notes.
 pub record Still (x y : Exchange) : Type 0 where
@@ -92,7 +82,7 @@ module _ {S : Type 0} (answers : Told S) (in_order : (a : S) (xs : List Answer) 
   pub some_then : HearsSome answers now x w before xs y v → HearsSome answers now y v heard ys z u → HearsSome answers now x w (before ++ heard) (xs ++ ys) z u
   some_then p q = record {
     runs = runs_both p.runs q.runs;
-    only = only_through x y z p.only q.only;
+    only = only_then x y z p.only q.only;
     goes = subst (λ (contents : List (List ℕ)). Goes answers w [] contents (xs ++ ys) u) (sym (map-append (λ (reply : Heard). reply.content) before heard))
         (Goes-then answers in_order w v u [] (contents_of before) [] (contents_of heard) xs ys p.goes q.goes);
   }
@@ -100,7 +90,7 @@ module _ {S : Type 0} (answers : Told S) (in_order : (a : S) (xs : List Answer) 
   pub until_then : HearsSome answers now x w before xs y v → HearsSomeUntil answers now y v heard ys z u → HearsSomeUntil answers now x w (before ++ heard) (xs ++ ys) z u
   until_then p q = record {
     runs = runs_both p.runs q.runs;
-    only = only_through x y z p.only q.only;
+    only = only_then x y z p.only q.only;
     stops = subst (λ (contents : List (List ℕ)). Stops answers w [] contents (xs ++ ys) u) (sym (map-append (λ (reply : Heard). reply.content) before heard))
         (Stops-then answers in_order w v u [] (contents_of before) [] (contents_of heard) xs ys p.goes q.stops);
   }
@@ -131,7 +121,7 @@ module _ {S : Type 0} (answers : Told S) (now : ℕ) (x y z : Exchange) (w v : W
   one_heard : (reply : Heard) → reply.content ≡ content → Runs y (hears now reply ∷ []) z → HearsSome answers now x w (reply ∷ []) [] z v
   one_heard reply is runs = record {
     runs = runs_then x y z [] (hears now reply ∷ []) (runs_none x y still.core still.calls) runs;
-    only = only_through x y z still.only only;
+    only = only_then x y z still.only only;
     goes = subst (λ (bytes : List ℕ). Goes answers w [] (bytes ∷ []) [] v) (sym is) gives.goes;
   }
 

@@ -21,3 +21,6 @@ pub mod BegunLemmas
 pub mod SinceLemmas
 pub mod PartsLemmas
 pub mod FrameLemmas
+pub mod ClosingLemmas
+pub mod OpeningLemmas
+pub mod LaneLemmas

@@ -1,5 +1,5 @@
 -- What polls of the engine come to, one after the other.
-use Rattle.std.proofs.Common.{◌≡◌, ℕ, ◌<◌, List, [], ◌∷◌, ◌++◌, length, map, refl, sym, ap, ◌∙◌, subst, ⊎_elim, append-nil, append_assoc, arith}
+use Rattle.std.proofs.Common.{◌≡◌, ℕ, ◌<◌, List, [], ◌∷◌, ◌++◌, length, map, refl, sym, ap, ◌∙◌, subst, inl, inr, append-nil, append_assoc, arith}
 use Rattle.std.specs.Prelude.{Option, Some, None, filter, option_to_list, ◌==◌}
 use Rattle.std.specs.List.{AllByRecursion}
 use Rattle.std.proofs.lemmas.Grind.{flat_map-append}
@@ -22,6 +22,7 @@ use Rattle.kp_rules.specs.declared.outcome.Report.{Report}
 use Rattle.kp_rules.specs.declared.outgoing.Outgoing.{Outgoing}
 use Rattle.kp_rules.proofs.LeadingOnLemmas.{led_on}
 use Rattle.kp_engine.specs.Agreement.{waiting_of}
+use Rattle.kp_engine.specs.Closing.{calls_of_poll, calls_of_turn}
 use Rattle.kp_engine.specs.Engine.{Cleared, Polls}
 use Rattle.kp_engine.specs.Exchange.{OnlyCore, Runs, SameLanes, SameMail, mail_of, senders_of, side_of}
 use Rattle.kp_engine.specs.Polls.{TalkUntil, Turn, TurnUntil, Turns, TurnsCut, TurnsOn, TurnsOut, is_cut}
@@ -195,18 +196,18 @@ turn_moves now x y sent heard refused cut calls t =
     (reports_handed n now (is_cut cut) (mail_of x) (mail_of y) t.reports t.of_reports))
 
 until_moves : (now : ℕ) (x y : Exchange) (sent : List Outgoing) (heard : List Heard) (calls : List Call) → TurnUntil now x y sent heard calls → Moves x calls y
-until_moves now x y _ _ _ (TurnUntil.in_items calls p same) =
+until_moves now x y _ _ _ (TurnUntil.in_items calls p closed same) =
     items_moved x y calls (items_until (senders_of x) (side_of x) (side_of y) calls p) same
-until_moves now x y _ _ _ (TurnUntil.before_the_tick closes items p same) =
+until_moves now x y _ _ _ (TurnUntil.before_the_tick closes items p closed same) =
     items_moved x y items (items_taken (senders_of x) (side_of x) (side_of y) closes items p) same
-until_moves now x y _ _ _ (TurnUntil.in_talk closes ticked items tick talked sent heard p t q same) =
+until_moves now x y _ _ _ (TurnUntil.in_talk closes ticked items tick talked sent heard p closed t q same) =
     let n = senders_of x in
     items_moved x y (items ++ tick ++ talked)
     (items_then n (side_of x) (side_of y) (items ++ tick) talked
     (items_then n (side_of x) (side_of y) items tick (items_taken n (side_of x) (side_of y) closes items p) (of_tick now ticked tick t))
     (of_talk now sent heard talked q))
     same
-until_moves now x y _ _ _ (TurnUntil.in_reports closes ticked items tick asked replied reports sent heard refused cut p t q r s) =
+until_moves now x y _ _ _ (TurnUntil.in_reports closes ticked items tick asked replied reports sent heard refused cut p closed t q r s) =
     let n = senders_of x in
     both_moved x y (items ++ tick ++ (asked ++ replied)) reports
     (items_then n (side_of x) (side_of y) (items ++ tick) (asked ++ replied)
@@ -214,24 +215,28 @@ until_moves now x y _ _ _ (TurnUntil.in_reports closes ticked items tick asked r
     (silent_then asked replied (of_asked now sent asked q) (of_replied now heard refused replied r)))
     (reports_until n now cut (mail_of x) (mail_of y) reports s)
 
-ran : (x y : Exchange) (calls : List Call) → Runs x calls y → HasPlaces x → SameLanes x y → Moves x calls y → (made : List Call) × Served x made y
-ran x y calls runs places lanes moves = (calls, served x y calls runs.life runs.lives runs.held places lanes moves)
+ran : (x y : Exchange) (calls : List Call) → Runs x calls y → HasPlaces x → SameLanes x y → Moves x calls y → Served x calls y
+ran x y calls runs places lanes moves = served x y calls runs.life runs.lives runs.held places lanes moves
 
 module _ {S : Type 0} (answers : Told S) (now : ℕ) (x : Exchange) (w : Wired S) (y : Exchange) (v : Wired S) (places : HasPlaces x) where
-  on : TurnsOn answers now x w y v → (calls : List Call) × Served x calls y
+  on : (p : TurnsOn answers now x w y v) → Served x p.calls y
   on p = ran x y p.calls p.runs places p.lanes (turn_moves now x y p.sent p.heard None None p.calls p.turn)
 
-  cut_off : (cause : Cause) → TurnsCut answers now x w cause y v → (calls : List Call) × Served x calls y
+  cut_off : (cause : Cause) (p : TurnsCut answers now x w cause y v) → Served x p.calls y
   cut_off cause p = ran x y p.calls p.runs places p.lanes (turn_moves now x y p.sent p.heard p.refused (Some cause) p.calls p.turn)
 
-  out : TurnsOut answers now x w y v → (calls : List Call) × Served x calls y
+  out : (p : TurnsOut answers now x w y v) → Served x p.calls y
   out p = ran x y p.calls p.runs places p.lanes (until_moves now x y p.sent p.heard p.calls p.turn)
 
+  its_turn_serves : (result : Poll Stop) (turns : Turns answers now x w result y v) → Served x (calls_of_turn answers now x w result y v turns) y
+  its_turn_serves Pending p = on p
+  its_turn_serves (Ready Done) (done, inl p) = on p
+  its_turn_serves (Ready Done) (done, inr (cause, p)) = cut_off cause p
+  its_turn_serves (Ready (NeedStream cause)) p = cut_off cause p
+  its_turn_serves (Ready OutOfMemory) p = out p
+
   pub turn_serves : (result : Poll Stop) → Turns answers now x w result y v → (calls : List Call) × Served x calls y
-  turn_serves Pending p = on p
-  turn_serves (Ready Done) p = ⊎_elim (λ (q : TurnsOn answers now x w y v). on q) (λ (q : (cause : Cause) × TurnsCut answers now x w cause y v). cut_off q.0 q.1) p.1
-  turn_serves (Ready (NeedStream cause)) p = cut_off cause p
-  turn_serves (Ready OutOfMemory) p = out p
+  turn_serves result turns = (calls_of_turn answers now x w result y v turns, its_turn_serves result turns)
 
 -- ---- the core alone
 
@@ -249,10 +254,13 @@ cleared_serves x y places h =
     only_core_serves x y [] _ (nothing_lived x.core y.core h.core) tt places (record { intake = h.intake; items = h.items; reports = h.reports; closed = h.closed })
     (record { appends = refl; fetches = λ i. refl })
 
+pub poll_serves_its : {S : Type 0} (answers : Told S) (line : Line S) (x : Exchange) (result : Poll Stop) (y : Exchange) (left : Line S)
+    → HasPlaces x → (poll : Polls answers line x result y left) → Served x (calls_of_poll answers line x result y left poll) y
+poll_serves_its answers (Open wire) x result y left places p =
+    let begun = cleared_serves x p.begun places p.cleared in
+    joined x p.begun y [] (calls_of_turn answers p.now p.begun wire result y p.after p.turns) begun (its_turn_serves answers p.now p.begun wire y p.after begun.places result p.turns)
+poll_serves_its answers (Stopped stop) x result y left places p = cleared_serves x y places p.0
+
 pub poll_serves : {S : Type 0} (answers : Told S) (line : Line S) (x : Exchange) (result : Poll Stop) (y : Exchange) (left : Line S)
     → HasPlaces x → Polls answers line x result y left → (calls : List Call) × Served x calls y
-poll_serves answers (Open wire) x result y left places p =
-    let begun = cleared_serves x p.begun places p.cleared in
-    let turned = turn_serves answers p.now p.begun wire y p.after begun.places result p.turns in
-    (turned.0, joined x p.begun y [] turned.0 begun turned.1)
-poll_serves answers (Stopped stop) x result y left places p = ([], cleared_serves x y places p.0)
+poll_serves answers line x result y left places poll = (calls_of_poll answers line x result y left poll, poll_serves_its answers line x result y left places poll)

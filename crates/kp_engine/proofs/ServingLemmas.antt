@@ -49,7 +49,7 @@ module _ {A : Type 0} (f : Call → List A) where
 
 -- ---- calls by which senders' items and reports go
 
-module _ {A : Type 0} (f : Call → List A) (appends_none : (x : Item) (answer : Result (Unit {0}) AppendFault) → f (Append x answer) ≡ []) (flushes_none : f Flush ≡ []) (closes_none : f Close ≡ []) where
+module _ {A : Type 0} (f : Call → List A) (appends_none : (x : Item) (answer : Result (Unit {0}) AppendFault) → f (Append x answer) ≡ []) (flushes_none : f Flush ≡ []) where
   each_none : (items : List Item) → flat_map f (appends items) ≡ []
   each_none items = none_of f (λ x. Append x (Ok tt)) (λ x. appends_none x (Ok tt)) items
 
@@ -71,14 +71,14 @@ module _ {A : Type 0} (f : Call → List A) (appends_none : (x : Item) (answer :
   until_none : (i : ℕ) (old new : Side) (calls : List Call) → SenderPartUntil i old calls new → flat_map f calls ≡ []
   until_none i old new calls p = ap (flat_map f) p.made ∙ before_nothing f (appends p.appended) (fails p.last) [] (each_none p.appended) (failed_none p.last)
 
-  parts_none : (n : ℕ) (old new : ℕ → Side) (calls : List Call) → SenderParts n old calls new → flat_map f calls ≡ []
+  pub parts_none : (n : ℕ) (old new : ℕ → Side) (calls : List Call) → SenderParts n old calls new → flat_map f calls ≡ []
   parts_none zero old new calls parts = ap (flat_map f) parts
   parts_none (suc n) old new calls parts =
       ap (flat_map f) parts.2
       ∙ before_nothing f parts.0 parts.1 [] (parts_none n old new parts.0 parts.3) (part_none n (old n) (new n) parts.1 parts.4)
 
-  pub items_none : (n : ℕ) (old new : ℕ → Side) (closes : Bool) (calls : List Call) → ItemsPart n old closes calls new → flat_map f calls ≡ []
-  items_none n old new closes calls p =
+  pub items_none : f Close ≡ [] → (n : ℕ) (old new : ℕ → Side) (closes : Bool) (calls : List Call) → ItemsPart n old closes calls new → flat_map f calls ≡ []
+  items_none closes_none n old new closes calls p =
       ap (flat_map f) p.made ∙ before_nothing f p.of_senders (if_so closes Close) [] (parts_none n old new p.of_senders p.parts) (if_none f closes Close closes_none)
 
   pub items_until_none : (old new : ℕ → Side) (calls : List Call) → ItemsPartUntil old calls new → flat_map f calls ≡ []
@@ -240,13 +240,13 @@ items_then n old new a b p q = record {
 pub items_taken : (n : ℕ) (old new : ℕ → Side) (closes : Bool) (calls : List Call) → ItemsPart n old closes calls new → TakeItems n old calls new
 items_taken n old new closes calls p = subst (λ (cs : List Call). TakeItems n old cs new) (sym p.made)
     (items_then n old new p.of_senders (if_so closes Close)
-    (record { sides = λ i near. each_took n old new p.of_senders i near p.parts; fetches = λ i. parts_none (fetched_by i) (λ x answer. refl) refl refl n old new p.of_senders p.parts })
+    (record { sides = λ i near. each_took n old new p.of_senders i near p.parts; fetches = λ i. parts_none (fetched_by i) (λ x answer. refl) refl n old new p.of_senders p.parts })
     (record { appends = if_none appended_by closes Close refl; fetches = λ i. if_none (fetched_by i) closes Close refl }))
 
 pub items_until : (n : ℕ) (old new : ℕ → Side) (calls : List Call) → ItemsPartUntil old calls new → TakeItems n old calls new
 items_until n old new calls p = record {
   sides = λ i near. subst (λ (cs : List Call). Took (old i) (from_sender i (appended_in cs)) (new i)) (sym p.made) (at i);
-  fetches = λ i. items_until_none (fetched_by i) (λ x answer. refl) refl refl old new calls p;
+  fetches = λ i. items_until_none (fetched_by i) (λ x answer. refl) refl old new calls p;
 }
   where
     m : ℕ

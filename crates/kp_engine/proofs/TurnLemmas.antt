@@ -9,8 +9,8 @@ use Rattle.kp_rules.specs.Calls.{Call, Tick}
 use Rattle.kp_frames.specs.declared.fault.FrameFault.{FrameFault}
 use Rattle.kp_rules.specs.declared.outgoing.Outgoing.{Outgoing}
 use Rattle.kp_rules.specs.declared.ticked.Ticked.{Ticked}
-use Rattle.kp_engine.specs.Exchange.{AreIdle, IsQuiet, OnlyCore, Runs, SameLanes, SameMail, mail_of, senders_of, side_of}
-use Rattle.kp_engine.specs.Polls.{CutFor, FinishesAll, FinishesUntil, IsDone, TalksAll, TalksCut, TalksOn, TalksOut, TurnUntil, Turns, TurnsCut, TurnsOn, TurnsOut, stop_of}
+use Rattle.kp_engine.specs.Exchange.{AreIdle, IsQuiet, OnlyCore, Runs, SameClosed, SameLanes, SameMail, mail_of, senders_of, side_of}
+use Rattle.kp_engine.specs.Polls.{Closed, CutFor, FinishesAll, FinishesUntil, IsDone, TalksAll, TalksCut, TalksOn, TalksOut, TurnUntil, Turns, TurnsCut, TurnsOn, TurnsOut, stop_of}
 use Rattle.kp_engine.specs.Steps.{OnlyMails, TakesAndCloses, TakesUntil}
 use Rattle.kp_engine.specs.Talking.{contents_of, frames_of}
 use Rattle.kp_engine.specs.Turn.{Heard, ItemsPart, Mail, MailPart, MailParts, RepliesPart, ReportsPart, ReportsPartUntil, RequestsPart, Side}
@@ -20,6 +20,7 @@ use Rattle.kp_engine.specs.declared.stop.Cause.TheVariants.{Io, TimedOut, BadRep
 use Rattle.kp_engine.proofs.AgreementLemmas.{none_some}
 use Rattle.kp_engine.proofs.AllLemmas.{parts_kept}
 use Rattle.kp_engine.proofs.RunLemmas.{runs_then}
+use Rattle.kp_engine.proofs.TalkLemmas.{only_then}
 use Rattle.kp_engine.proofs.SideLemmas.{idle_still, of_core, same_lanes}
 
 -- ---- pointwise the same mail before
@@ -237,7 +238,7 @@ module _ (now : ℕ) (x a b c d : Exchange) (idle : Bool) (ticked : Ticked) (tak
         → RequestsPart now sent asked → RepliesPart now heard refused replied → ReportsPartUntil now cut (mail_of c) reports (mail_of d)
         → TurnUntil now x d sent heard (takes.calls ++ (Tick now ticked ∷ []) ++ (asked ++ replied) ++ reports)
     until_reports cut sent heard refused asked replied reports p q r =
-        TurnUntil.in_reports takes.closes ticked takes.calls (Tick now ticked ∷ []) asked replied reports sent heard refused cut items_all refl p q
+        TurnUntil.in_reports takes.closes ticked takes.calls (Tick now ticked ∷ []) asked replied reports sent heard refused cut items_all (record { closed = closed_all; only = only_all }) refl p q
         (reports_until_from now cut (mail_of c) (mail_of x) (mail_of d) reports mail_before r)
 
     pub out_in_reports : (cut : Option Cause) → TalksAll answers now ticked.reconnect b w (Ok cut) c v → FinishesUntil now cut c d → TurnsOut answers now x w d v
@@ -269,19 +270,30 @@ module _ {S : Type 0} (answers : Told S) (nothing : (s : S) → answers s [] s) 
   nothing_stops : Stops answers w [] [] [] w
   nothing_stops = Goes-stops answers w w [] [] [] (Goes-nothing answers nothing w)
 
-  pub out_in_items : TakesUntil x a → TurnsOut answers now x w a w
+  pub out_in_items : TakesUntil x a × SameClosed x a → TurnsOut answers now x w a w
   out_in_items p = record {
     sent = [];
     heard = [];
-    calls = p.calls;
+    calls = p.0.calls;
     xs = [];
-    turn = TurnUntil.in_items p.calls p.part same_mail;
-    runs = p.runs;
+    turn = TurnUntil.in_items p.0.calls p.0.part p.1 same_mail;
+    runs = p.0.runs;
     lanes = same_lanes_taken;
     stops = nothing_stops;
   }
 
   module _ (idle : Bool) (takes : TakesAndCloses x a idle) (b : Exchange) (tick_only : OnlyCore a b) where
+    closed_still : (c : Exchange) → OnlyCore a c → Closed x takes.closes c
+    closed_still c same = record {
+      closed = same.closed ∙ takes.closed;
+      only = λ so.
+          let p = takes.only so in (
+            p.0,
+            ap (λ i. (intake_view i).knows_quiet) same.intake ∙ p.1,
+            idle_then a c (core_sides a c same) (core_lanes a c same) (ap intake_view same.intake) p.2,
+          );
+    }
+
     pub out_before_the_tick : Runs a [] b → TurnsOut answers now x w b w
     out_before_the_tick runs = record {
       sent = [];
@@ -290,6 +302,7 @@ module _ {S : Type 0} (answers : Told S) (nothing : (s : S) → answers s [] s) 
       xs = [];
       turn = TurnUntil.before_the_tick takes.closes takes.calls
           (items_kept (senders_of x) (side_of x) (side_of a) (side_of b) takes.closes takes.calls (core_sides a b tick_only) takes.part)
+          (closed_still b tick_only)
           (λ k. core_mail a b tick_only k ∙ same_mail k);
       runs = subst (λ (calls : List Call). Runs x calls b) (append-nil takes.calls) (runs_then x a b takes.calls [] takes.runs runs);
       lanes = lanes_then x a b same_lanes_taken (core_lanes a b tick_only);
@@ -304,6 +317,7 @@ module _ {S : Type 0} (answers : Told S) (nothing : (s : S) → answers s [] s) 
       xs = p.xs;
       turn = TurnUntil.in_talk takes.closes ticked takes.calls (Tick now ticked ∷ []) p.calls p.sent p.heard
           (items_kept (senders_of x) (side_of x) (side_of a) (side_of c) takes.closes takes.calls (λ k. core_sides b c p.talks.only k ∙ core_sides a b tick_only k) takes.part)
+          (closed_still c (only_then a b c tick_only p.talks.only))
           refl p.until
           (λ k. core_mail b c p.talks.only k ∙ core_mail a b tick_only k ∙ same_mail k);
       runs = runs_then x b c (takes.calls ++ (Tick now ticked ∷ [])) p.calls (runs_then x a b takes.calls (Tick now ticked ∷ []) takes.runs ticks) p.talks.runs;

@@ -9,3 +9,4 @@ pub mod Polls
 pub mod Engine
 pub mod Serving
 pub mod Parts
+pub mod Closing

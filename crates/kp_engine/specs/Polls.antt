@@ -14,7 +14,7 @@ use Rattle.kp_rules.specs.declared.outgoing.Outgoing.{Outgoing}
 use Rattle.kp_rules.specs.declared.ticked.Ticked.{Ticked}
 use Rattle.kp_rules.specs.Partitions.{all_untold}
 use Rattle.kp_engine.specs.Agreement.{waiting_of}
-use Rattle.kp_engine.specs.Exchange.{AreIdle, HasMoved, IsQuiet, Runs, SameLanes, SameMail, mail_of, senders_of, side_of}
+use Rattle.kp_engine.specs.Exchange.{AreIdle, HasMoved, IsQuiet, Runs, SameClosed, SameLanes, SameMail, mail_of, senders_of, side_of}
 use Rattle.kp_engine.specs.Talking.{CutBy, HeardAll, Talks, TalksUntil, contents_of, frames_of}
 use Rattle.kp_engine.specs.Turn.{Heard, ItemsPart, ItemsPartUntil, RepliesPart, RepliesPartUntil, ReportsPart, ReportsPartUntil, RequestsPart, RequestsPartUntil, TickPart}
 use Rattle.kp_engine.specs.declared.exchange.Exchange.{Exchange}
@@ -144,17 +144,24 @@ pub record Turn (now : ℕ) (x : Exchange) (sent : List Outgoing) (heard : List 
   -- reports are held back only where the sender's ring is full
   pub moved : (k : ℕ) → k < senders_of y → HasMoved k y
 
+-- Whether this is closed now: the core was closed at most once, and only where no sender could send any more before all
+-- was taken.
+pub record Closed (x : Exchange) (closes : Bool) (y : Exchange) : Type 0 where
+  pub closed : y.closed ≡ (x.closed || closes)
+  pub only : IsTrue closes → (x.closed ≡ false) × IsQuiet y × AreIdle y
+
 -- A turn until memory was refused: its parts before, and what there is of the one in which it was.
 pub data TurnUntil (now : ℕ) (x y : Exchange) : List Outgoing → List Heard → List Call → Type 0 where
-  in_items : (calls : List Call) → ItemsPartUntil (side_of x) calls (side_of y) → SameMail x y → TurnUntil now x y [] [] calls
+  in_items : (calls : List Call) → ItemsPartUntil (side_of x) calls (side_of y) → SameClosed x y → SameMail x y
+      → TurnUntil now x y [] [] calls
   before_the_tick : (closes : Bool) (items : List Call) → ItemsPart (senders_of x) (side_of x) closes items (side_of y)
-      → SameMail x y → TurnUntil now x y [] [] items
+      → Closed x closes y → SameMail x y → TurnUntil now x y [] [] items
   in_talk : (closes : Bool) (ticked : Ticked) (items tick calls : List Call) (sent : List Outgoing) (heard : List Heard)
-      → ItemsPart (senders_of x) (side_of x) closes items (side_of y) → TickPart now ticked tick
+      → ItemsPart (senders_of x) (side_of x) closes items (side_of y) → Closed x closes y → TickPart now ticked tick
       → TalkUntil now sent heard calls → SameMail x y → TurnUntil now x y sent heard (items ++ tick ++ calls)
   in_reports : (closes : Bool) (ticked : Ticked) (items tick asked replied reports : List Call) (sent : List Outgoing)
       (heard : List Heard) (refused : Option (List ℕ × FrameFault)) (cut : Bool)
-      → ItemsPart (senders_of x) (side_of x) closes items (side_of y) → TickPart now ticked tick
+      → ItemsPart (senders_of x) (side_of x) closes items (side_of y) → Closed x closes y → TickPart now ticked tick
       → RequestsPart now sent asked → RepliesPart now heard refused replied
       → ReportsPartUntil now cut (mail_of x) reports (mail_of y)
       → TurnUntil now x y sent heard (items ++ tick ++ (asked ++ replied) ++ reports)

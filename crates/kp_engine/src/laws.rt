@@ -1,17 +1,23 @@
 //! Laws of polls, one after the other.
 
-ghost use Rattle.std.specs.Prelude.{◌≡◌, ◌<◌, ◌+◌, ◌++◌, ◌∷◌, ℕ, Bool, [], true, List, Option, flat_map, map, option_to_list, sum_by};
+ghost use Rattle.std.specs.Prelude.{◌≡◌, ◌<◌, ◌≤◌, ◌+◌, ◌++◌, ◌∷◌, ℕ, Bool, [], true, List, Option, flat_map, map, option_to_list, sum_by, length, All};
 ghost use Rattle.futures.specs.declared.task.Poll.{Poll};
+ghost use Rattle.kp_accum.specs.declared.config.Config.{Config};
 ghost use Rattle.kp_accum.specs.declared.item.Item.{Item};
 ghost use Rattle.kp_connection.specs.Wire.{Wired};
 ghost use Rattle.kp_frames.specs.declared.fault.FrameFault.{FrameFault};
 ghost use Rattle.kp_lanes.specs.Entries.{items_of};
+ghost use Rattle.kp_lanes.specs.Intake.{intake_limits, lanes_of, passed_lists, told_lists};
 ghost use Rattle.kp_lanes.specs.declared.intake.Intake.{Intake};
+ghost use Rattle.kp_rules.specs.Auditing.{opened};
 ghost use Rattle.kp_rules.specs.Calls.{Call, End, Step};
+ghost use Rattle.kp_rules.specs.Opening.{MayOpen, new_core};
 ghost use Rattle.kp_rules.specs.Partitions.{all_untold};
 ghost use Rattle.kp_rules.specs.Records.{Core};
 ghost use Rattle.kp_rules.specs.Reports.{reports_to};
+ghost use Rattle.kp_rules.specs.declared.names.Names.{Names};
 ghost use Rattle.kp_rules.specs.declared.outgoing.Outgoing.{Outgoing};
+ghost use Rattle.kp_engine.specs.Closing.{ClosesOnce, Polled};
 ghost use Rattle.kp_engine.specs.Engine.{IsNew, Polls};
 ghost use Rattle.kp_engine.specs.Exchange.{senders_of, side_of, OnlyCore};
 ghost use Rattle.kp_engine.specs.Opening.{MayTurn};
@@ -53,7 +59,39 @@ pub fn serving_joins()
     ensures { (x y z : Exchange) (a b : List Call) → Served x a y → Served y b z → Served x (a ++ b) z }
 {}
 
+/// So do any number of polls and ends, one after the other, by all their calls.
+pub fn polls_serve<S: Stream>()
+    ensures { (x y : Exchange) (calls : List Call) → HasPlaces x → Polled S.answers x calls y → Served x calls y }
+{}
+
+/// A poll leaves the lanes as they are.
+pub fn a_poll_leaves_the_lanes<S: Stream>()
+    ensures { (line : Line S) (x : Exchange) (result : Poll Stop) (y : Exchange) (left : Line S)
+        → Polls S.answers line x result y left → lanes_of y.intake ≡ lanes_of x.intake }
+{}
+
+// ---- the close
+
+/// Over any number of polls and ends Close stands at most once among all their calls, also where memory is refused; and it
+/// stands there only after a poll that knew that no sender could send any more before it found each lane empty, and held
+/// nothing.
+pub fn polls_close_once<S: Stream>()
+    ensures { (x y : Exchange) (calls : List Call) → HasPlaces x → Polled S.answers x calls y → ClosesOnce x calls y }
+{}
+
 // ---- since the engine was made
+
+/// An engine may be made of a new core, with audits or without, and of lanes through which nothing went.
+pub fn an_engine_may_be_made()
+    ensures { (config : Config) (names : Names) (partitions senders id correlation : ℕ) (audits : Bool) (core : Core)
+        (intake : Intake) (most : ℕ)
+        → core ≡ opened audits (new_core config names partitions senders id correlation)
+        → MayOpen config names partitions senders id correlation
+        → length (lanes_of intake) ≡ senders
+        → intake_limits intake ≡ record { partitions = partitions; max_record = most }
+        → most ≤ config.max_request_size → most ≤ config.buffer_memory
+        → All (λ l. l ≡ []) (passed_lists intake) → All (λ l. l ≡ []) (told_lists intake) → MayTurn core intake }
+{}
 
 /// A new engine has its places.
 pub fn a_new_one_has_places()

@@ -8,7 +8,7 @@ use Rattle.kp_engine.proofs.turn.turn.Goals as goal
 
 pub returns-in_default-clause-turns : goal.returns-in_default-clause-turns
 returns-in_default-clause-turns g c =
-    out_in_items g.S.Stream.answers g.met.S.Stream.answers_nothing c.args.now c.args.exchange.now c.take_items.new.self c.args.wire.now c.take_items.ensures.mail c.take_items.ensures.lanes c.in_default.ensures.takes.0
+    out_in_items g.S.Stream.answers g.met.S.Stream.answers_nothing c.args.now c.args.exchange.now c.take_items.new.self c.args.wire.now c.take_items.ensures.mail c.take_items.ensures.lanes c.in_default.ensures.takes
 
 pub returns-in_default-tick-clause-turns : goal.returns-in_default-tick-clause-turns
 returns-in_default-tick-clause-turns g c =
