@@ -15,6 +15,10 @@ pub struct Moves {
     any: bool,
     /// At each sender's place, whether something was taken from its lane or handed to it.
     served: [bool; MOST_SENDERS],
+    requests: u64,
+    replies: u64,
+    bytes_given: u64,
+    bytes_heard: u64,
 }
 
 impl Moves {
@@ -24,6 +28,10 @@ impl Moves {
             moment: 0,
             any: false,
             served: [false; MOST_SENDERS],
+            requests: 0,
+            replies: 0,
+            bytes_given: 0,
+            bytes_heard: 0,
         }
     }
 
@@ -31,12 +39,19 @@ impl Moves {
     pub(crate) fn note(&mut self, call: &Turned) {
         match call {
             Turned::Tick(now, _) => self.moment = *now,
-            Turned::Append(_, None)
-            | Turned::Flush
-            | Turned::Close
-            | Turned::Request(_, Ok(Some(_)))
-            | Turned::Reply(_, _, Ok(_))
-            | Turned::Told(_) => self.any = true,
+            Turned::Append(_, None) | Turned::Flush | Turned::Close | Turned::Told(_) => {
+                self.any = true;
+            }
+            Turned::Request(_, Ok(Some(request))) => {
+                self.any = true;
+                self.requests = self.requests.saturating_add(1);
+                self.bytes_given = self.bytes_given.saturating_add(request.bytes.len() as u64);
+            }
+            Turned::Reply(_, content, Ok(replied)) => {
+                self.any = true;
+                self.replies = self.replies.saturating_add(u64::from(replied.known));
+                self.bytes_heard = self.bytes_heard.saturating_add(content.len() as u64);
+            }
             Turned::Append(_, Some(_))
             | Turned::Request(_, _)
             | Turned::Reply(_, _, Err(_))
@@ -69,6 +84,34 @@ impl Moves {
         ensures { result ≡ self.now.any }
     {
         self.any
+    }
+
+    /// How many requests went out, to the stream or to wait for it.
+    pub fn requests(&self) -> u64
+        ensures { result ≡ self.now.requests }
+    {
+        self.requests
+    }
+
+    /// How many replies to requests in flight were heard.
+    pub fn replies(&self) -> u64
+        ensures { result ≡ self.now.replies }
+    {
+        self.replies
+    }
+
+    /// How many bytes the requests had that went out.
+    pub fn bytes_given(&self) -> u64
+        ensures { result ≡ self.now.bytes_given }
+    {
+        self.bytes_given
+    }
+
+    /// How many bytes the replies had that were heard, known or not, beside their sizes.
+    pub fn bytes_heard(&self) -> u64
+        ensures { result ≡ self.now.bytes_heard }
+    {
+        self.bytes_heard
     }
 
     /// Whether something was taken from the sender's lane, or handed to the sender.
