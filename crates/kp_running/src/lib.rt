@@ -12,6 +12,6 @@ mod turning;
 
 pub use bell::{Bell, SenderBell};
 pub use bells::Bells;
-pub use millis::Millis;
+pub use millis::{Millis, Passed};
 pub use running::Running;
 pub use turning::Turning;

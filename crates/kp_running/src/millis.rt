@@ -1,31 +1,62 @@
 //! The runtime's clock as an engine's.
 
-ghost use Rattle.std.specs.Prelude.{length};
+ghost use Rattle.std.specs.Prelude.{◌≡◌, ◌≤◌, length};
 
 use http_server::Log;
 use std::io;
 use std::time::{Clock, Instant};
 
-/// The runtime's clock as an engine's: milliseconds since it was made. Where the runtime's clock cannot be read, it shows
-/// what it showed last.
+/// What has passed since a moment, in milliseconds. It never goes back; where the clock cannot be read, it shows what it
+/// showed last.
+#[derive(Clone, Copy, Debug)]
+pub struct Passed {
+    start: Instant,
+    shown: u64,
+}
+
+impl Passed {
+    /// Since that moment. It shows 0.
+    pub fn since(start: Instant) -> Passed
+        ensures { result ≡ record { start = start; shown = 0 } }
+    {
+        Passed { start, shown: 0 }
+    }
+
+    /// Reads the clock.
+    pub fn read<R: Clock>(&mut self, rt: &R) -> u64
+        ensures shown { result ≡ self.new.shown }
+        ensures since { self.new.start ≡ self.old.start }
+        ensures never_back { self.old.shown ≤ self.new.shown }
+    {
+        if let Ok(passed) = self.start.elapsed(rt) {
+            let millis = u64::try_from(passed.as_millis()).unwrap_or(u64::MAX);
+            self.shown = self.shown.max(millis);
+        }
+        self.shown
+    }
+}
+
+/// The runtime's clock as an engine's: milliseconds since a moment.
 #[derive(Drop)]
 pub struct Millis<'a, R> {
     rt: &'a R,
-    start: Instant,
-    shown: u64,
+    passed: Passed,
     asked: Log<(), ()>,
 }
 
 impl<'a, R: Clock> Millis<'a, R> {
     /// It shows 0.
     pub fn new(rt: &'a R) -> io::Result<Millis<'a, R>> {
-        let start = Instant::now(rt)?;
-        Ok(Millis {
+        Ok(Millis::since(rt, Instant::now(rt)?))
+    }
+
+    /// Since that moment.
+    pub fn since(rt: &'a R, start: Instant) -> Millis<'a, R> {
+        Millis {
             rt,
-            start,
-            shown: 0,
+            passed: Passed::since(start),
             asked: Log::new(),
-        })
+        }
     }
 }
 
@@ -34,9 +65,6 @@ impl<R: Clock> kp_engine::Clock for Millis<'_, R> {
 
     fn now(&mut self) -> u64 {
         self.asked = self.asked.and(&(), &());
-        if let Ok(passed) = self.start.elapsed(self.rt) {
-            self.shown = u64::try_from(passed.as_millis()).unwrap_or(u64::MAX);
-        }
-        self.shown
+        self.passed.read(self.rt)
     }
 }
