@@ -1,0 +1,5 @@
+mod AccountLemmas
+mod FittingLemmas
+mod OpeningLemmas
+mod ProducerLemmas
+mod ServiceLemmas

@@ -1,0 +1,18 @@
+use Rattle.std.proofs.Common.{subst, sym}
+use Rattle.kp_engine.specs.declared.engine.Engine.{Engine}
+use Rattle.kp_engine.proofs.PartsLemmas.{accounted}
+use Rattle.kp_engine.proofs.SinceLemmas.{end_served}
+use Rattle.kp_client.specs.Serving.{lanes_in, Serves}
+use Rattle.kp_client.proofs.AccountLemmas.{all_accounted}
+use Rattle.kp_client.proofs.service.ended.Goals as goal
+
+pub new-requires : goal.new-requires
+new-requires g c =
+    let h = subst (λ (e : Engine _ _). Serves (lanes_in c.args.tended.engine) e) (sym c.into_engine-engine.ensures) c.requires in
+    let e = end_served h.core h.intake h.calls _ _ _ h.served c.end-told.ensures.step c.end-told.ensures.same.0 in
+    all_accounted _ (accounted _ _ _ _ _ e.0 e.1 (record {
+      core = c.into_parts.ensures.core.0;
+      intake = c.into_parts.ensures.core.1;
+      items = c.into_parts.ensures.items;
+      reports = c.into_parts.ensures.reports;
+    }))

@@ -1,0 +1,10 @@
+use Rattle.kp_client.proofs.ServiceLemmas.{runs_on, runs_to}
+use Rattle.kp_client.proofs.service.run_once.Goals as goal
+
+pub returns-in_ok-tended-in-Ok-clause-served : goal.returns-in_ok-tended-in-Ok-clause-served
+returns-in_ok-tended-in-Ok-clause-served g c =
+    runs_on _ _ c.in-Ok.running.engine c.args.tended c.in_ok-tended-in-Ok.stop c.in_ok-tended-in-Ok.tended c.in-Ok.ensures.ok c.in_ok-tended-in-Ok.ensures
+
+pub returns-in_ok-tended-in-Ok-clause-stopped : goal.returns-in_ok-tended-in-Ok-clause-stopped
+returns-in_ok-tended-in-Ok-clause-stopped g c =
+    runs_to _ _ c.in-Ok.running.engine c.args.tended c.in_ok-tended-in-Ok.stop c.in_ok-tended-in-Ok.tended c.in-Ok.ensures.ok c.in_ok-tended-in-Ok.ensures

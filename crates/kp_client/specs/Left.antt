@@ -1,0 +1,32 @@
+-- What is left of a producer: each accepted record has one report, or comes back.
+use Rattle.std.specs.Prelude.{◌≡◌, ℕ, List, [], ◌++◌, slice_index_or}
+use Rattle.kp_accum.specs.declared.item.Item.{Item}
+use Rattle.kp_engine.specs.Agreement.{waiting_of}
+use Rattle.kp_engine.specs.Parts.{to_sender, HaveReports}
+use Rattle.kp_engine.specs.Serving.{from_sender}
+use Rattle.kp_engine.specs.declared.parts.Parts.{Parts}
+use Rattle.kp_lanes.specs.Sender.{all_accepted, all_got, finished_number}
+use Rattle.kp_lanes.specs.Settling.{left_items, left_reports}
+use Rattle.kp_lanes.specs.declared.sender.Finished.{Finished}
+use Rattle.kp_rules.specs.declared.outcome.Report.{Report}
+use Rattle.kp_client.specs.declared.left.Ended.{Ended}
+use Rattle.kp_client.specs.declared.left.Left.{Left}
+
+abbrev pub parts_in : Ended → Parts
+parts_in ended = ended.parts
+
+-- the sender's records that come back: the one that was held, and those that were not taken
+abbrev pub items_left : Left → ℕ → List Item
+items_left left i = from_sender i left.held.items.items ++ slice_index_or (left_items left.items.items) i []
+
+-- the sender's reports that it did not receive: those of its ring, the one that was held, and those that wait in the core
+abbrev pub reports_left : Left → ℕ → List Report
+reports_left left i = slice_index_or (left_reports left.reports.items) i []
+    ++ to_sender i left.held.reports.items ++ waiting_of left.core i
+
+-- Of the records that a sender had accepted, in their order, those first have one report each, received or left; and the
+-- others come back.
+pub record AccountsFor (left : Left) (f : Finished) : Type 0 where
+  pub sent : List Item
+  pub in_order : all_accepted f ≡ sent ++ items_left left (finished_number f)
+  pub reported : HaveReports sent (all_got f ++ reports_left left (finished_number f))

@@ -1,0 +1,10 @@
+pub mod Accounts
+pub mod Closing
+pub mod Fitting
+pub mod Left
+pub mod Opening
+pub mod Policy
+pub mod Producer
+pub mod Service
+pub mod Serving
+pub mod Settings

@@ -1,0 +1,64 @@
+-- What contracts see of a sender's handle.
+use Rattle.std.specs.Prelude.{◌≡◌, ◌≢◌, ℕ, [], ◌∷◌, ◌++◌, Option, Some, None, Result, Ok, Err}
+use Rattle.kp_batch.specs.declared.record.Record.{Record}
+use Rattle.kp_lanes.specs.Entries.{count_of}
+use Rattle.kp_lanes.specs.Sender.{accepted, entered, got, goes_to, sender_number, turn, turn_after, Accepts, Refuses, SameSender}
+use Rattle.kp_lanes.specs.declared.fault.SendFault.{SendFault}
+use Rattle.kp_lanes.specs.declared.fault.SendFault.TheVariants.{Closed}
+use Rattle.kp_lanes.specs.declared.sender.Sender.{Sender}
+use Rattle.kp_lanes.specs.declared.target.Target.{Target}
+use Rattle.kp_lanes.specs.declared.target.Ticket.{Ticket}
+use Rattle.kp_rules.specs.declared.outcome.Report.{Report}
+use Rattle.kp_client.specs.declared.producer.Producer.{Producer}
+
+-- its end of its lane
+abbrev pub lane_of : Producer → Sender
+lane_of producer = producer.sender
+
+-- the same sender, with the same lane
+abbrev pub SameProducer : Producer → Producer → Type 0
+SameProducer old new = SameSender (lane_of old) (lane_of new)
+
+-- The record was accepted, for the partition of its target and with its next number there, and stands last in the lane.
+pub record HasSent (old : Producer) (target : Target) (body : Record) (ticket : Ticket) (new : Producer) : Type 0 where
+  pub partition : ticket.partition ≡ goes_to (lane_of old) target body
+  pub may : Accepts (lane_of old) ticket.partition body
+  pub number : ticket.number ≡ count_of ticket.partition (accepted (lane_of old))
+  pub moment : ℕ
+  pub last : accepted (lane_of new) ≡ accepted (lane_of old)
+      ++ record { sender = sender_number (lane_of old); partition = ticket.partition; number = ticket.number; at = moment; body = body } ∷ []
+  pub turns : turn (lane_of new) ≡ turn_after (lane_of old) target body
+
+-- nothing has entered the lane, and the next record is numbered and placed as before
+pub record LostNothing (old new : Producer) : Type 0 where
+  pub entries : entered (lane_of new) ≡ entered (lane_of old)
+  pub turns : turn (lane_of new) ≡ turn (lane_of old)
+
+-- The record was refused and came back, and nothing has changed.
+pub record HasRefused (old : Producer) (target : Target) (body : Record) (fault : SendFault) (back : Record) (new : Producer) : Type 0 where
+  pub same : back ≡ body
+  pub lost_nothing : LostNothing old new
+  pub why : fault ≢ Closed → Refuses (lane_of old) (goes_to (lane_of old) target body) body fault
+
+abbrev pub Answers : Producer → Target → Record → Result Ticket (SendFault × Record) → Producer → Type 0
+Answers old target body (Ok ticket) new = HasSent old target body ticket new
+Answers old target body (Err refused) new = HasRefused old target body refused.0 refused.1 new
+
+-- One try: the record was accepted, or refused.
+pub record Sends (old : Producer) (target : Target) (body : Record) (answer : Result Ticket (SendFault × Record)) (new : Producer) : Type 0 where
+  pub same : SameProducer old new
+  pub heard : got (lane_of new) ≡ got (lane_of old)
+  pub answers : Answers old target body answer new
+
+-- The last of some tries, of which all others met a full lane.
+pub record SendsLater (old : Producer) (target : Target) (body : Record) (answer : Result Ticket (SendFault × Record)) (new : Producer) : Type 0 where
+  pub last : Producer
+  pub same : SameProducer old last
+  pub heard : got (lane_of last) ≡ got (lane_of old)
+  pub lost_nothing : LostNothing old last
+  pub sends : Sends last target body answer new
+
+-- the next report was received, or there was none to be seen
+abbrev pub Hears : Producer → Option Report → Producer → Type 0
+Hears old (Some report) new = got (lane_of new) ≡ got (lane_of old) ++ report ∷ []
+Hears old None new = got (lane_of new) ≡ got (lane_of old)

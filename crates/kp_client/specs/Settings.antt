@@ -1,0 +1,29 @@
+-- The first fault of a producer's settings.
+use Rattle.std.specs.Prelude.{ℕ, nat_lt, length, min, Result, Ok, Err, if◌then◌else◌}
+use Rattle.kp_accum.specs.Config.{checked}
+use Rattle.kp_accum.specs.declared.fault.ConfigFault.{ConfigFault}
+use Rattle.kp_connection.specs.declared.hello.Hello.{Hello}
+use Rattle.kp_lanes.specs.declared.limits.Limits.{Limits}
+use Rattle.kp_rules.specs.Opening.{NAME_LIMIT}
+use Rattle.kp_client.specs.declared.fault.OpenFault.{OpenFault}
+use Rattle.kp_client.specs.declared.fault.OpenFault.TheVariants.{Topic, Client, Config}
+use Rattle.kp_client.specs.declared.settings.Settings.{Settings}
+
+abbrev pub of_config : Result (Unit {0}) ConfigFault → Result (Unit {0}) OpenFault
+of_config (Ok done) = Ok done
+of_config (Err fault) = Err (Config fault)
+
+-- too long a topic, then too long a client's name, then the configuration's
+abbrev pub checked_settings : Settings → Result (Unit {0}) OpenFault
+checked_settings s =
+    if nat_lt NAME_LIMIT (length s.names.topic) then Err Topic
+    else if nat_lt NAME_LIMIT (length s.names.client) then Err Client
+    else of_config (checked s.config)
+
+-- the most that a record may take
+abbrev pub record_limit : Settings → ℕ
+record_limit s = min s.config.max_request_size s.config.buffer_memory
+
+-- what the lanes take: a record for a partition that is there, and that a request can hold, and the memory too
+abbrev pub limits_of : Hello → Settings → Limits
+limits_of hello s = record { partitions = hello.partitions; max_record = record_limit s }

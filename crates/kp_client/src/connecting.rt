@@ -1,0 +1,107 @@
+//! Connections to a broker.
+
+use crate::again::Again;
+use crate::fault::OpenFault;
+use kp_connection::{Handshake, HandshakeFault, Hello, Plain};
+use kp_core::Names;
+use std::alloc::AllocGlobal;
+use std::net::{Net, SocketAddr};
+use std::random::RandomSource;
+use std::sync::Wait;
+use std::time::{Clock, Duration};
+use std::{io, thread};
+use tokio::net::TcpStream;
+use tokio::runtime::LocalRuntime;
+
+/// The way to a broker.
+#[derive(Clone, Copy, Debug)]
+pub(crate) struct Way {
+    pub(crate) address: SocketAddr,
+    /// How long a connection may take to be made, and a handshake.
+    pub(crate) patience: Duration,
+}
+
+/// A connection to the broker.
+fn connect<R>(rt: &R, runtime: &mut LocalRuntime, way: Way) -> io::Result<TcpStream>
+where
+    R: Wait + Clock + RandomSource + AllocGlobal + Net,
+{
+    let connecting = TcpStream::connect(rt, way.address, runtime.handle().reactor());
+    let timed = runtime
+        .handle()
+        .time()
+        .timeout(rt, way.patience, connecting)?;
+    match runtime.block_on(rt, timed)? {
+        Ok(connected) => {
+            let socket = connected?;
+            socket.set_nodelay(true)?;
+            Ok(socket)
+        }
+        Err(_elapsed) => Err(io::ErrorKind::TimedOut.into()),
+    }
+}
+
+/// A connection for an engine. The first is no new one; where it can't be made, new ones are, as often and at such
+/// distances as the policy has it.
+pub(crate) fn connect_first<R>(
+    rt: &R,
+    runtime: &mut LocalRuntime,
+    way: Way,
+    again: &mut Again,
+) -> Option<Plain<TcpStream>>
+where
+    R: Wait + Clock + RandomSource + AllocGlobal + Net,
+{
+    match connect(rt, runtime, way) {
+        Ok(inner) => Some(Plain { inner }),
+        Err(_) => connect_again(rt, runtime, way, again),
+    }
+}
+
+/// A new connection in place of one that was lost. None where the policy allows no more.
+pub(crate) fn connect_again<R>(
+    rt: &R,
+    runtime: &mut LocalRuntime,
+    way: Way,
+    again: &mut Again,
+) -> Option<Plain<TcpStream>>
+where
+    R: Wait + Clock + RandomSource + AllocGlobal + Net,
+{
+    for _ in rt.forever() {
+        let wait = again.next()?;
+        if wait > 0 {
+            thread::sleep(rt, Duration::from_millis(wait));
+        }
+        if let Ok(inner) = connect(rt, runtime, way) {
+            return Some(Plain { inner });
+        }
+    }
+    unreachable!()
+}
+
+/// Asks the broker for the topic's partitions and for a producer id, over a connection that ends with this.
+pub(crate) fn greet<R>(rt: &R, way: Way, names: Names) -> Result<Hello, OpenFault>
+where
+    R: Wait + Clock + RandomSource + AllocGlobal + Net,
+{
+    let mut runtime = LocalRuntime::new(rt)?;
+    let inner = connect(rt, &mut runtime, way)?;
+    let greeting = Handshake::new(rt.alloc(), Plain { inner }, names);
+    let timed = runtime.handle().time().timeout(rt, way.patience, greeting)?;
+    match runtime.block_on(rt, timed)? {
+        Ok(Ok((hello, _stream))) => Ok(hello),
+        Ok(Err(fault)) => Err(fault.into()),
+        Err(_elapsed) => Err(OpenFault::Network),
+    }
+}
+
+/// A hello that names another number of partitions than was asked for is none.
+pub(crate) fn expect_partitions(hello: Hello, partitions: Option<u32>) -> Result<(), OpenFault> {
+    match partitions {
+        Some(expected) if expected != hello.partitions => {
+            Err(OpenFault::Handshake(HandshakeFault::BadAnswer))
+        }
+        _ => Ok(()),
+    }
+}

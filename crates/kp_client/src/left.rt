@@ -1,0 +1,118 @@
+//! What is left when a service has ended.
+
+ghost use Rattle.kp_client.specs.Accounts.{AllAccounted};
+
+use kp_accum::Item;
+use kp_core::{Core, Report};
+use kp_engine::{Cause, Held, Parts};
+use kp_lanes::{Finished, Intake, SettleFault, Settled};
+use std::alloc::Global;
+
+/// Why a service has ended.
+#[derive(Clone, Copy, Debug, PartialEq, Eq)]
+pub enum Ending {
+    /// The producer was closed, and each record that was accepted has its report.
+    Done,
+    /// The connection was lost for this, and the policy allowed no more new ones.
+    GaveUp(Cause),
+    /// Memory was refused.
+    OutOfMemory,
+}
+
+/// A service that has ended.
+#[derive(Drop)]
+pub struct Ended {
+    parts: Parts,
+    ending: Ending,
+    ghost accounted: { AllAccounted parts },
+}
+
+impl Ended {
+    ghost use Rattle.std.specs.Prelude.{◌≡◌, ◌≢◌, All, IfOk, IfErr, IsOk, length};
+    ghost use Rattle.kp_engine.specs.Opening.{MayTurn};
+    ghost use Rattle.kp_lanes.specs.Intake.{lanes_of};
+    ghost use Rattle.kp_lanes.specs.Settling.{EachOnce, IsOf, SameFinished};
+    ghost use Rattle.kp_lanes.specs.declared.fault.SettleFault.TheVariants.{Missing};
+    ghost use Rattle.kp_client.specs.Left.{parts_in, AccountsFor};
+
+    pub(crate) fn new(parts: Parts, ending: Ending) -> Ended
+        requires { AllAccounted parts }
+        ensures { parts_in result ≡ parts }
+    {
+        Ended { parts, ending }
+    }
+
+    /// One that took and told nothing.
+    pub(crate) fn unserved(alloc: Global, core: Core, intake: Intake, ending: Ending) -> Ended
+        requires { MayTurn core intake }
+        ensures { ((parts_in result).core ≡ core) × ((parts_in result).intake ≡ intake) }
+    {
+        let held = Held {
+            items: Vec::new(alloc),
+            reports: Vec::new(alloc),
+        };
+        Ended::new(Parts { core, intake, held }, ending)
+    }
+
+    /// Why it has ended.
+    pub fn ending(&self) -> Ending {
+        self.ending
+    }
+
+    /// The core, with the reports that no sender was told, and the audit where one is kept.
+    pub fn core(&self) -> &Core
+        ensures { result.now ≡ (parts_in self.now).core }
+    {
+        &self.parts.core
+    }
+
+    /// Takes back what is left, where all senders have finished: each once.
+    pub fn settle(
+        self,
+        alloc: Global,
+        finished: Vec<Finished>,
+    ) -> Result<Left, (SettleFault, Ended, Vec<Finished>)>
+        requires { All (IsOf (lanes_of (parts_in self).intake)) finished.items }
+
+        // Each accepted record has one report, or comes back.
+        ensures settled { IfOk result (λ left. All (AccountsFor left) finished.items) }
+        ensures all { IsOk result → EachOnce (length (lanes_of (parts_in self).intake)) finished.items }
+        ensures core { IfOk result (λ left. left.core ≡ (parts_in self).core) }
+
+        // At a fault nothing has changed.
+        ensures missing { IfErr result (λ e. e.0 ≡ Missing → ¬ EachOnce (length (lanes_of (parts_in self).intake)) finished.items) }
+        ensures not_missing { IfErr result (λ e. e.0 ≢ Missing → EachOnce (length (lanes_of (parts_in self).intake)) finished.items) }
+        ensures core_stays { IfErr result (λ e. (parts_in e.1).core ≡ (parts_in self).core) }
+        ensures finished { IfErr result (λ e. SameFinished finished.items e.2.items) }
+        ensures again { IfErr result (λ e. All (IsOf (lanes_of (parts_in e.1).intake)) e.2.items) }
+    {
+        let Ended { parts, ending } = self;
+        let Parts { core, intake, held } = parts;
+        match intake.settle(alloc, finished) {
+            Ok(Settled { left, reports }) => Ok(Left {
+                items: left,
+                reports,
+                held,
+                core,
+            }),
+            Err((fault, intake, finished)) => {
+                let parts = Parts { core, intake, held };
+                Err((fault, Ended::new(parts, ending), finished))
+            }
+        }
+    }
+}
+
+/// What is left of a producer. A sender's records without a report are the one that is held, and those of its lane; its
+/// reports that it did not receive are those of its ring, the one that is held, and those that wait in the core.
+#[derive(Drop)]
+pub struct Left {
+    /// At each sender's place its records that the service did not take, in their order.
+    pub items: Vec<Vec<Item>>,
+    /// At each sender's place the reports that it did not receive, in their order.
+    pub reports: Vec<Vec<Report>>,
+    /// What was on its way between the lanes and the core.
+    pub held: Held,
+    /// The core.
+    pub core: Core,
+}

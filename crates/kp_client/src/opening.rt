@@ -1,0 +1,109 @@
+//! Opening a producer.
+
+ghost use Rattle.std.specs.Prelude.{◌≡◌, ◌++◌, ◌∷◌, [], Ok, OnOk, IfOk, All, map};
+ghost use Rattle.std.specs.Arc.{arc_value};
+ghost use Rattle.kp_client.specs.Producer.{lane_of};
+ghost use Rattle.kp_client.specs.Service.{HasBell};
+ghost use Rattle.kp_client.specs.Settings.{checked_settings};
+ghost use Rattle.kp_engine.specs.Opening.{MayTurn};
+ghost use Rattle.kp_client.specs.Opening.{IsOpen};
+
+use crate::closer::Closer;
+use crate::connecting::{Way, expect_partitions, greet};
+use crate::fault::OpenFault;
+use crate::producer::Producer;
+use crate::service::Service;
+use crate::settings::Settings;
+use crate::shared::Shared;
+use kp_connection::Hello;
+use kp_lanes::{Sender, open_lanes};
+use std::alloc::{AllocError, AllocFailed, AllocGlobal, Global};
+use std::net::{Net, SocketAddr};
+use std::random::RandomSource;
+use std::sync::{Arc, Wait};
+use std::time::{Clock, Instant};
+
+/// A producer: the handles of its senders, each for a thread of its own, what closes it, and the service that sends for
+/// all of them, on a thread of its own.
+#[derive(Drop)]
+pub struct Opened {
+    pub producers: Vec<Producer>,
+    pub closer: Closer,
+    pub service: Service,
+}
+
+/// Opens a producer over the broker at this address: connects, asks for the topic's partitions and for a producer id, and
+/// opens the lanes. Nothing is sent before the service runs.
+pub fn open<R>(rt: &R, address: SocketAddr, settings: Settings) -> Result<Opened, OpenFault>
+where
+    R: Wait + Clock + RandomSource + AllocGlobal + Net,
+    ensures { IfOk result (IsOpen settings) }
+{
+    settings.check()?;
+    let alloc = rt.alloc();
+    let start = Instant::now(rt)?;
+    let names = settings.copy_names(alloc)?;
+    let way = Way {
+        address,
+        patience: settings.patience(),
+    };
+    let hello = greet(rt, way, names)?;
+    expect_partitions(hello, settings.partitions)?;
+    open_known(alloc, way, settings, hello, start)
+}
+
+/// Opens it where the broker has said hello.
+fn open_known(
+    alloc: Global,
+    way: Way,
+    settings: Settings,
+    hello: Hello,
+    start: Instant,
+) -> Result<Opened, OpenFault>
+    requires { checked_settings settings ≡ Ok tt }
+    ensures { IfOk result (IsOpen settings) }
+{
+    let (senders, intake, lanes) = open_lanes(
+        alloc,
+        settings.senders,
+        settings.capacity,
+        hello.partitions,
+        settings.max_record(),
+    )?;
+    let shared = Shared::new(alloc, settings.senders as usize, start)?;
+    let producers = handles(alloc, senders, &shared)?;
+    let closer = Closer::new(lanes, Arc::try_clone(&shared)?);
+    let service = Service::new(alloc, way, settings, hello, intake, shared)?;
+    Ok(Opened {
+        producers,
+        closer,
+        service,
+    })
+}
+
+/// The senders' handles.
+fn handles(
+    alloc: Global,
+    senders: Vec<Sender>,
+    shared: &Arc<Shared, Global>,
+) -> Result<Vec<Producer>, AllocError>
+    requires { All (HasBell (arc_value shared.now)) senders.items }
+    ensures { IfOk result (λ producers. map lane_of producers.items ≡ senders.items) }
+{
+    let mut producers = Vec::new(alloc);
+    for sender in senders {
+        let producer = Producer::new(sender, Arc::try_clone(shared)?);
+        push(&mut producers, producer)?;
+    }
+    Ok(producers)
+}
+
+/// Adds to a list.
+fn push<T: Drop>(all: &mut Vec<T>, x: T) -> Result<(), AllocError>
+    ensures { OnOk result (all.new.items ≡ all.old.items ++ x ∷ []) }
+{
+    match all.push(x) {
+        Ok(()) => Ok(()),
+        Err(AllocFailed { value: _ }) => Err(AllocError),
+    }
+}

@@ -1,0 +1,226 @@
+//! The service: what sends for all senders of a producer, on a thread of its own.
+
+ghost use Rattle.std.specs.Prelude.{◌≡◌, IfOk};
+ghost use Rattle.kp_engine.specs.Opening.{MayTurn};
+ghost use Rattle.kp_lanes.specs.Intake.{lanes_of};
+ghost use Rattle.kp_client.specs.Fitting.{Fits};
+ghost use Rattle.kp_client.specs.Left.{parts_in};
+ghost use Rattle.kp_client.specs.Serving.{lanes_in, GoesOn, Serves, StoppedFor};
+
+use crate::again::Again;
+use crate::connecting::{Way, connect_again, connect_first};
+use crate::fault::{OpenFault, ServiceFault};
+use crate::left::{Ended, Ending};
+use crate::settings::Settings;
+use crate::shared::Shared;
+use crate::tended::Tended;
+use kp_connection::{Hello, Plain, Stream};
+use kp_core::Core;
+use kp_engine::{Cause, Clock as Moments, Engine, Stop};
+use kp_lanes::Intake;
+use kp_running::{Millis, Running};
+use std::alloc::{AllocGlobal, Global};
+use std::net::Net;
+use std::random::RandomSource;
+use std::sync::{Arc, Wait};
+use std::time::Clock;
+use tokio::net::TcpStream;
+use tokio::runtime::LocalRuntime;
+
+/// What sends for all senders of a producer. It is run on a thread of its own, which makes its own connection.
+#[derive(Drop)]
+pub struct Service {
+    alloc: Global,
+    way: Way,
+    again: Again,
+    hello: Hello,
+    audits: bool,
+    core: Core,
+    intake: Intake,
+    shared: Arc<Shared, Global>,
+    ghost fits: { Fits audits hello core intake },
+}
+
+impl Service {
+    ghost use Rattle.std.specs.Prelude.{◌≤◌, [], Ok, All, length};
+    ghost use Rattle.kp_lanes.specs.Intake.{intake_limits, passed_lists, told_lists};
+    ghost use Rattle.kp_client.specs.Service.{intake_of};
+    ghost use Rattle.kp_client.specs.Settings.{checked_settings, limits_of};
+
+    pub(crate) fn new(
+        alloc: Global,
+        way: Way,
+        settings: Settings,
+        hello: Hello,
+        intake: Intake,
+        shared: Arc<Shared, Global>,
+    ) -> Result<Service, OpenFault>
+        requires settings { checked_settings settings ≡ Ok tt }
+        requires some { (1 ≤ settings.senders) × (settings.senders ≤ 64) }
+        requires lanes { length (lanes_of intake) ≡ settings.senders }
+        requires limits { intake_limits intake ≡ limits_of hello settings }
+        requires fresh { All (λ l. l ≡ []) (passed_lists intake) × All (λ l. l ≡ []) (told_lists intake) }
+        ensures { IfOk result (λ service. intake_of service ≡ intake) }
+    {
+        let Settings {
+            names,
+            senders,
+            config,
+            policy,
+            audits,
+            ..
+        } = settings;
+        let again = Again::new(policy, config.retry_backoff_ms);
+        let core = Core::new(
+            alloc,
+            config,
+            names,
+            hello.partitions,
+            senders,
+            hello.producer_id,
+            hello.next_correlation,
+            audits,
+        )?;
+        Ok(Service {
+            alloc,
+            way,
+            again,
+            hello,
+            audits,
+            core,
+            intake,
+            shared,
+        })
+    }
+
+    /// How many partitions the topic has.
+    pub fn partitions(&self) -> u32 {
+        self.hello.partitions
+    }
+
+    /// Sends what the senders' lanes accept, and hands reports to them, until the producer was closed and all is reported,
+    /// or no connection can be had any more, or memory is refused. Then what has no report is given up, and all that is
+    /// left comes back. Senders that wait are told that it has ended.
+    pub fn run<R>(self, rt: &R) -> Result<Ended, ServiceFault>
+    where
+        R: Wait + Clock + RandomSource + AllocGlobal + Net,
+        ensures { IfOk result (λ ended. lanes_of (parts_in ended).intake ≡ lanes_of (intake_of self)) }
+    {
+        let Service {
+            alloc,
+            way,
+            again,
+            core,
+            intake,
+            shared,
+            ..
+        } = self;
+        let ended = serve(rt, alloc, way, again, core, intake, &shared);
+        shared.stop();
+        ended
+    }
+}
+
+/// Opens an event loop and a connection, and serves.
+fn serve<R>(
+    rt: &R,
+    alloc: Global,
+    way: Way,
+    again: Again,
+    core: Core,
+    intake: Intake,
+    shared: &Shared,
+) -> Result<Ended, ServiceFault>
+where
+    R: Wait + Clock + RandomSource + AllocGlobal + Net,
+    requires { MayTurn core intake }
+    ensures { IfOk result (λ ended. lanes_of (parts_in ended).intake ≡ lanes_of intake) }
+{
+    let Ok(mut runtime) = LocalRuntime::new(rt) else {
+        return Ok(Ended::unserved(alloc, core, intake, Ending::OutOfMemory));
+    };
+    let mut again = again;
+    let Some(stream) = connect_first(rt, &mut runtime, way, &mut again) else {
+        return Ok(Ended::unserved(alloc, core, intake, Ending::GaveUp(Cause::Io)));
+    };
+    shared.counts.connections.add(1);
+    let clock = Millis::since(rt, shared.start);
+    match Engine::new(alloc, core, intake, stream, clock, false) {
+        Ok(engine) => {
+            let tended = Tended::new(engine, again, shared);
+            serve_on(rt, &mut runtime, way, shared, tended)
+        }
+        Err((core, intake, _stream, _clock)) => {
+            Ok(Ended::unserved(alloc, core, intake, Ending::OutOfMemory))
+        }
+    }
+}
+
+/// The engine of a service.
+type Served<'a, R> = Tended<'a, Plain<TcpStream>, Millis<'a, R>>;
+
+/// Serves over one connection after the other.
+fn serve_on<'a, R>(
+    rt: &'a R,
+    runtime: &mut LocalRuntime,
+    way: Way,
+    shared: &'a Shared,
+    tended: Served<'a, R>,
+) -> Result<Ended, ServiceFault>
+where
+    R: Wait + Clock + RandomSource + AllocGlobal + Net,
+    requires { Serves (lanes_in tended.engine) tended.engine }
+    ensures { IfOk result (λ ended. lanes_of (parts_in ended).intake ≡ lanes_in tended.entry.engine) }
+{
+    let mut tended = tended;
+    for _ in rt.forever() {
+        let (served, stop) = run_once(rt, runtime, shared, tended)?;
+        tended = served;
+        match stop {
+            Some(Stop::NeedStream(cause)) => {
+                match connect_again(rt, runtime, way, &mut tended.again) {
+                    Some(stream) => {
+                        shared.counts.connections.add(1);
+                        tended.engine.give_stream(stream);
+                    }
+                    None => return Ok(ended(tended, Ending::GaveUp(cause))),
+                }
+            }
+            Some(Stop::Done) => return Ok(ended(tended, Ending::Done)),
+            Some(Stop::OutOfMemory) | None => return Ok(ended(tended, Ending::OutOfMemory)),
+        }
+    }
+    unreachable!()
+}
+
+/// Runs the engine to its next stop. None, where there is no memory to run it in.
+fn run_once<'a, R>(
+    rt: &'a R,
+    runtime: &mut LocalRuntime,
+    shared: &'a Shared,
+    tended: Served<'a, R>,
+) -> Result<(Served<'a, R>, Option<Stop>), ServiceFault>
+where
+    R: Wait + Clock + RandomSource + AllocGlobal + Net,
+    ensures served { IfOk result (λ out. GoesOn tended.entry.engine out.0.engine) }
+    ensures stopped { IfOk result (λ out. StoppedFor out.1 out.0.engine) }
+{
+    match Running::new(rt, runtime.handle(), &shared.bells, tended) {
+        Ok(running) => {
+            let (tended, stop) = runtime.block_on(rt, running)?;
+            Ok((tended, Some(stop)))
+        }
+        Err((_refused, tended)) => Ok((tended, None)),
+    }
+}
+
+/// Gives up what has no report, and takes the engine apart.
+fn ended<S: Stream, C: Moments>(tended: Tended<'_, S, C>, ending: Ending) -> Ended
+    requires { Serves (lanes_in tended.engine) tended.engine }
+    ensures { lanes_of (parts_in result).intake ≡ lanes_in tended.entry.engine }
+{
+    tended.count_batches();
+    let mut engine = tended.into_engine();
+    let _told = engine.end();
+    Ended::new(engine.into_parts(), ending)
+}

@@ -1,0 +1,94 @@
+//! What a producer is opened with.
+
+ghost use Rattle.std.specs.Prelude.{◌≡◌, IfOk};
+ghost use Rattle.kp_client.specs.Settings.{checked_settings, record_limit};
+
+use crate::fault::OpenFault;
+use crate::policy::Policy;
+use kp_accum::Config;
+use kp_core::Names;
+use kp_wire::Text;
+use std::alloc::{AllocError, Global};
+use std::time::Duration;
+
+/// The longest name, of a topic or a client (Kafka's limit on topics).
+const NAME_LIMIT: usize = 249;
+
+/// What a producer is opened with.
+#[derive(Debug, Drop)]
+pub struct Settings {
+    /// The topic and the name by which the broker's logs know the client, of at most 249 bytes each.
+    pub names: Names,
+    /// How many senders there are, 1 to 64: each has a lane of its own, and is used by one thread at a time.
+    pub senders: u32,
+    /// How many records a lane holds that the service has not taken, and how many reports that its sender has not
+    /// received: 1 to 65536.
+    pub capacity: usize,
+    /// How records are batched, sent and retried.
+    pub config: Config,
+    /// How many partitions the topic is to have, where its number is known.
+    pub partitions: Option<u32>,
+    /// How often a connection that was lost is made anew.
+    pub policy: Policy,
+    /// Whether a list of the records that were handed over is kept. It grows as long as the producer lives.
+    pub audits: bool,
+}
+
+impl Settings {
+    /// The defaults: one sender with 1024 places, Kafka's configuration, as many partitions as the broker names, up to ten
+    /// new connections in a row, and no audit.
+    pub fn new(alloc: Global, topic: &str, client: &str) -> Result<Settings, AllocError> {
+        Ok(Settings {
+            names: Names {
+                topic: Text::from_str(alloc, topic)?,
+                client: Text::from_str(alloc, client)?,
+            },
+            senders: 1,
+            capacity: 1024,
+            config: Config::default(),
+            partitions: None,
+            policy: Policy::InARow(10),
+            audits: false,
+        })
+    }
+
+    /// The first fault of the names and of the configuration, if there is one. The senders' and the lanes' numbers are
+    /// looked at when the lanes are opened.
+    pub fn check(&self) -> Result<(), OpenFault>
+        ensures { result ≡ checked_settings self.now }
+    {
+        if self.names.topic.len() > NAME_LIMIT {
+            return Err(OpenFault::Topic);
+        }
+        if self.names.client.len() > NAME_LIMIT {
+            return Err(OpenFault::Client);
+        }
+        match self.config.check() {
+            Ok(()) => Ok(()),
+            Err(fault) => Err(OpenFault::Config(fault)),
+        }
+    }
+
+    /// The most that a record may take, as the size in bytes of the batch that holds it alone.
+    pub fn max_record(&self) -> u64
+        ensures { result ≡ record_limit self.now }
+    {
+        let config = self.config;
+        config.max_request_size.min(config.buffer_memory)
+    }
+
+    /// How long a connection may take to be made, and how long until it is known to a broker.
+    pub(crate) fn patience(&self) -> Duration {
+        Duration::from_millis(self.config.request_timeout_ms)
+    }
+
+    /// A copy of the names.
+    pub(crate) fn copy_names(&self, alloc: Global) -> Result<Names, AllocError>
+        ensures { IfOk result (λ names. names ≡ self.now.names) }
+    {
+        Ok(Names {
+            topic: Text::from_str(alloc, self.names.topic.as_str())?,
+            client: Text::from_str(alloc, self.names.client.as_str())?,
+        })
+    }
+}
