@@ -6,6 +6,7 @@ use Rattle.std.proofs.lemmas.Bool.{false_from_ne_true}
 use Rattle.std.proofs.lemmas.List.{length-replicate, get_or-replicate}
 use Rattle.kp_accum.specs.declared.config.Config.{Config}
 use Rattle.kp_accum.specs.declared.item.Item.{Item}
+use Rattle.kp_frames.specs.declared.response.Response.{Response}
 use Rattle.kp_log.proofs.PlaceLemmas.{In, In-head, In-tail}
 use Rattle.kp_rules.proofs.CallLemmas.{at_append}
 use Rattle.kp_rules.specs.Closing.{close_step, end_step}
@@ -28,8 +29,7 @@ use Rattle.kp_world.specs.Client.{handed_at, reply_line, flush_line}
 use Rattle.kp_world.specs.Delivering.{Delivery, log_at}
 use Rattle.kp_world.specs.Line.{Closed, Large, Empty, Full}
 use Rattle.kp_world.specs.Loopback.{logs_with_others}
-use Rattle.kp_world.specs.Message.{response_of}
-use Rattle.kp_world.specs.Run.{answer_line, with_delivery, Steps, MayBegin, IsReached}
+use Rattle.kp_world.specs.Run.{answer_line, reply_to, with_delivery, Steps, MayBegin, IsReached}
 use Rattle.kp_world.specs.World.{Reply, World, FIRST_ID, opening}
 use Rattle.kp_world.proofs.EventLemmas.{OfEvent, at_step, at_run}
 use Rattle.kp_world.proofs.AccountLemmas.{items_of, taken_of, Accepts, IsAccounted, accounts_only, accounts_noted, accounts_call}
@@ -92,11 +92,11 @@ single k (o ∷ os) rises one = at_test (awaits k o) refl (single k os rises.1 (
     at_test false is rest = omega (arith, rest)
 
 -- a reply that was given answers one batch of a partition
-is_single : (n : ℕ) (w : World) (r : Reply) → IsLawful n w → In r w.replies → IsSingle w.core (response_of r)
+is_single : (n : ℕ) (w : World) (r : Reply) → IsLawful n w → In r w.replies → IsSingle w.core r.response
 is_single n w r g given p k o a x named =
-    let h = heard n w r p o a g x in
+    let h = heard n w r p o a g given x in
     let steady = (g.agree p h.within).steady in
-    let its : k ≡ r.correlation = same_correlation k r.correlation named in
+    let its : k ≡ r.correlation = same_correlation k r.correlation (named ∙ (g.gave r given).answers.named) in
     single k (partition_at p w.core.partitions).open_batches steady.rising (λ y z i j f e.
     let first = answered_batch p w.core.correlation k w.core.ended (partition_at p w.core.partitions) (handed_at p w.handed) (log_at p w.logs) w.packets w.replies r h.parts h.part steady given h.content its h.known h.place y i f in
     sym first.1 ∙ flies_same p w.core.correlation r.correlation w.packets z.batch first.0.batch ((steady.aloft z j).flies r.correlation (e ∙ ap InFlight its)) first.0.carried)
@@ -113,8 +113,8 @@ accounts_event n w g a = record {
   tick = accounts_call (tick_step w.moment w.core).after _ (tick_step w.moment w.core).told w a (core_ticked w.moment w.core a.home);
   send = accounts_sending n w g a;
   reply = λ j r there.
-      let step = response_step w.moment (response_of r) w.core in
-      accounts_call step.after (reply_line j step.answer) step.told w a (core_replied w.moment (response_of r) w.core (is_single n w r g (in_at w.replies j r there)) a.requests a.home);
+      let step = response_step w.moment r.response w.core in
+      accounts_call step.after (reply_line j step.answer) step.told w a (core_replied w.moment r.response w.core (is_single n w r g (in_at w.replies j r there)) a.requests a.home);
   lost = accounts_call (disconnect_step w.moment w.core) [] [] w a (core_disconnected w.moment w.core);
   close = accounts_call (close_step w.core) [] [] (record w { is_shut = true }) a (core_closed w.core);
   end = accounts_call (end_step w.core).after [] (end_step w.core).told w a (core_ended w.core a.home);
@@ -123,14 +123,14 @@ accounts_event n w g a = record {
 
 -- ---- any event
 
-abbrev delivered_to : Packet → Delivery → World → World
-delivered_to o d w = record w { logs = d.logs; ids = d.ids; replies = w.replies ++ (record { correlation = o.correlation; content = d.content }) ∷ [] }
+abbrev delivered_to : Packet → Delivery → Response → World → World
+delivered_to o d x w = record w { logs = d.logs; ids = d.ids; replies = w.replies ++ reply_to o d x ∷ [] }
 
 accounts_step : (n : ℕ) (w : World) → IsLawful n w → IsAccounted w → (e : Event) (v : World) → Steps w e v → IsAccounted v
 unfolding with_delivery
 accounts_step n w g a e v s = at_step IsAccounted w (record {
   client = accounts_event n w g a;
-  arrives = λ k o d went honest. accounts_only w.core (answer_line (length w.replies) d.content ∷ []) (delivered_to o d w) a;
+  arrives = λ k o d x went honest says. accounts_only w.core (answer_line (length w.replies) d.content ∷ []) (delivered_to o d x w) a;
   others = λ p m there. accounts_only w.core [] (record w { logs = logs_with_others p m w.logs }) a;
 }) e v s
 

@@ -16,9 +16,10 @@ use Rattle.kp_world.specs.declared.event.Event.TheVariants as event
 use Rattle.kp_world.specs.declared.event.Treatment.TheVariants.{Judged}
 use Rattle.kp_world.specs.Delivering.{Delivery, Delivers, PartsDeliver, IsFresh, log_at}
 use Rattle.kp_world.specs.Loopback.{next_id, id_delivered}
-use Rattle.kp_world.specs.Message.{sent_of}
+use Rattle.kp_world.specs.Message.{sent_of, response_of}
 use Rattle.kp_world.specs.Run.{Producer, StepsBy, RunBy, Arrives, with_delivery, with_others_at}
 use Rattle.kp_world.specs.World.{Batches, World}
+use Rattle.kp_world.proofs.ReplayLemmas.{answers_so}
 
 -- ---- what an honest broker does with a packet of one batch, or with an id request
 
@@ -122,7 +123,7 @@ is_honest (Forgotten place) w (InitProducerId p) e = absurd e
 -- ---- a run, event by event, with these choices
 
 abbrev came : Choice → World → Option Packet → World
-came c w (Some o) = with_delivery o (chosen c w o.demand) w
+came c w (Some o) = let d = chosen c w o.demand in with_delivery o d (response_of o.correlation d.content) w
 came c w None = w
 
 abbrev pub next : Producer → Choice → Event → World → World
@@ -168,7 +169,7 @@ goes_on (Some v) w later e = (refl, e)
 goes_on None w later e = absurd cc
 
 arrives : (c : Choice) (k : ℕ) (w : World) (o : Option Packet) → slice_get w.packets k ≡ o → MayCome c w o → Arrives w k (came c w o)
-arrives c k w (Some o) is h = record { packet = o; went_out = is; delivery = chosen c w o.demand; honest = is_honest c w o.demand h; after_is = refl }
+arrives c k w (Some o) is h = record { packet = o; went_out = is; delivery = chosen c w o.demand; honest = is_honest c w o.demand h; response = response_of o.correlation (chosen c w o.demand).content; answers = answers_so o.correlation (chosen c w o.demand).content; after_is = refl }
 arrives c k w None is h = absurd h
 
 pub run_of : (producer : Producer) (cs : List Choice) (es : List Event) (w : World) → are_there producer cs es w ≡ true → AreHonest producer cs es w

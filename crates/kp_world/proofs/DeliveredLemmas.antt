@@ -15,6 +15,7 @@ use Rattle.kp_rules.proofs.OutcomeLemmas.{entries_of_one}
 use Rattle.kp_rules.specs.declared.attempt.Attempt.TheVariants.{InFlight}
 use Rattle.kp_rules.specs.declared.outcome.Outcome.TheVariants.{Delivered, DeliveredNoOffset}
 use Rattle.kp_rules.specs.Causes.{IsAnswered}
+use Rattle.kp_rules.specs.Mismatch.{entries_of}
 use Rattle.kp_rules.specs.OutcomeRule.{Telling, TellsBy, IsDelivered, IsDuplicate, MayTell}
 use Rattle.kp_rules.specs.Partitions.{partition_at}
 use Rattle.kp_rules.specs.Records.{HandedBatch, Open, Partition, Core, Told}
@@ -23,13 +24,13 @@ use Rattle.kp_rules.specs.OutcomeRule as call
 use Rattle.kp_world.specs.Accounts.{items_handed}
 use Rattle.kp_world.specs.Client.{handed_at}
 use Rattle.kp_world.specs.Delivering.{log_at}
-use Rattle.kp_world.specs.Message.{sent_of, part_response, response_of}
+use Rattle.kp_world.specs.Message.{sent_of, Says, Answers}
 use Rattle.kp_world.specs.World.{PartAnswer, Batches as Parts, Reply, World}
 use Rattle.std.proofs.lemmas.List.{length-take-le}
 use Rattle.kp_world.proofs.TakingLemmas.{took}
 use Rattle.kp_world.proofs.AccountLemmas.{items_of, IsAccounted}
 use Rattle.kp_world.proofs.AccountedLemmas.{handed_home}
-use Rattle.kp_world.proofs.HearingLemmas.{parts_heard, stored_code, duplicate_code, from_map, answered_batch, old_not_in_flight, same_correlation}
+use Rattle.kp_world.proofs.HearingLemmas.{parts_heard, stored_code, duplicate_code, answered_batch, old_not_in_flight, same_correlation}
 use Rattle.kp_world.proofs.LawfulLemmas.{IsLawful}
 use Rattle.kp_world.proofs.LeavingLemmas.{awaits_is}
 use Rattle.kp_world.proofs.RuledLemmas.{IsMade, MayBeToldIn}
@@ -100,37 +101,40 @@ pub record Heard (n : ℕ) (w : World) (r : Reply) (p : ℕ) (o : Open) (answer 
   pub part : PartAnswer
   pub known : In part parts
   pub place : part.partition ≡ p
-  pub answer_is : answer ≡ part_response part
+  pub code : answer.error_code ≡ part.answer.code
+  pub base : answer.base_offset ≡ part.answer.base
 
-pub heard : (n : ℕ) (w : World) (r : Reply) (p : ℕ) (o : Open) (answer : PartitionProduceResponse) → IsLawful n w → IsAnswered w.core (response_of r) p o answer → Heard n w r p o answer
-heard n w r p o answer g x =
+pub heard : (n : ℕ) (w : World) (r : Reply) (p : ℕ) (o : Open) (answer : PartitionProduceResponse) → IsLawful n w → In r w.replies → IsAnswered w.core r.response p o answer → Heard n w r p o answer
+heard n w r p o answer g given x =
     let there : In o (partition_at p w.core.partitions).open_batches = In-from_contains (partition_at p w.core.partitions).open_batches o x.is_open in
-    let h = parts_heard r.content x.produce x.body_is in
-    let entries = h.2 ∙ entries_of_one x.produce x.topic x.topics in
-    let from = from_map part_response h.0 answer (subst (In answer) (sym entries) (In-from_contains x.topic.partitions answer x.has)) in
+    let answers : Answers r.correlation r.content r.response = (g.gave r given).answers in
+    let h = parts_heard r.content r.response.body x.produce answers.says x.body_is in
+    let entries : entries_of x.produce ≡ x.topic.partitions = entries_of_one x.produce x.topic x.topics in
+    let says : Says h.0 answer = all_at (Says h.0) (entries_of x.produce) answer h.2 (subst (In answer) (sym entries) (In-from_contains x.topic.partitions answer x.has)) in
     record {
       within = subst (λ (m : ℕ). p < m) g.count (open_there w.core.partitions p o there);
       there = there;
-      flies = awaits_is x.correlation o x.in_flight ∙ ap InFlight (same_correlation x.correlation r.correlation x.named);
+      flies = awaits_is x.correlation o x.in_flight ∙ ap InFlight (same_correlation x.correlation r.correlation (x.named ∙ answers.named));
       parts = h.0;
       content = h.1;
-      part = from.0;
-      known = from.1;
-      place = same_correlation from.0.partition p (sym (ap (λ (y : PartitionProduceResponse). y.partition) from.2) ∙ x.partition);
-      answer_is = from.2;
+      part = says.part;
+      known = In-from_contains h.0 says.part says.answered;
+      place = same_correlation says.part.partition p (sym says.partition ∙ x.partition);
+      code = says.code;
+      base = says.base;
     }
 
 -- ---- what is told is true
 
-delivered_at : (n : ℕ) (w : World) (r : Reply) (i : Item) (offset : ℤ) → IsLawful n w → IsAccounted w → In r w.replies → IsDelivered offset w.core (response_of r) i → DeliveredAt n w.handed w.logs i offset
+delivered_at : (n : ℕ) (w : World) (r : Reply) (i : Item) (offset : ℤ) → IsLawful n w → IsAccounted w → In r w.replies → IsDelivered offset w.core r.response i → DeliveredAt n w.handed w.logs i offset
 delivered_at n w r i offset g a given d =
     let s = d.0 in
     let p = s.partition in
     let o = s.batch in
-    let h = heard n w r p o s.answer g s.answered in
+    let h = heard n w r p o s.answer g given s.answered in
     let both = g.agree p h.within in
     let x = answered_batch p w.core.correlation r.correlation w.core.ended (partition_at p w.core.partitions) (handed_at p w.handed) (log_at p w.logs) w.packets w.replies r h.parts h.part both.steady given h.content refl h.known h.place o h.there h.flies in
-    let code = stored_code h.part.answer.code (sym (ap (λ (y : PartitionProduceResponse). meaning_of y.error_code) h.answer_is) ∙ s.means) in
+    let code = stored_code h.part.answer.code (ap meaning_of (sym h.code) ∙ s.means) in
     let known : In o.batch (handed_at p w.handed) = all_at (λ (y : Open). In y.batch (handed_at p w.handed)) (partition_at p w.core.partitions).open_batches o both.sound.opens h.there in
     let at = took o.batch.items s.place i s.item in
     let mine : i.partition ≡ p = all_at (λ (j : Item). j.partition ≡ p) (items_handed p w) i (handed_home p w a (subst (λ (m : ℕ). p < m) (sym g.count) h.within)) (record { earlier = items_of known.earlier ++ take s.place o.batch.items; later = at.0 ++ items_of known.later; split = items_split (handed_at p w.handed) o.batch i (take s.place o.batch.items) at.0 known at.2 }) in
@@ -143,18 +147,18 @@ delivered_at n w r i offset g a given d =
       items = at.2;
       base = h.part.answer.base;
       stands = subst (λ (m : ℕ). Stands (log_at m w.logs).records (sent_of o.batch) h.part.answer.base) (sym mine) (subst (λ (b : HandedBatch). Stands (log_at p w.logs).records (sent_of b) h.part.answer.base) x.1 (x.0.stored code));
-      offset_is = d.1 ∙ ap (λ (y : PartitionProduceResponse). y.base_offset +ℤ pos s.place) h.answer_is ∙ ap (λ (m : ℕ). h.part.answer.base +ℤ pos m) (sym (length-take-le s.place o.batch.items (omega (arith, at.1))));
+      offset_is = d.1 ∙ ap (λ (z : ℤ). z +ℤ pos s.place) h.base ∙ ap (λ (m : ℕ). h.part.answer.base +ℤ pos m) (sym (length-take-le s.place o.batch.items (omega (arith, at.1))));
     }
 
-no_duplicate : (n : ℕ) (w : World) (r : Reply) (i : Item) → IsLawful n w → In r w.replies → IsDuplicate w.core (response_of r) i → ⊥
+no_duplicate : (n : ℕ) (w : World) (r : Reply) (i : Item) → IsLawful n w → In r w.replies → IsDuplicate w.core r.response i → ⊥
 no_duplicate n w r i g given s =
     let p = s.partition in
-    let h = heard n w r p s.batch s.answer g s.answered in
+    let h = heard n w r p s.batch s.answer g given s.answered in
     old_not_in_flight p w.core.correlation r.correlation w.core.ended (partition_at p w.core.partitions) (handed_at p w.handed) (log_at p w.logs) w.packets w.replies r h.parts h.part (g.agree p h.within).steady given h.content refl h.known h.place
-    (duplicate_code h.part.answer.code (sym (ap (λ (y : PartitionProduceResponse). meaning_of y.error_code) h.answer_is) ∙ s.means)) s.batch h.there h.flies
+    (duplicate_code h.part.answer.code (ap meaning_of (sym h.code) ∙ s.means)) s.batch h.there h.flies
 
 -- what only a reply tells is told by one that was given
-by_reply : (P : Core → Response → Item → Type 0) (w : World) (i : Item) (c : Telling) → IsMade w c → TellsBy P w.core c i → (r : Reply) × In r w.replies × P w.core (response_of r) i
+by_reply : (P : Core → Response → Item → Type 0) (w : World) (i : Item) (c : Telling) → IsMade w c → TellsBy P w.core c i → (r : Reply) × In r w.replies × P w.core r.response i
 by_reply P w i (call.Reply now response) made k = (made.0, made.1, subst (λ (x : Response). P w.core x i) made.2 k)
 by_reply P w i (call.Append j) made k = absurd k
 by_reply P w i (call.Tick now) made k = absurd k

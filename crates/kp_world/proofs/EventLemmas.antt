@@ -4,6 +4,7 @@ use Rattle.std.specs.Prelude.{Result, Ok, Err, Option, if◌then◌else◌, ◌&
 use Rattle.std.proofs.lemmas.Bool.{and_parts, ltb-true}
 use Rattle.kp_accum.specs.declared.fault.AppendFault.{AppendFault}
 use Rattle.kp_accum.specs.declared.item.Item.{Item}
+use Rattle.kp_frames.specs.declared.response.Response.{Response}
 use Rattle.kp_rules.specs.Flush.{flush_step}
 use Rattle.kp_rules.specs.Replies.{response_step}
 use Rattle.kp_rules.specs.Requesting.{request_step}
@@ -20,7 +21,7 @@ use Rattle.kp_world.specs.Client.{with_packet, sent_line, sending, reply_line, f
 use Rattle.kp_world.specs.Delivering.{Delivery, Delivers}
 use Rattle.kp_world.specs.Line.{Line, Closed, Large, Empty, Full, Idle, Ended}
 use Rattle.kp_world.specs.Loopback.{logs_with_others}
-use Rattle.kp_world.specs.Message.{response_of}
+use Rattle.kp_world.specs.Message.{Answers}
 use Rattle.kp_world.specs.Noting.{noted, only_noted}
 use Rattle.kp_world.specs.Run.{with_delivery, with_others_at, Steps, Run}
 use Rattle.kp_world.specs.World.{Reply, World}
@@ -56,7 +57,7 @@ pub record OfEvent (P : World → Type 0) (w : World) : Type 0 where
   pub tick : P (ticking w)
   pub send : let step = request_step w.moment w.core in P (sending w step.after step.answer)
   pub reply : (j : ℕ) (r : Reply) → slice_get w.replies j ≡ Some r
-      → let step = response_step w.moment (response_of r) w.core in P (noted step.after (reply_line j step.answer) step.told w)
+      → let step = response_step w.moment r.response w.core in P (noted step.after (reply_line j step.answer) step.told w)
   pub lost : P (noted (disconnect_step w.moment w.core) [] [] w)
   pub close : P (closing w)
   pub end : P (ending w)
@@ -111,12 +112,12 @@ at_client P w c (event.Other p n) v e = absurd cc
 
 pub record OfStep (P : World → Type 0) (w : World) : Type 0 where
   pub client : OfEvent P w
-  pub arrives : (k : ℕ) (o : Packet) (d : Delivery) → slice_get w.packets k ≡ Some o → Delivers w o.demand d → P (with_delivery o d w)
+  pub arrives : (k : ℕ) (o : Packet) (d : Delivery) (x : Response) → slice_get w.packets k ≡ Some o → Delivers w o.demand d → Answers o.correlation d.content x → P (with_delivery o d x w)
   pub others : (p n : ℕ) → p < length w.logs → P (only_noted [] (record w { logs = logs_with_others p n w.logs }))
 
 pub at_step : (P : World → Type 0) (w : World) → OfStep P w → (e : Event) (v : World) → Steps w e v → P v
 unfolding Steps with_others_at
-at_step P w c (event.Deliver k how) v a = subst P (sym a.after_is) (c.arrives k a.packet a.delivery a.went_out a.honest)
+at_step P w c (event.Deliver k how) v a = subst P (sym a.after_is) (c.arrives k a.packet a.delivery a.response a.went_out a.honest a.answers)
 at_step P w c (event.Other p n) v e = at_only_if P (has_partition p w) _ v e (λ is. c.others p n (ltb-true p (length w.logs) is))
 at_step P w c (event.Accept s p value) v e = at_client P w c.client (event.Accept s p value) v e
 at_step P w c (event.Take s) v e = at_client P w c.client (event.Take s) v e

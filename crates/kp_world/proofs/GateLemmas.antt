@@ -47,7 +47,7 @@ follows_step : (e : Event) (w v : World) → Steps w e v → Follows w v
 unfolding with_delivery noted
 follows_step e w v s = at_step (Follows w) w (record {
   client = follows_event w;
-  arrives = λ k o d went honest. record { shut = λ h. h; accepted = λ h. refl };
+  arrives = λ k o d x went honest says. record { shut = λ h. h; accepted = λ h. refl };
   others = λ p n there. record { shut = λ h. h; accepted = λ h. refl };
 }) e v s
 

@@ -12,9 +12,9 @@ use Rattle.kp_rules.specs.Attempts.{asks_for_id}
 use Rattle.kp_rules.specs.Mismatch.{entries_of}
 use Rattle.kp_rules.specs.Replies.{give_id}
 use Rattle.std.proofs.Common.{filter}
-use Rattle.std.proofs.Common.{◌≡◌, ℕ, ◌+◌, ◌<◌, ◌≤◌, Bool, true, false, not, List, [], ◌∷◌, length, map, ℤ, pos, negsuc, Some, refl, sym, ap, ◌∙◌, subst, ⊎_elim, arith}
-use Rattle.std.specs.Prelude.{if◌then◌else◌, ◌&&◌, nat_abs}
-use Rattle.std.specs.List.{list_any}
+use Rattle.std.proofs.Common.{◌≡◌, ℕ, ◌+◌, ◌<◌, ◌≤◌, Bool, true, false, not, List, [], ◌∷◌, length, ℤ, pos, negsuc, Some, refl, sym, ap, ◌∙◌, subst, arith}
+use Rattle.std.specs.Prelude.{if◌then◌else◌, ◌&&◌, ◌||◌, nat_abs, int_le}
+use Rattle.std.specs.List.{AllByRecursion, list_any}
 use Rattle.std.specs.Ordering.{int_eq}
 use Rattle.std.proofs.lemmas.Bool.{and_parts, not-true}
 use Rattle.std.proofs.lemmas.Bool.Decides.{Decides-int_eq}
@@ -22,16 +22,17 @@ use Rattle.kp_accum.specs.declared.config.Config.{Config}
 use Rattle.kp_frames.specs.declared.produce.PartitionProduceResponse.{PartitionProduceResponse}
 use Rattle.kp_frames.specs.declared.producer_id.InitProducerIdResponse.{InitProducerIdResponse}
 use Rattle.kp_frames.specs.declared.produce.ProduceResponse.{ProduceResponse}
+use Rattle.kp_frames.specs.declared.response.ResponseBody.{ResponseBody}
 use Rattle.kp_frames.specs.declared.response.ResponseBody.TheVariants.{Produce, InitProducerId}
 use Rattle.kp_log.specs.BrokerStep.{Stands, NO_ERROR, DUPLICATE_SEQUENCE_NUMBER}
 use Rattle.kp_log.specs.HandedOver.{IsStored}
 use Rattle.kp_log.specs.History.{History}
-use Rattle.kp_log.proofs.PlaceLemmas.{In, In-nil, In-cons, In-head, In-tail}
+use Rattle.kp_log.proofs.PlaceLemmas.{In, In-head}
 use Rattle.kp_rules.proofs.CallLemmas.{at_response_going, OfResponse}
 use Rattle.kp_rules.specs.Replies.{response_step, go_on_under}
 use Rattle.kp_rules.proofs.OutcomeLemmas.{by_entries, in_flight}
 use Rattle.kp_rules.proofs.ListLemmas.{at_set}
-use Rattle.std.proofs.lemmas.List.{append-nil, length-set}
+use Rattle.std.proofs.lemmas.List.{length-set}
 use Rattle.kp_log.proofs.PlaceLemmas.{In-from_contains}
 use Rattle.kp_rules.specs.declared.attempt.Attempt.TheVariants.{InFlight}
 use Rattle.kp_rules.specs.declared.meaning.Meaning.TheVariants.{Stored, Duplicate, Retry, Reject}
@@ -46,8 +47,8 @@ use Rattle.kp_rules.specs.Settling.{meaning_of, retried_codes}
 use Rattle.kp_rules.specs.Telling.{at_these, with_partitions}
 use Rattle.kp_world.specs.Client.{handed_at}
 use Rattle.kp_world.specs.Delivering.{log_at, given}
-use Rattle.kp_world.specs.Message.{sent_of, part_response, epoch_for, body_of_reply, response_of}
-use Rattle.kp_world.specs.World.{PartAnswer, ReplyContent, Batches as Parts, Id as GivenId, Reply, names}
+use Rattle.kp_world.specs.Message.{sent_of, Says, SaysContent, Answers}
+use Rattle.kp_world.specs.World.{PartAnswer, ReplyContent, Batches as Parts, Id as GivenId, Reply}
 use Rattle.kp_world.proofs.BrokerLemmas.{PartAgrees}
 use Rattle.kp_world.proofs.FlightLemmas.{PartHolds, ContentHolds, Steady, flies_same, steady_fresh}
 use Rattle.kp_rules.proofs.PartitionLemmas.{length-changed_at}
@@ -62,6 +63,9 @@ use Rattle.kp_world.proofs.ListLemmas.{left_in}
 
 pub names_its : (k : ℤ) (s : Core) (q : Request) → awaited k s ≡ Some q → In q s.requests × (pos q.correlation ≡ k)
 names_its k s q e = let f = in_flight k s q e in (In-from_contains s.requests q f.0, f.1)
+
+pub same_correlation : (a b : ℕ) → pos a ≡ pos b → a ≡ b
+same_correlation a b e = cc
 
 -- ---- what a code means
 
@@ -96,10 +100,6 @@ duplicate_code code e = at_none (int_eq code (pos 0)) e
 
 -- ---- a partition's answer in a reply to request k
 
-pub from_map : {A B : Type 0} (f : A → B) (xs : List A) (y : B) → In y (map f xs) → (x : A) × In x xs × (y ≡ f x)
-from_map f [] y i = absurd (In-nil y i)
-from_map f (x ∷ xs) y i = ⊎_elim (λ (same : y ≡ f x). (x, In-head x xs, same)) (λ (j : In y (map f xs)). let l = from_map f xs y j in (l.0, In-tail l.0 x xs l.1, l.2)) (In-cons y (f x) (map f xs) i)
-
 -- an open batch in flight in request k is the one that was answered
 pub answered_batch : {most : ℕ} (p next k : ℕ) (e : Bool) (t : Partition) (handed : List HandedBatch) (h : History) (packets : List Packet) (replies : List Reply) (r : Reply) (parts : List PartAnswer) (a : PartAnswer)
     → Steady most p e next t handed h packets replies → In r replies → r.content ≡ Parts parts → k ≡ r.correlation → In a parts → a.partition ≡ p → (o : Open) → In o t.open_batches → o.attempt ≡ InFlight k
@@ -118,53 +118,63 @@ old_not_in_flight p next k e t handed h packets replies r parts a s i is named j
     let same : x.0.batch.number ≡ o.batch.number = ap (λ (b : HandedBatch). b.number) x.1 in
     omega (arith, near, old, same)
 
-leaves_part : {most : ℕ} (p now next k : ℕ) (ids : List ℕ) (e : Bool) (t : Partition) (handed : List HandedBatch) (h : History) (packets : List Packet) (replies : List Reply) (r : Reply) (parts : List PartAnswer)
-    → Sound ids t handed h → Steady most p e next t handed h packets replies → In r replies → r.content ≡ Parts parts → k ≡ r.correlation
-    → Leaves (λ b. IsStored h.records (sent_of b)) e t (by_entries now k t (filter (is_for p) (map part_response parts))).after
-leaves_part p now next k ids e t handed h packets replies r parts sound s i is named = at_first (filter (is_for p) (map part_response parts)) refl
+-- an entry that says what a part was answered settles only what it may
+leaves_said : {most : ℕ} (p now next k : ℕ) (ids : List ℕ) (e : Bool) (t : Partition) (handed : List HandedBatch) (h : History) (packets : List Packet) (replies : List Reply) (r : Reply) (parts : List PartAnswer) (x : PartitionProduceResponse)
+    → Sound ids t handed h → Steady most p e next t handed h packets replies → In r replies → r.content ≡ Parts parts → k ≡ r.correlation → Says parts x → x.partition ≡ pos p
+    → Leaves (λ b. IsStored h.records (sent_of b)) e t (by_entries now k t (x ∷ [])).after
+leaves_said p now next k ids e t handed h packets replies r parts x sound s i is named says mine = leaves_answered (λ b. IsStored h.records (sent_of b)) e now k t x only kept
   where
-    one : (a : PartAnswer) → In a parts → a.partition ≡ p → Leaves (λ b. IsStored h.records (sent_of b)) e t (by_entries now k t (part_response a ∷ [])).after
-    one a j at = leaves_answered (λ b. IsStored h.records (sent_of b)) e now k t (part_response a) only kept
-      where
-        only : meaning_of a.answer.code ≡ Stored → SettlesOnly (λ b. IsStored h.records (sent_of b)) k t
-        only v o there flies =
-            let x = answered_batch p next k e t handed h packets replies r parts a s i is named j at o there flies in
-            let known : In o.batch handed = all_at (λ (y : Open). In y.batch handed) t.open_batches o sound.opens there in
-            record {
-              some_records = (follows ids t handed h sound known.earlier known.later o.batch known.split).some_records;
-              base = a.answer.base;
-              stands = subst (λ (b : HandedBatch). Stands h.records (sent_of b) a.answer.base) x.1 (x.0.stored (stored_code a.answer.code v));
-            }
+    a : PartAnswer
+    a = says.part
 
-        kept : meaning_of a.answer.code ≡ Duplicate → SettlesOnly (λ b. IsStored h.records (sent_of b)) k t
-        kept v o there flies =
-            let x = answered_batch p next k e t handed h packets replies r parts a s i is named j at o there flies in
-            subst (λ (b : HandedBatch). IsStored h.records (sent_of b)) x.1 (x.0.kept (duplicate_code a.answer.code v))
+    j : In a parts
+    j = In-from_contains parts a says.answered
 
-    at_first : (as' : List PartitionProduceResponse) → filter (is_for p) (map part_response parts) ≡ as' → Leaves (λ b. IsStored h.records (sent_of b)) e t (by_entries now k t as').after
+    at : a.partition ≡ p
+    at = same_correlation a.partition p (sym says.partition ∙ mine)
+
+    only : meaning_of x.error_code ≡ Stored → SettlesOnly (λ b. IsStored h.records (sent_of b)) k t
+    only v o there flies =
+        let y = answered_batch p next k e t handed h packets replies r parts a s i is named j at o there flies in
+        let known : In o.batch handed = all_at (λ (z : Open). In z.batch handed) t.open_batches o sound.opens there in
+        record {
+          some_records = (follows ids t handed h sound known.earlier known.later o.batch known.split).some_records;
+          base = a.answer.base;
+          stands = subst (λ (b : HandedBatch). Stands h.records (sent_of b) a.answer.base) y.1 (y.0.stored (stored_code a.answer.code (ap meaning_of (sym says.code) ∙ v)));
+        }
+
+    kept : meaning_of x.error_code ≡ Duplicate → SettlesOnly (λ b. IsStored h.records (sent_of b)) k t
+    kept v o there flies =
+        let y = answered_batch p next k e t handed h packets replies r parts a s i is named j at o there flies in
+        subst (λ (b : HandedBatch). IsStored h.records (sent_of b)) y.1 (y.0.kept (duplicate_code a.answer.code (ap meaning_of (sym says.code) ∙ v)))
+
+leaves_part : {most : ℕ} (p now next k : ℕ) (ids : List ℕ) (e : Bool) (t : Partition) (handed : List HandedBatch) (h : History) (packets : List Packet) (replies : List Reply) (r : Reply) (parts : List PartAnswer) (entries : List PartitionProduceResponse)
+    → Sound ids t handed h → Steady most p e next t handed h packets replies → In r replies → r.content ≡ Parts parts → k ≡ r.correlation → AllByRecursion (Says parts) entries
+    → Leaves (λ b. IsStored h.records (sent_of b)) e t (by_entries now k t (filter (is_for p) entries)).after
+leaves_part p now next k ids e t handed h packets replies r parts entries sound s i is named says = at_first (filter (is_for p) entries) refl
+  where
+    at_first : (as' : List PartitionProduceResponse) → filter (is_for p) entries ≡ as' → Leaves (λ b. IsStored h.records (sent_of b)) e t (by_entries now k t as').after
     at_first [] e' = leaves_same (λ b. IsStored h.records (sent_of b)) e t
     at_first (x ∷ xs) e' =
-        let there : In x (filter (is_for p) (map part_response parts)) = subst (λ (ys : List PartitionProduceResponse). In x ys) (sym e') (In-head x xs) in
-        let both = left_in (is_for p) (map part_response parts) x there in
-        let from = from_map part_response parts x both.0 in
-        let at : pos from.0.partition ≡ pos p = (Decides-int_eq (pos from.0.partition) (pos p)).0 (ap (is_for p) (sym from.2) ∙ both.1) in
-        let place : from.0.partition ≡ p = cc in
-        subst (λ (y : PartitionProduceResponse). Leaves (λ b. IsStored h.records (sent_of b)) e t (by_entries now k t (y ∷ xs)).after) (sym from.2) (one from.0 from.1 place)
+        let there : In x (filter (is_for p) entries) = subst (λ (ys : List PartitionProduceResponse). In x ys) (sym e') (In-head x xs) in
+        let both = left_in (is_for p) entries x there in
+        leaves_said p now next k ids e t handed h packets replies r parts x sound s i is named (all_at (Says parts) entries x says both.0) ((Decides-int_eq x.partition (pos p)).0 both.1)
 
 -- ---- a reply to a Produce request
 
--- the entries of a reply are its parts
-pub parts_heard : (c : ReplyContent) (x : ProduceResponse) → body_of_reply c ≡ Produce x → (parts : List PartAnswer) × (c ≡ Parts parts) × (map part_response parts ≡ entries_of x)
-parts_heard (GivenId code id) x is = absurd cc
-parts_heard (Parts parts) x is =
-    let same : (record { topics = (record { topic = names.topic; partitions = map part_response parts }) ∷ []; throttle_time_ms = pos 0 }) ≡ x = cc in
-    (parts, refl, sym (append-nil (map part_response parts)) ∙ ap entries_of same)
+-- its entries say what its parts were answered
+pub parts_heard : (c : ReplyContent) (b : ResponseBody) (x : ProduceResponse) → SaysContent c b → b ≡ Produce x → (parts : List PartAnswer) × (c ≡ Parts parts) × AllByRecursion (Says parts) (entries_of x)
+parts_heard c b x says is = at_content c (subst (SaysContent c) is says)
+  where
+    at_content : (c : ReplyContent) → SaysContent c (Produce x) → (parts : List PartAnswer) × (c ≡ Parts parts) × AllByRecursion (Says parts) (entries_of x)
+    at_content (GivenId code id) says' = absurd says'
+    at_content (Parts parts) says' = (parts, refl, says')
 
 lawful_parts : {most : ℕ} (n now : ℕ) (s : Core) (logs : List History) (handed : List (List HandedBatch)) (packets : List Packet) (replies : List Reply) (ids : List ℕ) (k : ℕ) (ps : List ℕ) (x : ProduceResponse) (r : Reply) (parts : List PartAnswer)
-    → Lawful most n s logs handed packets replies ids → In r replies → r.content ≡ Parts parts → map part_response parts ≡ entries_of x → k ≡ r.correlation
+    → Lawful most n s logs handed packets replies ids → In r replies → r.content ≡ Parts parts → AllByRecursion (Says parts) (entries_of x) → k ≡ r.correlation
     → Lawful most n (settle_batches now k ps x s).after logs handed packets replies ids
 unfolding at_these with_partitions
-lawful_parts n now s logs handed packets replies ids k ps x r parts g i is entries named = lawful_core n s (settle_batches now k ps x s).after logs handed packets replies ids g (record {
+lawful_parts n now s logs handed packets replies ids k ps x r parts g i is says named = lawful_core n s (settle_batches now k ps x s).after logs handed packets replies ids g (record {
   count = length-changed_at ps rule s.partitions;
   config = refl;
   ended = λ e. e;
@@ -172,8 +182,7 @@ lawful_parts n now s logs handed packets replies ids k ps x r parts g i is entri
   requests = λ q i. (left_in (is_live (changed_at ps rule s.partitions)) s.requests q i).0;
   each = λ p h. at_some (StoredAt logs) s.ended ps rule s.partitions p h
       (let both = g.agree p (subst (λ (m : ℕ). p < m) g.count h) in
-      subst (λ (es : List PartitionProduceResponse). Leaves (StoredAt logs p) s.ended (partition_at p s.partitions) (by_entries now k (partition_at p s.partitions) (filter (is_for p) es)).after) entries
-      (leaves_part p now s.correlation k ids s.ended (partition_at p s.partitions) (handed_at p handed) (log_at p logs) packets replies r parts both.sound both.steady i is named));
+      leaves_part p now s.correlation k ids s.ended (partition_at p s.partitions) (handed_at p handed) (log_at p logs) packets replies r parts (entries_of x) both.sound both.steady i is named says);
 })
   where
     rule : ℕ → Partition → Partition
@@ -251,43 +260,42 @@ lawful_given {most = most} n id p s logs handed packets replies ids g going draw
       some = g.some;
       agree = each is;
       went = λ o j. let w = g.went o j in record { before = w.before; parts = w.parts };
-      gave = λ x j. let w = g.gave x j in record { before = w.before; drawn = w.drawn; spare = λ m q e i a c. absurd (none_asks s q i a) };
+      gave = λ x j. let w = g.gave x j in record { before = w.before; answers = w.answers; drawn = w.drawn; spare = λ m q e i a c. absurd (none_asks s q i a) };
       asked = g.asked;
     }
 
-abbrev pub answer_of : ℤ → ℤ → InitProducerIdResponse
-answer_of code id = record { throttle_time_ms = pos 0; error_code = code; producer_id = id; producer_epoch = epoch_for code }
-
--- the answer to a request for an id is what the reply gives
-pub id_heard : (c : ReplyContent) (x : InitProducerIdResponse) → body_of_reply c ≡ InitProducerId x → (code id : ℤ) × (c ≡ GivenId code id) × (answer_of code id ≡ x)
-id_heard (Parts parts) x is = absurd cc
-id_heard (GivenId code id) x is = (code, id, refl, cc)
-
-lawful_id_reply : {most : ℕ} (n now p : ℕ) (s : Core) (logs : List History) (handed : List (List HandedBatch)) (packets : List Packet) (replies : List Reply) (ids : List ℕ) (q : Request) (r : Reply) (code id : ℤ)
-    → Lawful most n s logs handed packets replies ids → s.ended ≡ false → In r replies → r.content ≡ GivenId code id → In q s.requests → asks_for_id q ≡ true → q.correlation ≡ r.correlation → answers_id (answer_of code id) ≡ true
-    → Lawful most n (settle_id now p (answer_of code id) s) logs handed packets replies ids
-unfolding answers_id
-lawful_id_reply {most = most} n now p s logs handed packets replies ids q r code id g going i is there asks named valid = at_given (is_given (answer_of code id)) refl
+-- the answer to a request for an id says what was answered
+pub id_heard : (c : ReplyContent) (b : ResponseBody) (x : InitProducerIdResponse) → SaysContent c b → b ≡ InitProducerId x → (code id : ℤ) × (c ≡ GivenId code id) × (x.error_code ≡ code) × (code ≡ pos 0 → x.producer_id ≡ id)
+id_heard c b x says is = at_content c (subst (SaysContent c) is says)
   where
-    by_id : (z : ℤ) → id ≡ z → code ≡ pos 0 → answers_id (answer_of (pos 0) z) ≡ true → Lawful most n (give_id (nat_abs z) p (idle s)) logs handed packets replies ids
-    by_id (pos m) at zero v =
+    at_content : (c : ReplyContent) → SaysContent c (InitProducerId x) → (code id : ℤ) × (c ≡ GivenId code id) × (x.error_code ≡ code) × (code ≡ pos 0 → x.producer_id ≡ id)
+    at_content (Parts parts) says' = absurd says'
+    at_content (GivenId code id) says' = (code, id, refl, says'.0, says'.1)
+
+lawful_id_reply : {most : ℕ} (n now p : ℕ) (s : Core) (logs : List History) (handed : List (List HandedBatch)) (packets : List Packet) (replies : List Reply) (ids : List ℕ) (q : Request) (r : Reply) (x : InitProducerIdResponse) (code id : ℤ)
+    → Lawful most n s logs handed packets replies ids → s.ended ≡ false → In r replies → r.content ≡ GivenId code id → x.error_code ≡ code → (code ≡ pos 0 → x.producer_id ≡ id)
+    → In q s.requests → asks_for_id q ≡ true → q.correlation ≡ r.correlation → answers_id x ≡ true
+    → Lawful most n (settle_id now p x s) logs handed packets replies ids
+unfolding answers_id
+lawful_id_reply {most = most} n now p s logs handed packets replies ids q r x code id g going i is says given_is there asks named valid = at_given (is_given x) refl valid
+  where
+    by_id : (z : ℤ) → code ≡ pos 0 → id ≡ z → int_le (pos 0) z && int_eq x.producer_epoch (pos 0) ≡ true → Lawful most n (give_id (nat_abs z) p (idle s)) logs handed packets replies ids
+    by_id (pos m) zero at v =
         let content : r.content ≡ given m = is ∙ ap (λ (c : ℤ). GivenId c id) zero ∙ ap (GivenId (pos 0)) at in
         lawful_given n m p s logs handed packets replies ids (idle_lawful n s logs handed packets replies ids g) going ((g.gave r i).drawn m content)
         (λ x h. (g.gave r i).spare m q content there asks named x h)
-    by_id (negsuc m) at zero v = absurd cc
+    by_id (negsuc m) zero at v = absurd cc
 
-    at_given : (b : Bool) → is_given (answer_of code id) ≡ b → Lawful most n (if b then give_id (nat_abs id) p (idle s) else record (idle s) { id_waits = Some now }) logs handed packets replies ids
-    at_given true e =
-        let zero : code ≡ pos 0 = (Decides-int_eq code (pos 0)).0 e in
-        by_id id refl zero (subst (λ (c : ℤ). answers_id (answer_of c id) ≡ true) zero valid)
-    at_given false e =
+    at_given : (b : Bool) → is_given x ≡ b → not b || (int_le (pos 0) x.producer_id && int_eq x.producer_epoch (pos 0)) ≡ true
+        → Lawful most n (if b then give_id (nat_abs x.producer_id) p (idle s) else record (idle s) { id_waits = Some now }) logs handed packets replies ids
+    at_given true e v =
+        let zero : code ≡ pos 0 = sym says ∙ (Decides-int_eq x.error_code (pos 0)).0 e in
+        by_id x.producer_id zero (sym (given_is zero)) v
+    at_given false e v =
         lawful_core n s (record (idle s) { id_waits = Some now }) logs handed packets replies ids g
         (left_alike (StoredAt logs) s (record (idle s) { id_waits = Some now }) refl refl refl refl (λ q i. (left_in (λ r. not (asks_for_id r)) s.requests q i).0))
 
 -- ---- any reply
-
-pub same_correlation : (a b : ℕ) → pos a ≡ pos b → a ≡ b
-same_correlation a b e = cc
 
 abbrev asks : Demand ℕ → Bool
 asks d = elim d [ demand.Produce ps ↦ false | demand.InitProducerId p ↦ true ]
@@ -296,20 +304,24 @@ asks_by : (d : Demand ℕ) (p : ℕ) → d ≡ demand.InitProducerId p → asks 
 asks_by d p e = ap asks e
 
 pub lawful_reply : {most : ℕ} (n now : ℕ) (s : Core) (logs : List History) (handed : List (List HandedBatch)) (packets : List Packet) (replies : List Reply) (ids : List ℕ) (r : Reply)
-    → Lawful most n s logs handed packets replies ids → In r replies → Lawful most n (response_step now (response_of r) s).after logs handed packets replies ids
+    → Lawful most n s logs handed packets replies ids → In r replies → Lawful most n (response_step now r.response s).after logs handed packets replies ids
 lawful_reply {most = most} n now s logs handed packets replies ids r g i =
-    at_response_going (λ (x : Replies). Lawful most n x.after logs handed packets replies ids) now (response_of r) s g heard
+    at_response_going (λ (x : Replies). Lawful most n x.after logs handed packets replies ids) now r.response s g heard
   where
-    heard : s.ended ≡ false → OfResponse (λ (x : Replies). Lawful most n x.after logs handed packets replies ids) now (response_of r) s
+    answers : Answers r.correlation r.content r.response
+    answers = (g.gave r i).answers
+
+    names_it : (q : Request) → awaited r.response.correlation s ≡ Some q → q.correlation ≡ r.correlation
+    names_it q who = same_correlation q.correlation r.correlation ((names_its r.response.correlation s q who).1 ∙ answers.named)
+
+    heard : s.ended ≡ false → OfResponse (λ (x : Replies). Lawful most n x.after logs handed packets replies ids) now r.response s
     heard going = record {
       same = λ answer. g;
       batches = λ q ps x who demand is fits.
-          let it = parts_heard r.content x is in
-          lawful_parts n now s logs handed packets replies ids q.correlation ps x r it.0 g i it.1 it.2 (same_correlation q.correlation r.correlation (names_its (pos r.correlation) s q who).1);
+          let it = parts_heard r.content r.response.body x answers.says is in
+          lawful_parts n now s logs handed packets replies ids q.correlation ps x r it.0 g i it.1 it.2 (names_it q who);
       id = λ q p x who demand is valid.
-          let named = names_its (pos r.correlation) s q who in
-          let it = id_heard r.content x is in
+          let it = id_heard r.content r.response.body x answers.says is in
           let wants : asks_for_id q ≡ true = asks_by q.demand p demand in
-          subst (λ (y : InitProducerIdResponse). Lawful most n (settle_id now p y s) logs handed packets replies ids) it.3 (lawful_id_reply n now p s logs handed packets replies ids q r it.0 it.1 g going i it.2 named.0 wants (same_correlation q.correlation r.correlation named.1)
-          (subst (λ (y : InitProducerIdResponse). answers_id y ≡ true) (sym it.3) valid));
+          lawful_id_reply n now p s logs handed packets replies ids q r x it.0 it.1 g going i it.2 it.3 it.4 (names_its r.response.correlation s q who).0 wants (names_it q who) valid;
     }

@@ -26,7 +26,7 @@ use Rattle.kp_rules.specs.Records.{Demand, Produce, InitProducerId, HandedBatch,
 use Rattle.kp_rules.specs.Requesting.{Packet, Requested, partitions_in, sent_out}
 use Rattle.kp_world.specs.Client.{grown_by, handed_at, with_sendings, sending}
 use Rattle.kp_world.specs.Delivering.{log_at, given}
-use Rattle.kp_world.specs.Message.{sent_of}
+use Rattle.kp_world.specs.Message.{sent_of, Answers}
 use Rattle.kp_world.specs.Noting.{noted}
 use Rattle.kp_world.specs.World.{Reply, World}
 use Rattle.kp_world.proofs.BrokerLemmas.{AllAgree, Agrees, PartAgrees}
@@ -53,6 +53,7 @@ pub record Went (n : ℕ) (handed : List (List HandedBatch)) (core : Core) (o : 
 
 pub record Given (n : ℕ) (ids : List ℕ) (core : Core) (r : Reply) : Type 0 where
   pub before : r.correlation < core.correlation
+  pub answers : Answers r.correlation r.content r.response
   pub drawn : (id : ℕ) → r.content ≡ given id → In id ids
   pub spare : (id : ℕ) (q : Request) → r.content ≡ given id → In q core.requests → asks_for_id q ≡ true
       → q.correlation ≡ r.correlation
@@ -101,6 +102,7 @@ lawful_core {most = most} n s s' logs handed packets replies ids g l = record {
   went = λ o i. let w = g.went o i in record { before = subst (λ (m : ℕ). o.correlation < m) (sym l.correlation) w.before; parts = w.parts };
   gave = λ r i. let w = g.gave r i in record {
     before = subst (λ (m : ℕ). r.correlation < m) (sym l.correlation) w.before;
+    answers = w.answers;
     drawn = w.drawn;
     spare = λ id q e a x c p h at. w.spare id q e (l.requests q a) x c p h (subst (λ (is : List ℕ). In id is) (l.each p (within p h)).keeps.ids at);
   };
@@ -244,6 +246,7 @@ lawful_batches {most = most} n now s logs handed packets replies ids xs g all = 
   went = λ o i. ⊎_elim (λ (j : In o packets). earlier o (g.went o j)) (λ (same : o ≡ packet s (Produce xs)). subst (Went n (with_sendings xs handed) (sent_out now s (Produce xs))) (sym same) newest) (one_more packets (packet s (Produce xs)) o i);
   gave = λ r i. let w = g.gave r i in record {
     before = let b : r.correlation < s.correlation = w.before in omega arith;
+    answers = w.answers;
     drawn = w.drawn;
     spare = λ id q e a x c p h j. ⊎_elim
         (λ (there : In q s.requests). w.spare id q e there x c p h (subst (λ (is : List ℕ). In id is) (at p h).same_ids j))
@@ -312,6 +315,7 @@ lawful_id n now s logs handed packets replies ids p g = record {
   went = λ o i. ⊎_elim (λ (j : In o packets). let w = g.went o j in record { before = let b : o.correlation < s.correlation = w.before in omega arith; parts = w.parts }) (λ (same : o ≡ packet s (InitProducerId p)). subst (Went n handed (sent_out now s (InitProducerId p))) (sym same) (record { before = omega arith; parts = tt })) (one_more packets (packet s (InitProducerId p)) o i);
   gave = λ r i. let w = g.gave r i in record {
     before = let b : r.correlation < s.correlation = w.before in omega arith;
+    answers = w.answers;
     drawn = w.drawn;
     spare = λ id q e a x c p' h at. ⊎_elim
         (λ (there : In q s.requests). w.spare id q e there x c p' h at)

@@ -1,8 +1,9 @@
 -- A replay is a run: in a world of a run, what the loopback broker does with a packet is what any honest one may do; so
 -- each event of a replay is a step that a run may take.
-use Rattle.std.proofs.Common.{◌≡◌, ℕ, ◌+◌, ◌<◌, List, [], ◌∷◌, length, Some, None, refl, sym, subst, inl, inr, arith, length-append, ◌∙◌}
+use Rattle.std.proofs.Common.{◌≡◌, ℕ, ◌+◌, ◌<◌, List, [], ◌∷◌, length, map, Some, None, refl, sym, subst, inl, inr, arith, length-append, ◌∙◌}
 use Rattle.std.specs.Prelude.{Option, Result, Ok, Err, slice_get}
 use Rattle.std.specs.List.{AllByRecursion}
+use Rattle.std.proofs.lemmas.List.{append-nil}
 use Rattle.kp_accum.specs.declared.config.Config.{Config}
 use Rattle.kp_log.specs.BrokerStep.{BrokerStep}
 use Rattle.kp_log.specs.History.{History}
@@ -20,11 +21,11 @@ use Rattle.kp_world.specs.declared.event.Treatment.TheVariants.{Judged, Refused,
 use Rattle.kp_world.specs.Client.{handed_at, has_partition, client}
 use Rattle.kp_world.specs.Delivering.{log_at, PartDelivers, PartsDeliver, IsFresh, Delivers}
 use Rattle.kp_world.specs.Loopback.{treated, with_part, answer_to, logs_with, answers_to, next_id, with_id, delivered}
-use Rattle.kp_world.specs.Message.{sent_of}
+use Rattle.kp_world.specs.Message.{sent_of, Says, Answers, part_response, response_of}
 use Rattle.kp_world.specs.Noting.{noted}
 use Rattle.kp_world.specs.Replay.{MayTreat, MayHappen, arrived, stepped, replayed_from, replayed}
 use Rattle.kp_world.specs.Run.{with_delivery, with_others_at, Arrives, Steps, Run}
-use Rattle.kp_world.specs.World.{Reply, World, opening}
+use Rattle.kp_world.specs.World.{PartAnswer, ReplyContent, Batches, Id, Reply, World, opening}
 use Rattle.kp_world.proofs.BrokerLemmas.{AllAgree, Known, PartsDelivered, parts_delivered}
 use Rattle.kp_world.proofs.EventLemmas.{at_sent, at_taken, OfEvent, at_client, at_only_if}
 use Rattle.kp_world.proofs.FlightLemmas.{Carried}
@@ -102,6 +103,19 @@ honest_packet n how w o may g drawn i = at_demand o.demand refl
     at_demand (Produce xs) is = (answers_to how w.logs xs, honest_parts how n o.correlation w.ids w.core w.handed w.packets w.replies may xs w.logs g.logs_count g.agree (parts_known n w o xs g i is), refl, refl)
     at_demand (InitProducerId p) is = honest_id how w p may drawn
 
+-- ---- a reply
+
+says_each : (all parts : List PartAnswer) → ((a : PartAnswer) → In a parts → In a all) → AllByRecursion (Says all) (map part_response parts)
+says_each all [] there = tt
+says_each all (a ∷ parts) there = (
+  record { part = a; answered = contains_from_In all a (there a (In-head a parts)); partition = refl; code = refl; base = refl },
+  says_each all parts (λ b i. there b (In-tail b a parts i)),
+)
+
+pub answers_so : (k : ℕ) (c : ReplyContent) → Answers k c (response_of k c)
+answers_so k (Batches parts) = record { named = refl; says = subst (AllByRecursion (Says parts)) (sym (append-nil (map part_response parts))) (says_each parts parts (λ a i. i)) }
+answers_so k (Id code id) = record { named = refl; says = (refl, λ zero. refl) }
+
 -- ---- an event
 
 drawn_client : (w : World) → AreDrawn w.ids → OfEvent (λ v. AreDrawn v.ids) w
@@ -128,8 +142,10 @@ arrives n k how w v may g drawn e = at_packet (slice_get w.packets k) refl e
     at_packet : (o : Option Packet) → slice_get w.packets k ≡ o → arrived k how o w ≡ Some v → Arrives w k v × AreDrawn v.ids
     at_packet None is e' = absurd cc
     at_packet (Some o) is e' =
-        let same : with_delivery o (delivered how w o.demand) w ≡ v = cc in (
-          record { packet = o; went_out = is; delivery = delivered how w o.demand; honest = honest_packet n how w o may g drawn (in_at w.packets k o is); after_is = sym same },
+        let d = delivered how w o.demand in
+        let x = response_of o.correlation d.content in
+        let same : with_delivery o d x w ≡ v = cc in (
+          record { packet = o; went_out = is; delivery = d; honest = honest_packet n how w o may g drawn (in_at w.packets k o is); response = x; answers = answers_so o.correlation d.content; after_is = sym same },
           subst (λ (u : World). AreDrawn u.ids) same (drawn_delivered how w o.demand drawn),
         )
 

@@ -17,7 +17,6 @@ use Rattle.std.specs.List.{AllByRecursion}
 use Rattle.kp_rules.specs.OutcomeRule as call
 use Rattle.kp_rules.proofs.OutcomeLemmas.{each_outcome}
 use Rattle.kp_world.specs.Causes.{MayBeTold, TellsByRule}
-use Rattle.kp_world.specs.Message.{response_of}
 use Rattle.kp_rules.proofs.ListLemmas.{all_weaker}
 use Rattle.kp_world.proofs.EventLemmas.{at_sent, at_taken, OfEvent, at_step}
 use Rattle.kp_world.proofs.ListLemmas.{in_at}
@@ -27,7 +26,7 @@ use Rattle.kp_log.proofs.PlaceLemmas.{In}
 
 -- a call that is made in this world: a reply is one that was given
 abbrev pub IsMade : World → Telling → Type 0
-IsMade w (call.Reply now response) = (r : Reply) × In r w.replies × (response ≡ response_of r)
+IsMade w (call.Reply now response) = (r : Reply) × In r w.replies × (response ≡ r.response)
 IsMade w c = Unit {0}
 
 abbrev pub MayBeToldIn : World → Told → Type 0
@@ -68,7 +67,7 @@ ruled_event w = record {
   now = λ moment. quiet w (record w { moment = moment }) w.core [] refl;
   tick = ruled_on w w _ _ _ refl (by_call w (call.Tick w.moment) tt);
   send = let step = request_step w.moment w.core in at_sent (TellsIn w) w step.after step.answer (λ line. quiet w w _ _ refl) (λ o line. quiet w (with_packet o w) _ _ refl);
-  reply = λ j r there. ruled_on w w _ _ _ refl (by_call w (call.Reply w.moment (response_of r)) (r, in_at w.replies j r there, refl));
+  reply = λ j r there. ruled_on w w _ _ _ refl (by_call w (call.Reply w.moment r.response) (r, in_at w.replies j r there, refl));
   lost = quiet w w (disconnect_step w.moment w.core) [] refl;
   close = quiet w (record w { is_shut = true }) _ [] refl;
   end = ruled_on w w _ _ _ refl (by_call w call.End tt);
@@ -79,7 +78,7 @@ pub told_step : (w : World) (e : Event) (v : World) → Steps w e v → TellsIn 
 unfolding with_delivery
 told_step w e v s = at_step (TellsIn w) w (record {
   client = ruled_event w;
-  arrives = λ k o d went honest. quiet w _ w.core _ refl;
+  arrives = λ k o d x went honest says. quiet w _ w.core _ refl;
   others = λ p n there. quiet w (record w { logs = logs_with_others p n w.logs }) w.core [] refl;
 }) e v s
 

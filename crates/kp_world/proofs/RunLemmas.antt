@@ -9,6 +9,7 @@ use Rattle.kp_accum.specs.declared.fault.ConfigFault.{ConfigFault}
 use Rattle.kp_accum.specs.declared.fault.ConfigFault.TheVariants.{BatchSize, Linger, BufferMemory, MaxRequestSize, RequestTimeout, DeliveryTimeout, RetryBackoff, MaxInFlight}
 use Rattle.kp_accum.specs.declared.item.Item.{Item}
 use Rattle.kp_accum.specs.Config.{is_outside, checked}
+use Rattle.kp_frames.specs.declared.response.Response.{Response}
 use Rattle.kp_log.specs.History.{History, empty_history, with_others}
 use Rattle.kp_log.proofs.KeepingLemmas.{came_others}
 use Rattle.kp_log.proofs.PlaceLemmas.{In, In-nil, In-head, In-append_left, In-append_right}
@@ -28,6 +29,7 @@ use Rattle.kp_world.specs.Client.{handed_at}
 use Rattle.kp_world.specs.Delivering.{log_at, PartsDeliver, Delivery, IsFresh, IsError, Delivers, given}
 use Rattle.kp_world.specs.Loopback.{other_record, logs_with_others}
 use Rattle.kp_world.specs.Noting.{noted}
+use Rattle.kp_world.specs.Message.{Answers}
 use Rattle.kp_world.specs.Run.{with_delivery, Steps, IsReached}
 use Rattle.kp_world.specs.World.{PartAnswer, ReplyContent, Batches, Id, Reply, World, opening, FIRST_ID, FIRST_CORRELATION}
 use Rattle.kp_world.proofs.BrokerLemmas.{Agrees, AllAgree, Known, PartsDelivered, parts_delivered, agree_set, PartAgrees}
@@ -58,16 +60,16 @@ lawful_answered n core logs logs' handed packets replies ids ids' r g size agree
     steady = steady_replied p core.correlation core.ended (partition_at p core.partitions) (handed_at p handed) (log_at p logs') packets replies r (agree p h).steady (content p h);
   };
   went = g.went;
-  gave = λ x i. ⊎_elim (λ (j : In x replies). let w = g.gave x j in record { before = w.before; drawn = λ id e. more id (w.drawn id e); spare = w.spare }) (λ (same : x ≡ r). subst (Given n ids' core) (sym same) newest) (one_more replies r x i);
+  gave = λ x i. ⊎_elim (λ (j : In x replies). let w = g.gave x j in record { before = w.before; answers = w.answers; drawn = λ id e. more id (w.drawn id e); spare = w.spare }) (λ (same : x ≡ r). subst (Given n ids' core) (sym same) newest) (one_more replies r x i);
   asked = g.asked;
 }
 
 -- a reply that gives no id
-gives_none : (n : ℕ) (ids : List ℕ) (core : Core) (r : Reply) → r.correlation < core.correlation → ((id : ℕ) → r.content ≡ given id → ⊥) → Given n ids core r
-gives_none n ids core r b none = record { before = b; drawn = λ id e. absurd (none id e); spare = λ id q e a x c p h at. none id e }
+gives_none : (n : ℕ) (ids : List ℕ) (core : Core) (r : Reply) → r.correlation < core.correlation → Answers r.correlation r.content r.response → ((id : ℕ) → r.content ≡ given id → ⊥) → Given n ids core r
+gives_none n ids core r b a none = record { before = b; answers = a; drawn = λ id e. absurd (none id e); spare = λ id q e a x c p h at. none id e }
 
-abbrev reply : Packet → ReplyContent → Reply
-reply o content = record { correlation = o.correlation; content = content }
+abbrev reply : Packet → ReplyContent → Response → Reply
+reply o content response = record { correlation = o.correlation; content = content; response = response }
 
 -- ---- batches
 
@@ -83,14 +85,14 @@ pub parts_came : {most : ℕ} (n : ℕ) (w : World) (o : Packet) (xs : List Send
 parts_came n w o xs logs answers g i is deliver =
     parts_delivered n o.correlation w.ids w.core w.handed w.logs logs w.packets w.replies xs answers g.logs_count g.agree (parts_known n w o xs g i is) deliver
 
-came_parts : {most : ℕ} (n : ℕ) (w : World) (o : Packet) (xs : List Sending) (d : Delivery) → IsLawfulWithin most n w → In o w.packets → o.demand ≡ Produce xs → Delivers w (Produce xs) d
-    → Lawful most n w.core d.logs w.handed w.packets (w.replies ++ reply o d.content ∷ []) d.ids
+came_parts : {most : ℕ} (n : ℕ) (w : World) (o : Packet) (xs : List Sending) (d : Delivery) (x : Response) → IsLawfulWithin most n w → In o w.packets → o.demand ≡ Produce xs → Delivers w (Produce xs) d
+    → Answers o.correlation d.content x → Lawful most n w.core d.logs w.handed w.packets (w.replies ++ reply o d.content x ∷ []) d.ids
 unfolding Delivers
-came_parts {most = most} n w o xs d g i is honest =
-    subst (λ (is' : List ℕ). Lawful most n w.core d.logs w.handed w.packets (w.replies ++ reply o d.content ∷ []) is') (sym honest.3)
-    (subst (λ (c : ReplyContent). Lawful most n w.core d.logs w.handed w.packets (w.replies ++ reply o c ∷ []) w.ids) (sym honest.2)
-    (lawful_answered n w.core w.logs d.logs w.handed w.packets w.replies w.ids w.ids (reply o (Batches honest.0)) g (all.count ∙ g.logs_count) all.agree (λ id j. j)
-    (gives_none n w.ids w.core (reply o (Batches honest.0)) (g.went o i).before (λ id e. absurd cc)) content))
+came_parts {most = most} n w o xs d x g i is honest says =
+    subst (λ (is' : List ℕ). Lawful most n w.core d.logs w.handed w.packets (w.replies ++ reply o d.content x ∷ []) is') (sym honest.3)
+    (subst (λ (c : ReplyContent). Lawful most n w.core d.logs w.handed w.packets (w.replies ++ reply o c x ∷ []) w.ids) (sym honest.2)
+    (lawful_answered n w.core w.logs d.logs w.handed w.packets w.replies w.ids w.ids (reply o (Batches honest.0) x) g (all.count ∙ g.logs_count) all.agree (λ id j. j)
+    (gives_none n w.ids w.core (reply o (Batches honest.0) x) (g.went o i).before (subst (λ (c : ReplyContent). Answers o.correlation c x) honest.2 says) (λ id e. absurd cc)) content))
   where
     all : PartsDelivered most n o.correlation w.ids w.core w.handed w.logs d.logs w.packets w.replies honest.0
     all = parts_came n w o xs d.logs honest.0 g i is honest.1
@@ -111,15 +113,16 @@ not_given (Id code z) e id is = let zero : code ≡ pos 0 = cc in e zero
 fresh_apart : (ids : List ℕ) (id : ℕ) → IsFresh ids id → In id ids → ⊥
 fresh_apart ids id f i = all_at (λ (x : ℕ). x ≡ id → ⊥) ids id f i refl
 
-came_error : {most : ℕ} (n : ℕ) (w : World) (o : Packet) (c : ReplyContent) → IsLawfulWithin most n w → In o w.packets → IsError c → Lawful most n w.core w.logs w.handed w.packets (w.replies ++ reply o c ∷ []) w.ids
-came_error n w o c g i e =
-    lawful_answered n w.core w.logs w.logs w.handed w.packets w.replies w.ids w.ids (reply o c) g g.logs_count g.agree (λ id j. j)
-    (gives_none n w.ids w.core (reply o c) (g.went o i).before (not_given c e)) (λ p h. no_parts p (length (handed_at p w.handed)) o.correlation w.packets (log_at p w.logs) c e)
+came_error : {most : ℕ} (n : ℕ) (w : World) (o : Packet) (c : ReplyContent) (x : Response) → IsLawfulWithin most n w → In o w.packets → IsError c → Answers o.correlation c x
+    → Lawful most n w.core w.logs w.handed w.packets (w.replies ++ reply o c x ∷ []) w.ids
+came_error n w o c x g i e says =
+    lawful_answered n w.core w.logs w.logs w.handed w.packets w.replies w.ids w.ids (reply o c x) g g.logs_count g.agree (λ id j. j)
+    (gives_none n w.ids w.core (reply o c x) (g.went o i).before says (not_given c e)) (λ p h. no_parts p (length (handed_at p w.handed)) o.correlation w.packets (log_at p w.logs) c e)
 
-came_drawn : {most : ℕ} (n : ℕ) (w : World) (o : Packet) (c : ReplyContent) (id : ℕ) → IsLawfulWithin most n w → In o w.packets → IsFresh w.ids id → IsError c ⊎ (c ≡ given id)
-    → Lawful most n w.core w.logs w.handed w.packets (w.replies ++ reply o c ∷ []) (w.ids ++ id ∷ [])
-came_drawn {most = most} n w o c id g i fresh what =
-    lawful_answered n w.core w.logs w.logs w.handed w.packets w.replies w.ids (w.ids ++ id ∷ []) (reply o c) g g.logs_count agree (λ m j. In-append_left m w.ids (id ∷ []) j) (newest what) (λ p h. content p what)
+came_drawn : {most : ℕ} (n : ℕ) (w : World) (o : Packet) (c : ReplyContent) (x : Response) (id : ℕ) → IsLawfulWithin most n w → In o w.packets → IsFresh w.ids id → IsError c ⊎ (c ≡ given id) → Answers o.correlation c x
+    → Lawful most n w.core w.logs w.handed w.packets (w.replies ++ reply o c x ∷ []) (w.ids ++ id ∷ [])
+came_drawn {most = most} n w o c x id g i fresh what says =
+    lawful_answered n w.core w.logs w.logs w.handed w.packets w.replies w.ids (w.ids ++ id ∷ []) (reply o c x) g g.logs_count agree (λ m j. In-append_left m w.ids (id ∷ []) j) (newest what) (λ p h. content p what)
   where
     agree : AllAgree most n (w.ids ++ id ∷ []) w.core w.handed w.logs w.packets w.replies
     agree p h = record { sound = sound_drawn w.ids id (partition_at p w.core.partitions) (handed_at p w.handed) (log_at p w.logs) (g.agree p h).sound; steady = (g.agree p h).steady }
@@ -127,10 +130,11 @@ came_drawn {most = most} n w o c id g i fresh what =
     same_id : (m : ℕ) → given id ≡ given m → id ≡ m
     same_id m e = cc
 
-    newest : IsError c ⊎ (c ≡ given id) → Given n (w.ids ++ id ∷ []) w.core (reply o c)
-    newest (inl e) = gives_none n (w.ids ++ id ∷ []) w.core (reply o c) (g.went o i).before (not_given c e)
+    newest : IsError c ⊎ (c ≡ given id) → Given n (w.ids ++ id ∷ []) w.core (reply o c x)
+    newest (inl e) = gives_none n (w.ids ++ id ∷ []) w.core (reply o c x) (g.went o i).before says (not_given c e)
     newest (inr is) = record {
       before = (g.went o i).before;
+      answers = says;
       drawn = λ m e. subst (λ (x : ℕ). In x (w.ids ++ id ∷ [])) (same_id m (sym is ∙ e)) (In-append_right id w.ids (id ∷ []) (In-head id []));
       spare = λ m q e a x b p h at. fresh_apart w.ids id fresh ((g.agree p h).sound.drawn_all id (subst (λ (x : ℕ). In x (partition_at p w.core.partitions).ids) (sym (same_id m (sym is ∙ e))) at));
     }
@@ -139,26 +143,26 @@ came_drawn {most = most} n w o c id g i fresh what =
     content p (inl e) = no_parts p (length (handed_at p w.handed)) o.correlation w.packets (log_at p w.logs) c e
     content p (inr is) = subst (ContentHolds p (length (handed_at p w.handed)) o.correlation w.packets (log_at p w.logs).records) (sym is) tt
 
-came_id : {most : ℕ} (n p : ℕ) (w : World) (o : Packet) (d : Delivery) → IsLawfulWithin most n w → In o w.packets → Delivers w (InitProducerId p) d
-    → Lawful most n w.core d.logs w.handed w.packets (w.replies ++ reply o d.content ∷ []) d.ids
+came_id : {most : ℕ} (n p : ℕ) (w : World) (o : Packet) (d : Delivery) (x : Response) → IsLawfulWithin most n w → In o w.packets → Delivers w (InitProducerId p) d → Answers o.correlation d.content x
+    → Lawful most n w.core d.logs w.handed w.packets (w.replies ++ reply o d.content x ∷ []) d.ids
 unfolding Delivers
-came_id {most = most} n p w o d g i honest =
-    subst (λ (ls : List History). Lawful most n w.core ls w.handed w.packets (w.replies ++ reply o d.content ∷ []) d.ids) (sym honest.1)
+came_id {most = most} n p w o d x g i honest says =
+    subst (λ (ls : List History). Lawful most n w.core ls w.handed w.packets (w.replies ++ reply o d.content x ∷ []) d.ids) (sym honest.1)
     (⊎_elim
-    (λ (e : IsError d.content × (d.ids ≡ w.ids)). subst (λ (is : List ℕ). Lawful most n w.core w.logs w.handed w.packets (w.replies ++ reply o d.content ∷ []) is) (sym e.1) (came_error n w o d.content g i e.0))
+    (λ (e : IsError d.content × (d.ids ≡ w.ids)). subst (λ (is : List ℕ). Lawful most n w.core w.logs w.handed w.packets (w.replies ++ reply o d.content x ∷ []) is) (sym e.1) (came_error n w o d.content x g i e.0 says))
     (λ (e : (id : ℕ) × IsFresh w.ids id × (d.ids ≡ w.ids ++ id ∷ []) × (IsError d.content ⊎ (d.content ≡ given id))).
-    subst (λ (is : List ℕ). Lawful most n w.core w.logs w.handed w.packets (w.replies ++ reply o d.content ∷ []) is) (sym e.2) (came_drawn n w o d.content e.0 g i e.1 e.3))
+    subst (λ (is : List ℕ). Lawful most n w.core w.logs w.handed w.packets (w.replies ++ reply o d.content x ∷ []) is) (sym e.2) (came_drawn n w o d.content x e.0 g i e.1 e.3 says))
     honest.0)
 
 -- ---- the broker's events
 
-lawful_arrives : {most : ℕ} (n : ℕ) (w : World) (o : Packet) (d : Delivery) → IsLawfulWithin most n w → In o w.packets → Delivers w o.demand d → IsLawfulWithin most n (with_delivery o d w)
+lawful_arrives : {most : ℕ} (n : ℕ) (w : World) (o : Packet) (d : Delivery) (x : Response) → IsLawfulWithin most n w → In o w.packets → Delivers w o.demand d → Answers o.correlation d.content x → IsLawfulWithin most n (with_delivery o d x w)
 unfolding with_delivery noted
-lawful_arrives {most = most} n w o d g i honest = at_demand o.demand refl honest
+lawful_arrives {most = most} n w o d x g i honest says = at_demand o.demand refl honest
   where
-    at_demand : (e : Demand Sending) → o.demand ≡ e → Delivers w e d → Lawful most n w.core d.logs w.handed w.packets (w.replies ++ reply o d.content ∷ []) d.ids
-    at_demand (Produce xs) is honest' = came_parts n w o xs d g i is honest'
-    at_demand (InitProducerId p) is honest' = came_id n p w o d g i honest'
+    at_demand : (e : Demand Sending) → o.demand ≡ e → Delivers w e d → Lawful most n w.core d.logs w.handed w.packets (w.replies ++ reply o d.content x ∷ []) d.ids
+    at_demand (Produce xs) is honest' = came_parts n w o xs d x g i is honest' says
+    at_demand (InitProducerId p) is honest' = came_id n p w o d x g i honest' says
 
 lawful_others : {most : ℕ} (n p m : ℕ) (core : Core) (logs : List History) (handed : List (List HandedBatch)) (packets : List Packet) (replies : List Reply) (ids : List ℕ)
     → p < length logs → Lawful most n core logs handed packets replies ids → Lawful most n core (logs_with_others p m logs) handed packets replies ids
@@ -214,7 +218,7 @@ lawful_event : {most : ℕ} (n : ℕ) (w : World) → IsLawfulWithin most n w �
 unfolding noted
 lawful_event n w g = record {
   client = lawful_client n w g;
-  arrives = λ k o d is honest. lawful_arrives n w o d g (in_at w.packets k o is) honest;
+  arrives = λ k o d x is honest says. lawful_arrives n w o d x g (in_at w.packets k o is) honest says;
   others = λ p m within. lawful_others n p m w.core w.logs w.handed w.packets w.replies w.ids within g;
 }
 

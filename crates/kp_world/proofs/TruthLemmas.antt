@@ -102,7 +102,7 @@ grows_step : (n : ℕ) (e : Event) (w v : World) → Steps w e v → IsLawful n 
 unfolding with_delivery noted
 grows_step n e w v s g = at_step (Grows n w) w (record {
   client = grows_event n w g;
-  arrives = λ k o d went honest. record { handed = λ p b h i. i; logs = λ p h. grown_logs n w o d g (in_at w.packets k o went) o.demand refl honest p };
+  arrives = λ k o d x went honest says. record { handed = λ p b h i. i; logs = λ p h. grown_logs n w o d g (in_at w.packets k o went) o.demand refl honest p };
   others = λ p m there. record { handed = λ q b h i. i; logs = λ q h. others_grown p m w.logs q (subst (λ (k : ℕ). q < k) (sym g.logs_count) h) };
 }) e v s
 

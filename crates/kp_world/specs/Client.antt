@@ -17,7 +17,6 @@ use Rattle.kp_world.specs.declared.event.Event.{Event}
 use Rattle.kp_world.specs.declared.event.Event.TheVariants as event
 use Rattle.kp_world.specs.Accepting.{accepting, item_for, accepted_by, taking, taken_by}
 use Rattle.kp_world.specs.Line.{Line, SentPart, Reconnect, SentBatches, SentInit, Idle, Ended, Stale, Flushing, Flushed}
-use Rattle.kp_world.specs.Message.{response_of}
 use Rattle.kp_world.specs.Noting.{noted, only_noted}
 use Rattle.kp_world.specs.World.{World, Reply}
 
@@ -70,7 +69,7 @@ reply_line j (Err refusal) = []
 abbrev pub replying : ℕ → Option Reply → World → Option World
 replying j None w = None
 replying j (Some r) w =
-    let step = response_step w.moment (response_of r) w.core in
+    let step = response_step w.moment r.response w.core in
     Some (noted step.after (reply_line j step.answer) step.told w)
 
 -- ---- flush

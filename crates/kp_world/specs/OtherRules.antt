@@ -1,9 +1,14 @@
 -- Producers that go by all rules but one, and schedules in which this shows.
-use Rattle.std.specs.Prelude.{ℕ, ◌+◌, ◌==◌, find, ℤ, pos, Bool, not, List, [], ◌∷◌, ◌++◌, map, filter, length, Some, option_map, unwrap_or, slice_get, nat_lt, ◌&&◌, Option, None, if◌then◌else◌}
+use Rattle.std.specs.Prelude.{ℕ, ◌+◌, ◌==◌, find, ℤ, pos, Bool, not, List, [], ◌∷◌, ◌++◌, map, filter, length, Some, option_map, unwrap_or, slice_get, nat_abs, nat_lt, ◌&&◌, Option, None, if◌then◌else◌}
 use Rattle.std.specs.List.{enumerate_from, list_any}
 use Rattle.kp_accum.specs.declared.config.Config.{Config}
 use Rattle.kp_accum.specs.Config.{default_config}
 use Rattle.kp_accum.specs.Ready.{is_ready}
+use Rattle.kp_frames.specs.declared.produce.PartitionProduceResponse.{PartitionProduceResponse}
+use Rattle.kp_frames.specs.declared.produce.TopicProduceResponse.{TopicProduceResponse}
+use Rattle.kp_frames.specs.declared.response.Response.{Response}
+use Rattle.kp_frames.specs.declared.response.ResponseBody.{ResponseBody}
+use Rattle.kp_frames.specs.declared.response.ResponseBody.TheVariants as body
 use Rattle.kp_rules.specs.declared.outcome.Outcome.TheVariants.{Unsent}
 use Rattle.kp_rules.specs.declared.outcome.Reason.TheVariants.{Expired}
 use Rattle.kp_rules.specs.Attempts.{awaiting}
@@ -24,7 +29,7 @@ use Rattle.kp_world.specs.Client.{sending, replying, ticked_to, client}
 use Rattle.kp_world.specs.LogLaws.{partition_of}
 use Rattle.kp_world.specs.Reaching.{feed}
 use Rattle.kp_world.specs.Run.{Producer, StepsBy, RunBy, MayBegin}
-use Rattle.kp_world.specs.World.{PartAnswer, ReplyContent, Batches, Reply, World, opening}
+use Rattle.kp_world.specs.World.{Reply, World, opening}
 
 -- ---- what goes out
 
@@ -61,36 +66,44 @@ without_waiting c flags now t front =
 
 -- ---- how a reply is heard
 
--- It hears each reply as another.
-abbrev pub hearing_as : (World → Reply → Reply) → Producer
-hearing_as heard (event.Reply j) w = replying j (option_map (heard w) (slice_get w.replies j)) w
-hearing_as heard e w = client e w
+abbrev pub read_as : (Response → Response) → Reply → Reply
+read_as change r = record r { response = change r.response }
+
+-- It hears each reply as another message.
+abbrev pub hearing_as : (World → Response → Response) → Producer
+hearing_as change (event.Reply j) w =
+    replying j (option_map (read_as (change w)) (slice_get w.replies j)) w
+hearing_as change e w = client e w
 
 -- the base sequence of the batch that awaits the reply to request k
 abbrev pub sequence_awaiting : ℕ → Partition → ℤ
 sequence_awaiting k t = unwrap_or (option_map (λ o. pos o.batch.sequence) (awaiting k t)) (pos 0)
 
-abbrev pub at_sequence : World → ℕ → PartAnswer → PartAnswer
-at_sequence w k a = record a {
-  answer = record a.answer { base = sequence_awaiting k (partition_of a.partition w) };
+abbrev pub at_sequence : World → ℕ → PartitionProduceResponse → PartitionProduceResponse
+at_sequence w k entry = record entry {
+  base_offset = sequence_awaiting k (partition_of (nat_abs entry.partition) w);
 }
 
-abbrev pub content_at_sequences : World → ℕ → ReplyContent → ReplyContent
-content_at_sequences w k (Batches parts) = Batches (map (at_sequence w k) parts)
-content_at_sequences w k content = content
+abbrev pub topic_at_sequences : World → ℕ → TopicProduceResponse → TopicProduceResponse
+topic_at_sequences w k topic =
+    record topic { partitions = map (at_sequence w k) topic.partitions }
+
+abbrev pub body_at_sequences : World → ℕ → ResponseBody → ResponseBody
+body_at_sequences w k (body.Produce x) =
+    body.Produce (record x { topics = map (topic_at_sequences w k) x.topics })
+body_at_sequences w k other = other
 
 -- An offset is the sequence number.
-abbrev pub at_sequences : World → Reply → Reply
-at_sequences w r = record r { content = content_at_sequences w r.correlation r.content }
+abbrev pub at_sequences : World → Response → Response
+at_sequences w x = record x { body = body_at_sequences w (nat_abs x.correlation) x.body }
 
-abbrev pub to_first : List Request → Reply → Reply
-to_first [] r = r
-to_first (q ∷ others) r = record r { correlation = q.correlation }
+abbrev pub to_first : List Request → Response → Response
+to_first [] x = x
+to_first (q ∷ others) x = record x { correlation = pos q.correlation }
 
 -- A reply to no request in flight settles the oldest that is.
-abbrev pub to_oldest : World → Reply → Reply
-to_oldest w r =
-    elim (awaited (pos r.correlation) w.core) [ None ↦ to_first w.core.requests r | Some q ↦ r ]
+abbrev pub to_oldest : World → Response → Response
+to_oldest w x = elim (awaited x.correlation w.core) [ None ↦ to_first w.core.requests x | Some q ↦ x ]
 
 -- the batch went out in this request
 abbrev pub went_out_in : List Sending → ℕ → Open → Bool

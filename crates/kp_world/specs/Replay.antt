@@ -8,6 +8,7 @@ use Rattle.kp_world.specs.declared.event.Treatment.{Treatment}
 use Rattle.kp_world.specs.declared.event.Treatment.TheVariants.{Judged, Refused, Late}
 use Rattle.kp_world.specs.Client.{client}
 use Rattle.kp_world.specs.Loopback.{delivered}
+use Rattle.kp_world.specs.Message.{response_of}
 use Rattle.kp_world.specs.Run.{with_delivery, with_others_at}
 use Rattle.kp_world.specs.World.{World}
 
@@ -30,7 +31,9 @@ MayHappen _ = Unit {0}
 
 abbrev pub arrived : ℕ → Treatment → Option Packet → World → Option World
 arrived k how None w = None
-arrived k how (Some o) w = Some (with_delivery o (delivered how w o.demand) w)
+arrived k how (Some o) w =
+    let d = delivered how w o.demand in
+    Some (with_delivery o d (response_of o.correlation d.content) w)
 
 unfoldable pub stepped : Event → World → Option World
 stepped (Deliver k how) w = arrived k how (slice_get w.packets k) w

@@ -3,6 +3,7 @@
 use Rattle.std.specs.Prelude.{◌≡◌, ℕ, ◌≤◌, List, [], ◌∷◌, ◌++◌, map, length, Option, Some, Ok, slice_get}
 use Rattle.kp_accum.specs.declared.config.Config.{Config}
 use Rattle.kp_accum.specs.Config.{checked}
+use Rattle.kp_frames.specs.declared.response.Response.{Response}
 use Rattle.kp_rules.specs.Requesting.{Packet}
 use Rattle.kp_world.specs.declared.event.Event.{Event}
 use Rattle.kp_world.specs.declared.event.Event.TheVariants.{Deliver, Other}
@@ -10,8 +11,9 @@ use Rattle.kp_world.specs.Client.{client, has_partition, only_if}
 use Rattle.kp_world.specs.Delivering.{Delivery, Delivers}
 use Rattle.kp_world.specs.Line.{Line, AnswerPart, AnswerBatches, AnswerInit}
 use Rattle.kp_world.specs.Loopback.{logs_with_others}
+use Rattle.kp_world.specs.Message.{Answers}
 use Rattle.kp_world.specs.Noting.{only_noted}
-use Rattle.kp_world.specs.World.{PartAnswer, ReplyContent, Batches, Id, World, opening}
+use Rattle.kp_world.specs.World.{PartAnswer, ReplyContent, Batches, Id, Reply, World, opening}
 
 -- ---- a packet comes
 
@@ -22,12 +24,16 @@ abbrev pub answer_line : ℕ → ReplyContent → Line
 answer_line j (Batches parts) = AnswerBatches j (map answer_part parts)
 answer_line j (Id code id) = AnswerInit j code id
 
+abbrev pub reply_to : Packet → Delivery → Response → Reply
+reply_to o d response =
+    record { correlation = o.correlation; content = d.content; response = response }
+
 -- What was answered to the packet is the next reply.
-unfoldable pub with_delivery : Packet → Delivery → World → World
-with_delivery o d w = only_noted (answer_line (length w.replies) d.content ∷ []) (record w {
+unfoldable pub with_delivery : Packet → Delivery → Response → World → World
+with_delivery o d response w = only_noted (answer_line (length w.replies) d.content ∷ []) (record w {
   logs = d.logs;
   ids = d.ids;
-  replies = w.replies ++ (record { correlation = o.correlation; content = d.content }) ∷ [];
+  replies = w.replies ++ reply_to o d response ∷ [];
 })
 
 -- other producers' records come in between
@@ -37,13 +43,16 @@ with_others_at p n w =
 
 -- ---- a step
 
--- Any packet that ever went out comes, and the broker does with it what it may.
+-- Any packet that ever went out comes, the broker does with it what it may, and says so in any message
+-- that does.
 pub record Arrives (w : World) (k : ℕ) (v : World) : Type 0 where
   pub packet : Packet
   pub went_out : slice_get w.packets k ≡ Some packet
   pub delivery : Delivery
   pub honest : Delivers w packet.demand delivery
-  pub after_is : v ≡ with_delivery packet delivery w
+  pub response : Response
+  pub answers : Answers packet.correlation delivery.content response
+  pub after_is : v ≡ with_delivery packet delivery response w
 
 -- what the producer's events do
 abbrev pub Producer : Type 0

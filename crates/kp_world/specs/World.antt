@@ -3,6 +3,7 @@
 use Rattle.std.specs.Prelude.{ℕ, Bool, false, List, [], ◌∷◌, ℤ, replicate, codes}
 use Rattle.kp_accum.specs.declared.config.Config.{Config}
 use Rattle.kp_accum.specs.declared.item.Item.{Item}
+use Rattle.kp_frames.specs.declared.response.Response.{Response}
 use Rattle.kp_log.specs.BrokerStep.{Answered}
 use Rattle.kp_log.specs.History.{History, empty_history}
 use Rattle.kp_rules.specs.declared.names.Names.{Names}
@@ -23,9 +24,11 @@ pub data ReplyContent : Type 0 where
   Batches : List PartAnswer → ReplyContent
   Id : (code id : ℤ) → ReplyContent
 
+-- A reply: what was answered, to the packet with this correlation id, and the message that says so.
 pub record Reply : Type 0 where
   pub correlation : ℕ
   pub content : ReplyContent
+  pub response : Response
 
 -- ---- worlds
 

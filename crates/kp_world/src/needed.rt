@@ -22,7 +22,7 @@ pub fn only_one_rule_is_changed()
     ensures handing_over { (e : Event) (w : World) → sending_by may_hand_over e w ≡ client e w }
     ensures window { (c : Config) (flags : Flags) (now : ℕ) (t : Partition) (front : Pending)
         → with_window (λ c t. is_in_span c t.next_number t.open_batches) c flags now t front ≡ may_hand_over c flags now t front }
-    ensures hearing { (e : Event) (w : World) → hearing_as (λ w r. r) e w ≡ client e w }
+    ensures hearing { (e : Event) (w : World) → hearing_as (λ w x. x) e w ≡ client e w }
     ensures ticking { (e : Event) (w : World) → ticking_by heed_deadlines e w ≡ client e w }
 {}
 
