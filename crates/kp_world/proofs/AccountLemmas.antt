@@ -87,7 +87,7 @@ unsent_for p (t ∷ told) = at_tests (is_unsent t.outcome) (t.item.partition == 
 pub items_told-append : (f : Item → ℕ) (a b : List Told) → weigh f (items_told (a ++ b)) ≡ weigh f (items_told a) + weigh f (items_told b)
 items_told-append f a b = ap (weigh f) (map-append (λ (t : Told). t.item) a b) ∙ weigh-append f (items_told a) (items_told b)
 
-accounts_core : (core : Core) (accepted : List (List Item)) (taken : List ℕ) (handed : List (List HandedBatch)) (told more : List Told) (core' : Core)
+pub accounts_core : (core : Core) (accepted : List (List Item)) (taken : List ℕ) (handed : List (List HandedBatch)) (told more : List Told) (core' : Core)
     → Accounts core accepted taken handed told → CoreTells core more core' → Accounts core' accepted taken handed (told ++ more)
 accounts_core core accepted taken handed told more core' a k = record {
   taken_count = a.taken_count;

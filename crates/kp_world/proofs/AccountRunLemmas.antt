@@ -4,7 +4,6 @@ use Rattle.std.specs.Prelude.{if◌then◌else◌, flat_map, slice_get, slice_in
 use Rattle.std.specs.List.{AllByRecursion, range_with_len}
 use Rattle.std.proofs.lemmas.Bool.{false_from_ne_true}
 use Rattle.std.proofs.lemmas.List.{length-replicate, get_or-replicate}
-use Rattle.kp_accum.specs.declared.config.Config.{Config}
 use Rattle.kp_accum.specs.declared.item.Item.{Item}
 use Rattle.kp_frames.specs.declared.response.Response.{Response}
 use Rattle.kp_log.proofs.PlaceLemmas.{In, In-head, In-tail}
@@ -18,9 +17,10 @@ use Rattle.kp_rules.specs.declared.outcome.Reason.TheVariants.{Fenced, Ended}
 use Rattle.kp_rules.specs.Appending.{Appends, with_queued, turn_away}
 use Rattle.kp_rules.specs.Attempts.{awaits}
 use Rattle.kp_rules.specs.Dropping.{disconnect_step}
+use Rattle.kp_rules.specs.Auditing.{opened, without_audits}
 use Rattle.kp_rules.specs.Opening.{new_core}
 use Rattle.kp_rules.specs.Partitions.{partition_at, new_partition, items_queued, untold}
-use Rattle.kp_rules.specs.Records.{HandedBatch, Open, Partition}
+use Rattle.kp_rules.specs.Records.{HandedBatch, Open, Partition, Core}
 use Rattle.kp_rules.specs.Requesting.{Packet}
 use Rattle.kp_world.specs.declared.event.Event.{Event}
 use Rattle.kp_world.specs.Accepting.{for_partition, item_for, accepted_by, with_accepted, with_taken, taken_by, taking_of, taking}
@@ -30,9 +30,9 @@ use Rattle.kp_world.specs.Delivering.{Delivery, log_at}
 use Rattle.kp_world.specs.Line.{Closed, Large, Empty, Full}
 use Rattle.kp_world.specs.Loopback.{logs_with_others}
 use Rattle.kp_world.specs.Run.{answer_line, reply_to, with_delivery, Steps, MayBegin, IsReached}
-use Rattle.kp_world.specs.World.{Reply, World, FIRST_ID, opening}
+use Rattle.kp_world.specs.World.{Reply, World, Opening, opening}
 use Rattle.kp_world.proofs.EventLemmas.{OfEvent, at_step, at_run}
-use Rattle.kp_world.proofs.AccountLemmas.{items_of, taken_of, Accepts, IsAccounted, accounts_only, accounts_noted, accounts_call}
+use Rattle.kp_world.proofs.AccountLemmas.{items_of, taken_of, Accepts, Accounts, IsAccounted, accounts_core, accounts_only, accounts_noted, accounts_call}
 use Rattle.kp_world.proofs.ConservationLemmas.{attempts_of, attempt_count}
 use Rattle.kp_world.proofs.FateLemmas.{Fates}
 use Rattle.kp_rules.specs.declared.attempt.Attempt.TheVariants.{InFlight}
@@ -41,13 +41,13 @@ use Rattle.kp_world.proofs.FlightLemmas.{flies_same}
 use Rattle.kp_world.proofs.HearingLemmas.{answered_batch, same_correlation}
 use Rattle.kp_world.proofs.LawfulLemmas.{IsLawful}
 use Rattle.kp_world.proofs.LeavingLemmas.{Rising, awaits_is}
-use Rattle.kp_world.proofs.RunLemmas.{lawful_step, lawful_opening, within_five}
+use Rattle.kp_world.proofs.RunLemmas.{first_core, lawful_step, lawful_opening, within_five}
 use Rattle.kp_rules.proofs.ListLemmas.{all_say}
 use Rattle.kp_world.proofs.ListLemmas.{all_at, all_in, in_at}
 use Rattle.kp_world.proofs.WeightLemmas.{weigh, weigh_flat, weigh_none}
 use Rattle.kp_world.proofs.HandingLemmas.{accounts_sending}
 use Rattle.kp_world.proofs.TakingLemmas.{NextOf, next_of, accounts_accepted, accounts_turned_away, accounts_queued}
-use Rattle.kp_world.proofs.TellingLemmas.{IsSingle, core_alike, core_ticked, core_ended, core_flushed, core_disconnected, core_closed, core_replied, home_past}
+use Rattle.kp_world.proofs.TellingLemmas.{IsSingle, core_alike, core_ticked, core_ended, core_flushed, core_disconnected, core_closed, core_unaudited, core_replied, home_past}
 
 -- ---- the producer's events
 
@@ -144,10 +144,10 @@ all_alike (suc n) (suc i) d = all_alike n i d
 accepts_none : (n s : ℕ) → Accepts n s [] 0
 accepts_none n s = record { within = omega arith; known = tt; own = tt; numbered = λ p. tt }
 
-no_items : (f : Item → ℕ) (n : ℕ) → weigh f (flat_map untold (replicate n (new_partition FIRST_ID))) ≡ 0
+no_items : (f : Item → ℕ) (id n : ℕ) → weigh f (flat_map untold (replicate n (new_partition id))) ≡ 0
 unfolding untold
-no_items f zero = refl
-no_items f (suc n) = no_items f n
+no_items f id zero = refl
+no_items f id (suc n) = no_items f id n
 
 none_taken : (f : Item → ℕ) (senders a m : ℕ) → weigh f (flat_map (taken_of (replicate senders []) (replicate senders 0)) (range_with_len a m)) ≡ 0
 none_taken f senders a m =
@@ -158,26 +158,37 @@ none_taken f senders a m =
 fates_none : Fates [] [] [] []
 fates_none = record { kept = refl; known = tt; numbered = tt }
 
-accounts_opening : (c : Config) (partitions senders : ℕ) → IsAccounted (opening c partitions senders)
-unfolding opening new_core untold
-accounts_opening c partitions senders = record {
-  taken_count = length-replicate senders 0 ∙ sym (length-replicate {A = List Item} senders []);
-  handed_count = length-replicate {A = List HandedBatch} partitions [] ∙ sym (length-replicate partitions (new_partition FIRST_ID));
-  senders = λ s. subst (λ (items : List Item). Accepts (length (replicate partitions (new_partition FIRST_ID))) s items (slice_index (replicate senders 0) s)) (sym (all_alike {A = List Item} senders s [])) (subst (Accepts (length (replicate partitions (new_partition FIRST_ID))) s []) (sym (all_alike senders s 0)) (accepts_none (length (replicate partitions (new_partition FIRST_ID))) s));
-  home = home_past (replicate partitions (new_partition FIRST_ID)) (λ p l. subst (λ (t : Partition). AllByRecursion (λ i. i.partition ≡ p) (untold t)) (sym (at p l)) tt);
+abbrev AccountedAtFirst : Opening → Core → Type 0
+AccountedAtFirst o core = Accounts core (replicate o.senders []) (replicate o.senders 0) (replicate o.partitions []) []
+
+accounts_first : (o : Opening) → AccountedAtFirst o (first_core o)
+unfolding new_core untold
+accounts_first o = record {
+  taken_count = length-replicate o.senders 0 ∙ sym (length-replicate {A = List Item} o.senders []);
+  handed_count = length-replicate {A = List HandedBatch} o.partitions [] ∙ sym (length-replicate o.partitions (new_partition o.id));
+  senders = λ s. subst (λ (items : List Item). Accepts (length (replicate o.partitions (new_partition o.id))) s items (slice_index (replicate o.senders 0) s)) (sym (all_alike {A = List Item} o.senders s [])) (subst (Accepts (length (replicate o.partitions (new_partition o.id))) s []) (sym (all_alike o.senders s 0)) (accepts_none (length (replicate o.partitions (new_partition o.id))) s));
+  home = home_past (replicate o.partitions (new_partition o.id)) (λ p l. subst (λ (t : Partition). AllByRecursion (λ i. i.partition ≡ p) (untold t)) (sym (at p l)) tt);
   requests = tt;
   fates = λ s p l.
-      subst (λ (n : ℕ). Fates (for_partition p (take n (slice_index_or (replicate senders []) s []))) (of_sender s (items_queued (partition_at p (replicate partitions (new_partition FIRST_ID))).queue)) (of_sender s (items_of (handed_at p (replicate partitions [])))) []) (sym (all_alike senders s 0))
-      (subst (λ (t : Partition). Fates [] (of_sender s (items_queued t.queue)) (of_sender s (items_of (handed_at p (replicate partitions [])))) []) (sym (at p l))
-      (subst (λ (handed : List HandedBatch). Fates [] [] (of_sender s (items_of handed)) []) (sym (all_alike {A = List HandedBatch} partitions p [])) fates_none));
+      subst (λ (n : ℕ). Fates (for_partition p (take n (slice_index_or (replicate o.senders []) s []))) (of_sender s (items_queued (partition_at p (replicate o.partitions (new_partition o.id))).queue)) (of_sender s (items_of (handed_at p (replicate o.partitions [])))) []) (sym (all_alike o.senders s 0))
+      (subst (λ (t : Partition). Fates [] (of_sender s (items_queued t.queue)) (of_sender s (items_of (handed_at p (replicate o.partitions [])))) []) (sym (at p l))
+      (subst (λ (handed : List HandedBatch). Fates [] [] (of_sender s (items_of handed)) []) (sym (all_alike {A = List HandedBatch} o.partitions p [])) fates_none));
   weights = λ f.
-      let untold_none : weigh f (flat_map untold (replicate partitions (new_partition FIRST_ID))) ≡ 0 = no_items f partitions in
-      let taken_none : weigh f (flat_map (taken_of (replicate senders []) (replicate senders 0)) (range_with_len 0 (length (replicate {A = List Item} senders [])))) ≡ 0 = none_taken f senders 0 (length (replicate {A = List Item} senders [])) in
+      let untold_none : weigh f (flat_map untold (replicate o.partitions (new_partition o.id))) ≡ 0 = no_items f o.id o.partitions in
+      let taken_none : weigh f (flat_map (taken_of (replicate o.senders []) (replicate o.senders 0)) (range_with_len 0 (length (replicate {A = List Item} o.senders [])))) ≡ 0 = none_taken f o.senders 0 (length (replicate {A = List Item} o.senders [])) in
       omega (arith, untold_none, taken_none);
 }
   where
-    at : (p : ℕ) → p < length (replicate partitions (new_partition FIRST_ID)) → partition_at p (replicate partitions (new_partition FIRST_ID)) ≡ new_partition FIRST_ID
-    at p l = get_or-replicate partitions p (new_partition FIRST_ID) (new_partition 0) (subst (λ (n : ℕ). p < n) (length-replicate partitions (new_partition FIRST_ID)) l)
+    at : (p : ℕ) → p < length (replicate o.partitions (new_partition o.id)) → partition_at p (replicate o.partitions (new_partition o.id)) ≡ new_partition o.id
+    at p l = get_or-replicate o.partitions p (new_partition o.id) (new_partition 0) (subst (λ (n : ℕ). p < n) (length-replicate o.partitions (new_partition o.id)) l)
+
+accounts_opening : (o : Opening) → IsAccounted (opening o)
+unfolding opening
+accounts_opening o = at_audits o.audits
+  where
+    at_audits : (audits : Bool) → AccountedAtFirst o (opened audits (first_core o))
+    at_audits true = accounts_first o
+    at_audits false = accounts_core (first_core o) (replicate o.senders []) (replicate o.senders 0) (replicate o.partitions []) [] [] (without_audits (first_core o)) (accounts_first o) (core_unaudited (first_core o))
 
 -- ---- every world that a schedule leads to
 
@@ -188,8 +199,8 @@ IsInOrder n w = IsLawful n w × IsAccounted w
 pub order_step : (n : ℕ) (w : World) → IsInOrder n w → (e : Event) (v : World) → Steps w e v → IsInOrder n v
 order_step n w h e v s = (lawful_step n e w v s h.0, accounts_step n w h.0 h.1 e v s)
 
-pub order_opening : (c : Config) (partitions senders : ℕ) → MayBegin c partitions senders → IsInOrder partitions (opening c partitions senders)
-order_opening c partitions senders may = (lawful_opening c partitions senders (within_five c may.config), accounts_opening c partitions senders)
+pub order_opening : (o : Opening) → MayBegin o → IsInOrder o.partitions (opening o)
+order_opening o may = (lawful_opening o (within_five o.config may.config), accounts_opening o)
 
-pub order_reached : (c : Config) (partitions senders : ℕ) (es : List Event) (w : World) → IsReached c partitions senders es w → IsInOrder partitions w
-order_reached c partitions senders es w r = at_run (IsInOrder partitions) (order_step partitions) es (opening c partitions senders) w r.run (order_opening c partitions senders r.may_begin)
+pub order_reached : (o : Opening) (es : List Event) (w : World) → IsReached o es w → IsInOrder o.partitions w
+order_reached o es w r = at_run (IsInOrder o.partitions) (order_step o.partitions) es (opening o) w r.run (order_opening o r.may_begin)

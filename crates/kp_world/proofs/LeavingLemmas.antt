@@ -32,6 +32,7 @@ use Rattle.kp_rules.specs.declared.meaning.Meaning.{Meaning}
 use Rattle.kp_rules.specs.declared.meaning.Meaning.TheVariants.{Stored, Duplicate, Retry, Reject}
 use Rattle.kp_rules.specs.Appending.{Appends, turn_away, enqueue}
 use Rattle.kp_rules.specs.Attempts.{awaits, awaiting}
+use Rattle.kp_rules.specs.Auditing.{unaudited, without_audits}
 use Rattle.kp_rules.specs.Dropping.{drop_attempt, drop_attempts, disconnect_step}
 use Rattle.kp_rules.specs.Flush.{mark_open, mark}
 use Rattle.kp_rules.specs.Partitions.{partition_at, changed_at, new_partition, is_in, present_id}
@@ -196,6 +197,16 @@ leaves_queued P e c i t = record {
   fence = λ f. f;
   acknowledged = λ a. inl a;
   keeps = keeps_queued c i t;
+}
+
+leaves_unaudited : (P : HandedBatch → Type 0) (e : Bool) (t : Partition) → Leaves P e t (unaudited t)
+leaves_unaudited P e t = record {
+  opens = (leaves_same P e t).opens;
+  rises = λ r. r;
+  stays = (leaves_same P e t).stays;
+  fence = λ f. f;
+  acknowledged = λ a. inl a;
+  keeps = record { number = refl; sequence = refl; ids = refl; opens = λ handed h. h; queue = λ h. h };
 }
 
 leaves_fenced : (P : HandedBatch → Type 0) (e : Bool) (t : Partition) → Leaves P e t (fence t).after
@@ -410,6 +421,17 @@ left_flushed P s = record {
   correlation = refl;
   requests = λ q i. i;
   each = λ p h. at_all P s.ended mark (λ Q t. leaves_marked Q s.ended t) s.partitions p h;
+}
+
+pub left_unaudited : (P : ℕ → HandedBatch → Type 0) (s : Core) → CoreLeaves P s (without_audits s)
+unfolding without_audits
+left_unaudited P s = record {
+  count = length-map s.partitions unaudited;
+  config = refl;
+  ended = λ e. e;
+  correlation = refl;
+  requests = λ q i. i;
+  each = λ p h. at_all P s.ended unaudited (λ Q t. leaves_unaudited Q s.ended t) s.partitions p h;
 }
 
 pub left_disconnected : (P : ℕ → HandedBatch → Type 0) (now : ℕ) (s : Core) → CoreLeaves P s (disconnect_step now s)

@@ -1,7 +1,6 @@
 -- The laws on logs, from what holds of every world of a run.
 use Rattle.std.proofs.Common.{◌≡◌, ℕ, ◌<◌, List, [], Some, None, refl, sym, ap, ◌∙◌, subst, ⊎_elim}
 use Rattle.std.specs.Prelude.{Option}
-use Rattle.kp_accum.specs.declared.config.Config.{Config}
 use Rattle.kp_log.specs.BrokerStep.{MayAppend}
 use Rattle.kp_log.specs.History.{with_batch, records_of}
 use Rattle.kp_log.proofs.PlaceLemmas.{In, In-from_contains}
@@ -15,7 +14,7 @@ use Rattle.kp_world.specs.Delivering.{log_at}
 use Rattle.kp_world.specs.LogLaws.{partition_of, IsPrefix, NoDuplicateIsAwaited, EarlierIdsAreSilent}
 use Rattle.kp_world.specs.Message.{sent_of}
 use Rattle.kp_world.specs.Run.{IsReached}
-use Rattle.kp_world.specs.World.{World}
+use Rattle.kp_world.specs.World.{World, Opening}
 use Rattle.kp_world.proofs.DeliveredLemmas.{open_there}
 use Rattle.kp_world.proofs.HearingLemmas.{old_not_in_flight}
 use Rattle.kp_world.proofs.LawfulLemmas.{PartsIn, IsLawful}
@@ -27,9 +26,9 @@ use Rattle.kp_world.proofs.ListLemmas.{found_in}
 
 -- ---- the log is a prefix
 
-pub log_is_prefix : (c : Config) (partitions senders : ℕ) (es : List Event) (w : World) → IsReached c partitions senders es w → (p : ℕ) → p < partitions → IsPrefix p w
-log_is_prefix c partitions senders es w r p h =
-    let cut = ((lawful_reached c partitions senders es w r).agree p h).steady.cut in
+pub log_is_prefix : (o : Opening) (es : List Event) (w : World) → IsReached o es w → (p : ℕ) → p < o.partitions → IsPrefix p w
+log_is_prefix o es w r p h =
+    let cut = ((lawful_reached o es w r).agree p h).steady.cut in
     record { stored = cut.landed; rest = cut.rest; handed = cut.split; records = cut.owned ∙ ap records_of cut.appended }
 
 -- ---- no duplicate in flight
@@ -50,9 +49,9 @@ none_awaited n w g k a x code = at_option (awaiting k (partition_of a.partition 
         let h : a.partition < n = subst (λ (m : ℕ). a.partition < m) g.count (open_there w.core.partitions a.partition o f.0) in
         absurd (old_not_in_flight a.partition w.core.correlation k w.core.ended (partition_of a.partition w) (handed_at a.partition w.handed) (log_at a.partition w.logs) w.packets w.replies x.reply x.parts a (g.agree a.partition h).steady reply_in x.content (sym x.correlation) part_in refl code o f.0 (awaits_is k o f.1))
 
-pub no_duplicate_is_awaited : (c : Config) (partitions senders : ℕ) (es : List Event) (w : World) → IsReached c partitions senders es w → NoDuplicateIsAwaited w
-no_duplicate_is_awaited c partitions senders es w r =
-    none_awaited partitions w (lawful_reached c partitions senders es w r)
+pub no_duplicate_is_awaited : (o : Opening) (es : List Event) (w : World) → IsReached o es w → NoDuplicateIsAwaited w
+no_duplicate_is_awaited o es w r =
+    none_awaited o.partitions w (lawful_reached o es w r)
 
 -- ---- earlier ids are silent
 
@@ -74,6 +73,6 @@ silent n w g p b x other answer after step =
         let head = lands w.ids (partition_of p w) (handed_at p w.handed) (log_at p w.logs) both.sound both.steady.cut b known.1 may in
         both.steady.cut.current b (record { earlier = []; later = head.0; split = head.1 })
 
-pub earlier_ids_are_silent : (c : Config) (partitions senders : ℕ) (es : List Event) (w : World) → IsReached c partitions senders es w → EarlierIdsAreSilent w
-earlier_ids_are_silent c partitions senders es w r =
-    silent partitions w (lawful_reached c partitions senders es w r)
+pub earlier_ids_are_silent : (o : Opening) (es : List Event) (w : World) → IsReached o es w → EarlierIdsAreSilent w
+earlier_ids_are_silent o es w r =
+    silent o.partitions w (lawful_reached o es w r)

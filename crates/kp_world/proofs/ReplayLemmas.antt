@@ -25,7 +25,7 @@ use Rattle.kp_world.specs.Message.{sent_of, Says, Answers, part_response, respon
 use Rattle.kp_world.specs.Noting.{noted}
 use Rattle.kp_world.specs.Replay.{MayTreat, MayHappen, arrived, stepped, replayed_from, replayed}
 use Rattle.kp_world.specs.Run.{with_delivery, with_others_at, Arrives, Steps, Run}
-use Rattle.kp_world.specs.World.{PartAnswer, ReplyContent, Batches, Id, Reply, World, opening}
+use Rattle.kp_world.specs.World.{PartAnswer, ReplyContent, Batches, Id, Reply, World, opening, scheduled}
 use Rattle.kp_world.proofs.BrokerLemmas.{AllAgree, Known, PartsDelivered, parts_delivered}
 use Rattle.kp_world.proofs.EventLemmas.{at_sent, at_taken, OfEvent, at_client, at_only_if}
 use Rattle.kp_world.proofs.FlightLemmas.{Carried}
@@ -185,7 +185,7 @@ is_run n k (x ∷ es) w v may g drawn e =
     at_world (Some u) is e' later =
         let one = steps n x w u may.0 g drawn is in (u, one.0, later u one.0 one.1 e')
 
-pub replay_is_run : (c : Config) (partitions senders : ℕ) (es : List Event) (w : World) → AllByRecursion MayHappen es → replayed es (opening c partitions senders) ≡ Ok w → Run (opening c partitions senders) es w
+pub replay_is_run : (c : Config) (partitions senders : ℕ) (es : List Event) (w : World) → AllByRecursion MayHappen es → replayed es (opening (scheduled c partitions senders)) ≡ Ok w → Run (opening (scheduled c partitions senders)) es w
 unfolding replayed opening
 replay_is_run c partitions senders es w may e =
-    is_run {most = c.max_in_flight_requests_per_connection + 1} partitions 0 es (opening c partitions senders) w may (lawful_opening_within c partitions senders (omega arith) (omega arith)) (omega arith, tt) e
+    is_run {most = c.max_in_flight_requests_per_connection + 1} partitions 0 es (opening (scheduled c partitions senders)) w may (lawful_opening_within (scheduled c partitions senders) (omega arith) (omega arith)) (omega arith, tt) e

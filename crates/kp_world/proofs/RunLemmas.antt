@@ -19,6 +19,7 @@ use Rattle.kp_rules.specs.Tick.{tick_step}
 use Rattle.kp_rules.specs.Appending.{append_step}
 use Rattle.kp_rules.specs.Dropping.{disconnect_step}
 use Rattle.kp_rules.specs.Next.{Sending}
+use Rattle.kp_rules.specs.Auditing.{opened, without_audits}
 use Rattle.kp_rules.specs.Opening.{new_core}
 use Rattle.kp_rules.specs.Partitions.{partition_at, new_partition}
 use Rattle.kp_rules.specs.Records.{Demand, Produce, InitProducerId, HandedBatch, Partition, Core}
@@ -31,13 +32,13 @@ use Rattle.kp_world.specs.Loopback.{other_record, logs_with_others}
 use Rattle.kp_world.specs.Noting.{noted}
 use Rattle.kp_world.specs.Message.{Answers}
 use Rattle.kp_world.specs.Run.{with_delivery, Steps, IsReached}
-use Rattle.kp_world.specs.World.{PartAnswer, ReplyContent, Batches, Id, Reply, World, opening, FIRST_ID, FIRST_CORRELATION}
+use Rattle.kp_world.specs.World.{PartAnswer, ReplyContent, Batches, Id, Reply, World, Opening, opening}
 use Rattle.kp_world.proofs.BrokerLemmas.{Agrees, AllAgree, Known, PartsDelivered, parts_delivered, agree_set, PartAgrees}
 use Rattle.kp_world.proofs.EventLemmas.{at_taken, OfEvent, at_step, OfStep, at_run}
 use Rattle.kp_world.proofs.FlightLemmas.{Carries, PartHolds, ContentHolds, steady_new, steady_grown, steady_replied}
 use Rattle.kp_world.proofs.HearingLemmas.{lawful_reply}
 use Rattle.kp_world.proofs.LawfulLemmas.{Lawful, IsLawful, StoredAt, lawful_core, lawful_sending, IsLawfulWithin, PartsIn, Given}
-use Rattle.kp_world.proofs.LeavingLemmas.{CoreLeaves, left_appended, left_ticked, left_ended, left_flushed, left_disconnected, left_closed}
+use Rattle.kp_world.proofs.LeavingLemmas.{CoreLeaves, left_appended, left_ticked, left_ended, left_flushed, left_disconnected, left_closed, left_unaudited}
 use Rattle.kp_world.proofs.PrefixLemmas.{grown_others}
 use Rattle.kp_world.proofs.SoundLemmas.{sents, sound_new, sound_history, sound_drawn}
 use Rattle.kp_world.proofs.ListLemmas.{all_at, in_at, one_more}
@@ -253,30 +254,49 @@ within_five c e =
     at_least true b is e' = absurd cc
     at_least false b is e' = at_most b is e'
 
-pub lawful_opening_within : {most : ℕ} (c : Config) (partitions senders : ℕ) → c.max_in_flight_requests_per_connection ≤ most → 0 < most → IsLawfulWithin most partitions (opening c partitions senders)
-unfolding opening new_core
-lawful_opening_within {most = most} c partitions senders few some = record {
-  count = length-replicate partitions (new_partition FIRST_ID);
-  handed_count = let none : List HandedBatch = [] in length-replicate partitions none;
-  logs_count = length-replicate partitions empty_history;
+abbrev pub first_core : Opening → Core
+first_core o = new_core o.config o.names o.partitions o.senders o.id o.correlation
+
+abbrev LawfulAtFirst : ℕ → Opening → Core → Type 0
+LawfulAtFirst most o core = Lawful most o.partitions core (replicate o.partitions empty_history) (replicate o.partitions []) [] [] (o.id ∷ [])
+
+lawful_first : {most : ℕ} (o : Opening) → o.config.max_in_flight_requests_per_connection ≤ most → 0 < most → LawfulAtFirst most o (first_core o)
+unfolding new_core
+lawful_first {most = most} o few some = record {
+  count = length-replicate o.partitions (new_partition o.id);
+  handed_count = let none : List HandedBatch = [] in length-replicate o.partitions none;
+  logs_count = length-replicate o.partitions empty_history;
   window = few;
   some = some;
   agree = each;
-  went = λ o i. absurd (In-nil o i);
+  went = λ x i. absurd (In-nil x i);
   gave = λ r i. absurd (In-nil r i);
   asked = λ q i. absurd (In-nil q i);
 }
   where
-    each : (p : ℕ) → p < partitions → PartAgrees most p (FIRST_ID ∷ []) false FIRST_CORRELATION (partition_at p (replicate partitions (new_partition FIRST_ID))) (handed_at p (replicate partitions [])) (log_at p (replicate partitions empty_history)) [] []
+    each : (p : ℕ) → p < o.partitions → PartAgrees most p (o.id ∷ []) false o.correlation (partition_at p (replicate o.partitions (new_partition o.id))) (handed_at p (replicate o.partitions [])) (log_at p (replicate o.partitions empty_history)) [] []
     each p h =
-        subst (λ (u : Partition). PartAgrees most p (FIRST_ID ∷ []) false FIRST_CORRELATION u (handed_at p (replicate partitions [])) (log_at p (replicate partitions empty_history)) [] []) (sym (get_or-replicate partitions p (new_partition FIRST_ID) (new_partition 0) h))
-        (subst (λ (hs : List HandedBatch). PartAgrees most p (FIRST_ID ∷ []) false FIRST_CORRELATION (new_partition FIRST_ID) hs (log_at p (replicate partitions empty_history)) [] []) (sym (get_or-replicate {A = List HandedBatch} partitions p [] [] h))
-        (subst (λ (l : History). PartAgrees most p (FIRST_ID ∷ []) false FIRST_CORRELATION (new_partition FIRST_ID) [] l [] []) (sym (get_or-replicate partitions p empty_history empty_history h)) (record { sound = sound_new FIRST_ID; steady = steady_new p FIRST_CORRELATION FIRST_ID })))
+        subst (λ (u : Partition). PartAgrees most p (o.id ∷ []) false o.correlation u (handed_at p (replicate o.partitions [])) (log_at p (replicate o.partitions empty_history)) [] []) (sym (get_or-replicate o.partitions p (new_partition o.id) (new_partition 0) h))
+        (subst (λ (hs : List HandedBatch). PartAgrees most p (o.id ∷ []) false o.correlation (new_partition o.id) hs (log_at p (replicate o.partitions empty_history)) [] []) (sym (get_or-replicate {A = List HandedBatch} o.partitions p [] [] h))
+        (subst (λ (l : History). PartAgrees most p (o.id ∷ []) false o.correlation (new_partition o.id) [] l [] []) (sym (get_or-replicate o.partitions p empty_history empty_history h)) (record { sound = sound_new o.id; steady = steady_new p o.correlation o.id })))
 
-pub lawful_opening : (c : Config) (partitions senders : ℕ) → c.max_in_flight_requests_per_connection ≤ 5 → IsLawful partitions (opening c partitions senders)
-lawful_opening c partitions senders five = lawful_opening_within c partitions senders five (omega arith)
+pub lawful_opening_within : {most : ℕ} (o : Opening) → o.config.max_in_flight_requests_per_connection ≤ most → 0 < most → IsLawfulWithin most o.partitions (opening o)
+unfolding opening
+lawful_opening_within {most = most} o few some = at_audits o.audits
+  where
+    first : LawfulAtFirst most o (first_core o)
+    first = lawful_first o few some
+
+    at_audits : (audits : Bool) → LawfulAtFirst most o (opened audits (first_core o))
+    at_audits true = first
+    at_audits false =
+        lawful_core o.partitions (first_core o) (without_audits (first_core o)) (replicate o.partitions empty_history) (replicate o.partitions []) [] [] (o.id ∷ []) first
+        (left_unaudited (StoredAt (replicate o.partitions empty_history)) (first_core o))
+
+pub lawful_opening : (o : Opening) → o.config.max_in_flight_requests_per_connection ≤ 5 → IsLawful o.partitions (opening o)
+lawful_opening o five = lawful_opening_within o five (omega arith)
 
 -- Every world that a schedule leads to.
-pub lawful_reached : (c : Config) (partitions senders : ℕ) (es : List Event) (w : World) → IsReached c partitions senders es w → IsLawful partitions w
-lawful_reached c partitions senders es w r =
-    at_run (IsLawful partitions) (λ u g e v s. lawful_step partitions e u v s g) es (opening c partitions senders) w r.run (lawful_opening c partitions senders (within_five c r.may_begin.config))
+pub lawful_reached : (o : Opening) (es : List Event) (w : World) → IsReached o es w → IsLawful o.partitions w
+lawful_reached o es w r =
+    at_run (IsLawful o.partitions) (λ u g e v s. lawful_step o.partitions e u v s g) es (opening o) w r.run (lawful_opening o (within_five o.config r.may_begin.config))

@@ -6,7 +6,6 @@ use Rattle.std.proofs.lemmas.Bool.Decides.{Decides-int_eq}
 use Rattle.std.proofs.lemmas.List.{map-append, length-map}
 use Rattle.std.proofs.lemmas.List.Concat.{flat_map-append}
 use Rattle.kp_batch.specs.declared.record.Record.{Record}
-use Rattle.kp_accum.specs.declared.config.Config.{Config}
 use Rattle.kp_accum.specs.declared.item.Item.{Item}
 use Rattle.kp_accum.specs.Queue.{body_of}
 use Rattle.kp_log.specs.declared.stored.Stored.{Stored}
@@ -23,7 +22,7 @@ use Rattle.kp_world.specs.Delivering.{log_at}
 use Rattle.kp_world.specs.LogLaws.{partition_of, WasTold, StandsAt, ToldOffsetsStand, EachDeliveryHasItsOffset}
 use Rattle.kp_world.specs.Message.{sent_of}
 use Rattle.kp_world.specs.Run.{IsReached}
-use Rattle.kp_world.specs.World.{World}
+use Rattle.kp_world.specs.World.{World, Opening}
 use Rattle.kp_world.proofs.BrokerLemmas.{Agrees}
 use Rattle.kp_world.proofs.LawfulLemmas.{IsLawful}
 use Rattle.kp_world.proofs.PrefixLemmas.{Cut, own-append, own_known, follows, stored_landed}
@@ -160,10 +159,10 @@ stands_at n w i offset g d = record {
 was_truly : (n : ℕ) (w : World) → IsTruthful n w → (t : Told) → WasTold w t → Truly n w.handed w.logs t
 was_truly n w g t x = g x.event (In-from_contains w.past x.event x.happened) t (In-from_contains x.event.told t x.told)
 
-pub told_offsets_stand : (c : Config) (partitions senders : ℕ) (es : List Event) (w : World) → IsReached c partitions senders es w → ToldOffsetsStand w
-told_offsets_stand c partitions senders es w r t offset x is =
-    stands_at partitions w t.item offset (lawful_reached c partitions senders es w r) ((was_truly partitions w (truthful_reached c partitions senders es w r) t x).delivered offset is)
+pub told_offsets_stand : (o : Opening) (es : List Event) (w : World) → IsReached o es w → ToldOffsetsStand w
+told_offsets_stand o es w r t offset x is =
+    stands_at o.partitions w t.item offset (lawful_reached o es w r) ((was_truly o.partitions w (truthful_reached o es w r) t x).delivered offset is)
 
-pub each_delivery_has_its_offset : (c : Config) (partitions senders : ℕ) (es : List Event) (w : World) → IsReached c partitions senders es w → EachDeliveryHasItsOffset w
-each_delivery_has_its_offset c partitions senders es w r t x is =
-    (was_truly partitions w (truthful_reached c partitions senders es w r) t x).offset is
+pub each_delivery_has_its_offset : (o : Opening) (es : List Event) (w : World) → IsReached o es w → EachDeliveryHasItsOffset w
+each_delivery_has_its_offset o es w r t x is =
+    (was_truly o.partitions w (truthful_reached o es w r) t x).offset is

@@ -1,5 +1,6 @@
 -- What a call on the core tells of each partition's items, and what it keeps.
 use Rattle.kp_rules.proofs.ListLemmas.{at_set}
+use Rattle.kp_rules.specs.Auditing.{unaudited, without_audits}
 use Rattle.kp_rules.specs.Attempts.{asks_for_id}
 use Rattle.kp_rules.specs.Attempts.{partitions_of}
 use Rattle.kp_rules.specs.Records.{Called}
@@ -188,6 +189,14 @@ core_dropped now s = core_map (drop_attempts now) (tells_dropped now) s (drop_re
 pub core_flushed : (s : Core) → CoreTells s [] (flush_step s)
 unfolding flush_step
 core_flushed s = core_map mark tells_marked s (flush_step s) refl (λ P h. h)
+
+tells_unaudited : (t : Partition) → Tells t [] (unaudited t)
+unfolding untold
+tells_unaudited t = tells_same t (unaudited t) refl refl
+
+pub core_unaudited : (s : Core) → CoreTells s [] (without_audits s)
+unfolding without_audits
+core_unaudited s = core_map unaudited tells_unaudited s (without_audits s) refl (λ P h. h)
 
 pub core_disconnected : (now : ℕ) (s : Core) → CoreTells s [] (disconnect_step now s)
 core_disconnected now s = at_disconnect (CoreTells s []) now s (core_nothing s) (core_dropped now s)

@@ -2,7 +2,6 @@
 -- logs.
 use Rattle.std.proofs.Common.{◌≡◌, ℕ, ◌<◌, Bool, true, false, List, [], ◌∷◌, ◌++◌, length, replicate, refl, sym, ap, ◌∙◌, subst, ⊎_elim}
 use Rattle.std.specs.Prelude.{if◌then◌else◌, ◌==◌}
-use Rattle.kp_accum.specs.declared.config.Config.{Config}
 use Rattle.kp_log.specs.declared.stored.Stored.{Stored}
 use Rattle.kp_log.specs.History.{History, empty_history, with_others}
 use Rattle.kp_log.specs.Log.{stored_as, NO_ID}
@@ -15,7 +14,7 @@ use Rattle.kp_world.specs.Delivering.{log_at, Delivery, Delivers}
 use Rattle.kp_world.specs.Loopback.{other_record, logs_with_others}
 use Rattle.kp_world.specs.Noting.{noted}
 use Rattle.kp_world.specs.Run.{with_delivery, Steps, IsReached}
-use Rattle.kp_world.specs.World.{Happened, World, opening}
+use Rattle.kp_world.specs.World.{Happened, World, Opening, opening}
 use Rattle.kp_world.proofs.RunLemmas.{parts_came}
 use Rattle.std.proofs.lemmas.List.{length-set, append-nil}
 use Rattle.kp_log.proofs.PlaceLemmas.{In, In-nil, In-append_left}
@@ -126,11 +125,11 @@ truthful_step n e w v s g a before h i t j = truly_grown n w.handed v.handed w.l
 all_step : (n : ℕ) (w : World) → IsInOrder n w × IsTruthful n w → (e : Event) (v : World) → Steps w e v → IsInOrder n v × IsTruthful n v
 all_step n w h e v s = (order_step n w h.0 e v s, truthful_step n e w v s h.0.0 h.0.1 h.1)
 
-truthful_opening : (c : Config) (partitions senders : ℕ) → IsTruthful partitions (opening c partitions senders)
+truthful_opening : (o : Opening) → IsTruthful o.partitions (opening o)
 unfolding opening
-truthful_opening c partitions senders h i = absurd (In-nil h i)
+truthful_opening o h i = absurd (In-nil h i)
 
 -- Every world that a schedule leads to.
-pub truthful_reached : (c : Config) (partitions senders : ℕ) (es : List Event) (w : World) → IsReached c partitions senders es w → IsTruthful partitions w
-truthful_reached c partitions senders es w r =
-    (at_run (λ v. IsInOrder partitions v × IsTruthful partitions v) (all_step partitions) es (opening c partitions senders) w r.run (order_opening c partitions senders r.may_begin, truthful_opening c partitions senders)).1
+pub truthful_reached : (o : Opening) (es : List Event) (w : World) → IsReached o es w → IsTruthful o.partitions w
+truthful_reached o es w r =
+    (at_run (λ v. IsInOrder o.partitions v × IsTruthful o.partitions v) (all_step o.partitions) es (opening o) w r.run (order_opening o r.may_begin, truthful_opening o)).1

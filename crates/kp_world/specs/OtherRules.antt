@@ -29,7 +29,7 @@ use Rattle.kp_world.specs.Client.{sending, replying, ticked_to, client}
 use Rattle.kp_world.specs.LogLaws.{partition_of}
 use Rattle.kp_world.specs.Reaching.{feed}
 use Rattle.kp_world.specs.Run.{Producer, StepsBy, RunBy, MayBegin}
-use Rattle.kp_world.specs.World.{Reply, World, opening}
+use Rattle.kp_world.specs.World.{Reply, World, opening, scheduled}
 
 -- ---- what goes out
 
@@ -184,18 +184,18 @@ keeping_ids e w = client e w
 -- and then the law does not hold.
 pub record Breaks (producer : Producer) (c : Config) (es : List Event) (Law : World → Type 0)
     : Type 0 where
-  pub may_begin : MayBegin c 1 1
+  pub may_begin : MayBegin (scheduled c 1 1)
   pub world : World
-  pub run : RunBy (StepsBy producer) (opening c 1 1) es world
+  pub run : RunBy (StepsBy producer) (opening (scheduled c 1 1)) es world
   pub broken : Law world → ⊥
 
 -- So it goes through this schedule, and tells in the event behind it what the outcome rule has no
 -- case for.
 pub record TellsAgainstRule (producer : Producer) (c : Config) (es : List Event) (e : Event)
     : Type 0 where
-  pub may_begin : MayBegin c 1 1
+  pub may_begin : MayBegin (scheduled c 1 1)
   pub before : World
-  pub run : RunBy (StepsBy producer) (opening c 1 1) es before
+  pub run : RunBy (StepsBy producer) (opening (scheduled c 1 1)) es before
   pub after : World
   pub step : StepsBy producer before e after
   pub broken : TellsByRule before after → ⊥

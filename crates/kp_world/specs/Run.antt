@@ -1,9 +1,8 @@
--- All that a schedule can bring about, whatever the network loses, repeats and reorders, for any
+-- All that can come about, whatever the network loses, repeats and reorders, for any
 -- honest broker.
-use Rattle.std.specs.Prelude.{◌≡◌, ℕ, ◌≤◌, List, [], ◌∷◌, ◌++◌, map, length, Option, Some, Ok, slice_get}
-use Rattle.kp_accum.specs.declared.config.Config.{Config}
-use Rattle.kp_accum.specs.Config.{checked}
+use Rattle.std.specs.Prelude.{◌≡◌, ℕ, List, [], ◌∷◌, ◌++◌, map, length, Option, Some, slice_get}
 use Rattle.kp_frames.specs.declared.response.Response.{Response}
+use Rattle.kp_rules.specs.Opening.{MayOpen}
 use Rattle.kp_rules.specs.Requesting.{Packet}
 use Rattle.kp_world.specs.declared.event.Event.{Event}
 use Rattle.kp_world.specs.declared.event.Event.TheVariants.{Deliver, Other}
@@ -13,7 +12,7 @@ use Rattle.kp_world.specs.Line.{Line, AnswerPart, AnswerBatches, AnswerInit}
 use Rattle.kp_world.specs.Loopback.{logs_with_others}
 use Rattle.kp_world.specs.Message.{Answers}
 use Rattle.kp_world.specs.Noting.{only_noted}
-use Rattle.kp_world.specs.World.{PartAnswer, ReplyContent, Batches, Id, Reply, World, opening}
+use Rattle.kp_world.specs.World.{PartAnswer, ReplyContent, Batches, Id, Reply, World, Opening, opening}
 
 -- ---- a packet comes
 
@@ -75,16 +74,11 @@ RunBy steps w (e ∷ es) v = (middle : World) × steps w e middle × RunBy steps
 unfoldable pub Run : World → List Event → World → Type 0
 Run w es v = RunBy Steps w es v
 
--- What a schedule may begin with.
-pub record MayBegin (c : Config) (partitions senders : ℕ) : Type 0 where
-  pub config : checked c ≡ Ok tt
-  pub some_partitions : 1 ≤ partitions
-  pub partition_limit : partitions ≤ 1024
-  pub some_senders : 1 ≤ senders
-  pub sender_limit : senders ≤ 64
+-- What a run may begin with.
+abbrev pub MayBegin : Opening → Type 0
+MayBegin o = MayOpen o.config o.names o.partitions o.senders o.id o.correlation
 
--- The world is one to which a schedule leads.
-pub record IsReached (c : Config) (partitions senders : ℕ) (es : List Event) (w : World)
-    : Type 0 where
-  pub may_begin : MayBegin c partitions senders
-  pub run : Run (opening c partitions senders) es w
+-- The world is one to which these events lead.
+pub record IsReached (o : Opening) (es : List Event) (w : World) : Type 0 where
+  pub may_begin : MayBegin o
+  pub run : Run (opening o) es w

@@ -1,12 +1,13 @@
 -- A world: a producer's core with its senders, the packets and replies that ever travelled, the
 -- partitions' logs, and what happened so far.
-use Rattle.std.specs.Prelude.{ℕ, Bool, false, List, [], ◌∷◌, ℤ, replicate, codes}
+use Rattle.std.specs.Prelude.{ℕ, Bool, true, false, List, [], ◌∷◌, ℤ, replicate, codes}
 use Rattle.kp_accum.specs.declared.config.Config.{Config}
 use Rattle.kp_accum.specs.declared.item.Item.{Item}
 use Rattle.kp_frames.specs.declared.response.Response.{Response}
 use Rattle.kp_log.specs.BrokerStep.{Answered}
 use Rattle.kp_log.specs.History.{History, empty_history}
 use Rattle.kp_rules.specs.declared.names.Names.{Names}
+use Rattle.kp_rules.specs.Auditing.{opened}
 use Rattle.kp_rules.specs.Opening.{new_core}
 use Rattle.kp_rules.specs.Records.{HandedBatch, Core, Told}
 use Rattle.kp_rules.specs.Requesting.{Packet}
@@ -54,6 +55,34 @@ pub record World : Type 0 where
 
 -- ---- the opening world
 
+-- What a world begins with: what a new core may be made of.
+pub record Opening : Type 0 where
+  pub config : Config
+  pub names : Names
+  pub partitions : ℕ
+  pub senders : ℕ
+  pub id : ℕ  -- the first producer id
+  pub correlation : ℕ  -- the first correlation id
+  pub audits : Bool  -- what is handed over is listed
+
+-- nothing was accepted, sent or stored
+unfoldable pub opening : Opening → World
+opening o = record {
+  core = opened o.audits (new_core o.config o.names o.partitions o.senders o.id o.correlation);
+  accepted = replicate o.senders [];
+  taken = replicate o.senders 0;
+  handed = replicate o.partitions [];
+  packets = [];
+  replies = [];
+  logs = replicate o.partitions empty_history;
+  ids = o.id ∷ [];
+  moment = 0;
+  is_shut = false;
+  past = [];
+}
+
+-- ---- a schedule's
+
 abbrev pub names : Names
 names = record { topic = codes "t"; client = codes "kp" }
 
@@ -63,18 +92,13 @@ FIRST_ID = 1000
 abbrev pub FIRST_CORRELATION : ℕ
 FIRST_CORRELATION = 2
 
--- nothing was accepted, sent or stored
-unfoldable pub opening : Config → ℕ → ℕ → World
-opening c partitions senders = record {
-  core = new_core c names partitions senders FIRST_ID FIRST_CORRELATION;
-  accepted = replicate senders [];
-  taken = replicate senders 0;
-  handed = replicate partitions [];
-  packets = [];
-  replies = [];
-  logs = replicate partitions empty_history;
-  ids = FIRST_ID ∷ [];
-  moment = 0;
-  is_shut = false;
-  past = [];
+abbrev pub scheduled : Config → ℕ → ℕ → Opening
+scheduled c partitions senders = record {
+  config = c;
+  names = names;
+  partitions = partitions;
+  senders = senders;
+  id = FIRST_ID;
+  correlation = FIRST_CORRELATION;
+  audits = true;
 }
