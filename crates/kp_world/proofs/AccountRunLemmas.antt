@@ -22,7 +22,7 @@ use Rattle.kp_rules.specs.Opening.{new_core}
 use Rattle.kp_rules.specs.Partitions.{partition_at, new_partition, items_queued, untold}
 use Rattle.kp_rules.specs.Records.{HandedBatch, Open, Partition, Core}
 use Rattle.kp_rules.specs.Requesting.{Packet}
-use Rattle.kp_world.specs.declared.event.Event.{Event}
+use Rattle.kp_world.specs.Events.{WorldEvent}
 use Rattle.kp_world.specs.Accepting.{for_partition, item_for, accepted_by, with_accepted, with_taken, taken_by, taking_of, taking}
 use Rattle.kp_world.specs.Accounts.{of_sender, told_in}
 use Rattle.kp_world.specs.Client.{handed_at, reply_line, flush_line}
@@ -101,13 +101,13 @@ is_single n w r g given p k o a x named =
     let first = answered_batch p w.core.correlation k w.core.ended (partition_at p w.core.partitions) (handed_at p w.handed) (log_at p w.logs) w.packets w.replies r h.parts h.part steady given h.content its h.known h.place y i f in
     sym first.1 ∙ flies_same p w.core.correlation r.correlation w.packets z.batch first.0.batch ((steady.aloft z j).flies r.correlation (e ∙ ap InFlight its)) first.0.carried)
 
-accounts_event : (n : ℕ) (w : World) → IsLawful n w → IsAccounted w → OfEvent IsAccounted w
+accounts_event : (n : ℕ) (w : World) → IsLawful n w → IsAccounted w → OfEvent (λ e. IsAccounted) w
 accounts_event n w g a = record {
-  not_accepted = λ s p. (accounts_only w.core (Closed s p ∷ []) w a, accounts_only w.core (Large s p ∷ []) w a);
-  accepted = λ s p value here there shut small.
-      accounts_only w.core [] (with_accepted (item_for s p value w) w)
-      (accounts_accepted w.core w.accepted w.taken w.handed (told_in w.past) (item_for s p value w) a here (subst (λ (m : ℕ). p < m) (g.logs_count ∙ sym g.count) there) refl);
-  none_taken = λ s. accounts_only w.core (Empty s ∷ []) w a;
+  not_accepted = λ s p at body. (accounts_only w.core (Closed s p ∷ []) w a, accounts_only w.core (Large s p ∷ []) w a);
+  accepted = λ s p at body here there shut small.
+      accounts_only w.core [] (with_accepted (item_for s p at body w) w)
+      (accounts_accepted w.core w.accepted w.taken w.handed (told_in w.past) (item_for s p at body w) a here (subst (λ (m : ℕ). p < m) (g.logs_count ∙ sym g.count) there) refl);
+  none_taken = λ s none. accounts_only w.core (Empty s ∷ []) w a;
   taken = λ s i here there. accounts_taken s i w here there a;
   now = λ moment. accounts_only w.core [] (record w { moment = moment }) a;
   tick = accounts_call (tick_step w.moment w.core).after _ (tick_step w.moment w.core).told w a (core_ticked w.moment w.core a.home);
@@ -126,9 +126,9 @@ accounts_event n w g a = record {
 abbrev delivered_to : Packet → Delivery → Response → World → World
 delivered_to o d x w = record w { logs = d.logs; ids = d.ids; replies = w.replies ++ reply_to o d x ∷ [] }
 
-accounts_step : (n : ℕ) (w : World) → IsLawful n w → IsAccounted w → (e : Event) (v : World) → Steps w e v → IsAccounted v
+accounts_step : (n : ℕ) (w : World) → IsLawful n w → IsAccounted w → (e : WorldEvent) (v : World) → Steps w e v → IsAccounted v
 unfolding with_delivery
-accounts_step n w g a e v s = at_step IsAccounted w (record {
+accounts_step n w g a e v s = at_step (λ e. IsAccounted) w (record {
   client = accounts_event n w g a;
   arrives = λ k o d x went honest says. accounts_only w.core (answer_line (length w.replies) d.content ∷ []) (delivered_to o d x w) a;
   others = λ p m there. accounts_only w.core [] (record w { logs = logs_with_others p m w.logs }) a;
@@ -196,11 +196,11 @@ accounts_opening o = at_audits o.audits
 abbrev pub IsInOrder : ℕ → World → Type 0
 IsInOrder n w = IsLawful n w × IsAccounted w
 
-pub order_step : (n : ℕ) (w : World) → IsInOrder n w → (e : Event) (v : World) → Steps w e v → IsInOrder n v
+pub order_step : (n : ℕ) (w : World) → IsInOrder n w → (e : WorldEvent) (v : World) → Steps w e v → IsInOrder n v
 order_step n w h e v s = (lawful_step n e w v s h.0, accounts_step n w h.0 h.1 e v s)
 
 pub order_opening : (o : Opening) → MayBegin o → IsInOrder o.partitions (opening o)
 order_opening o may = (lawful_opening o (within_five o.config may.config), accounts_opening o)
 
-pub order_reached : (o : Opening) (es : List Event) (w : World) → IsReached o es w → IsInOrder o.partitions w
+pub order_reached : (o : Opening) (es : List WorldEvent) (w : World) → IsReached o es w → IsInOrder o.partitions w
 order_reached o es w r = at_run (IsInOrder o.partitions) (order_step o.partitions) es (opening o) w r.run (order_opening o r.may_begin)

@@ -37,7 +37,8 @@ use Rattle.kp_world.specs.OtherRules.{Breaks, TellsAgainstRule}
 use Rattle.kp_world.specs.Run.{Producer}
 use Rattle.kp_world.specs.World.{World, opening, scheduled}
 use Rattle.kp_log.proofs.PlaceLemmas.{In-from_contains}
-use Rattle.kp_world.specs.declared.event.Event.TheVariants as event
+use Rattle.kp_world.specs.Events.{events_of}
+use Rattle.kp_world.specs.Events as event
 use Rattle.kp_world.proofs.LeavingLemmas.{awaits_is}
 use Rattle.kp_world.proofs.ListLemmas.{all_at}
 use Rattle.kp_world.proofs.ToldLemmas.{same_itself}
@@ -251,17 +252,17 @@ told_against_rule w v still none some law =
 -- ---- a schedule that breaks a law
 
 -- What the world at its end has is computed.
-pub breaks : (producer : Producer) (cs : List Choice) (c : Config) (es : List Event) (Law : World → Type 0) → checked c ≡ Ok tt → are_there producer cs es (opening (scheduled c 1 1)) ≡ true
-    → AreHonest producer cs es (opening (scheduled c 1 1)) → (test : World → Bool) → ((w : World) → test w ≡ true → Law w → ⊥) → test (end_of producer cs es (opening (scheduled c 1 1))) ≡ true → Breaks producer c es Law
+pub breaks : (producer : Producer) (cs : List Choice) (c : Config) (es : List Event) (Law : World → Type 0) → checked c ≡ Ok tt → are_there producer cs (events_of 0 es) (opening (scheduled c 1 1)) ≡ true
+    → AreHonest producer cs (events_of 0 es) (opening (scheduled c 1 1)) → (test : World → Bool) → ((w : World) → test w ≡ true → Law w → ⊥) → test (end_of producer cs (events_of 0 es) (opening (scheduled c 1 1))) ≡ true → Breaks producer c es Law
 breaks producer cs c es Law e t h test none is = record {
   may_begin = may_begin c e;
-  world = end_of producer cs es (opening (scheduled c 1 1));
-  run = run_of producer cs es (opening (scheduled c 1 1)) t h;
-  broken = none (end_of producer cs es (opening (scheduled c 1 1))) is;
+  world = end_of producer cs (events_of 0 es) (opening (scheduled c 1 1));
+  run = run_of producer cs (events_of 0 es) (opening (scheduled c 1 1)) t h;
+  broken = none (end_of producer cs (events_of 0 es) (opening (scheduled c 1 1))) is;
 }
 
-pub breaks_outcome_rule : (producer : Producer) (cs : List Choice) (c : Config) (es : List Event) (j : ℕ) → checked c ≡ Ok tt → are_there producer cs es (opening (scheduled c 1 1)) ≡ true
-    → AreHonest producer cs es (opening (scheduled c 1 1)) → (v : World) → producer (event.Reply j) (end_of producer cs es (opening (scheduled c 1 1))) ≡ Some v
-    → (TellsByRule (end_of producer cs es (opening (scheduled c 1 1))) v → ⊥) → TellsAgainstRule producer c es (event.Reply j)
+pub breaks_outcome_rule : (producer : Producer) (cs : List Choice) (c : Config) (es : List Event) (j : ℕ) → checked c ≡ Ok tt → are_there producer cs (events_of 0 es) (opening (scheduled c 1 1)) ≡ true
+    → AreHonest producer cs (events_of 0 es) (opening (scheduled c 1 1)) → (v : World) → producer (event.Reply j) (end_of producer cs (events_of 0 es) (opening (scheduled c 1 1))) ≡ Some v
+    → (TellsByRule (end_of producer cs (events_of 0 es) (opening (scheduled c 1 1))) v → ⊥) → TellsAgainstRule producer c es (event.Reply j)
 breaks_outcome_rule producer cs c es j e t h v step broken =
-    record { may_begin = may_begin c e; before = end_of producer cs es (opening (scheduled c 1 1)); run = run_of producer cs es (opening (scheduled c 1 1)) t h; after = v; step = step; broken = broken }
+    record { may_begin = may_begin c e; before = end_of producer cs (events_of 0 es) (opening (scheduled c 1 1)); run = run_of producer cs (events_of 0 es) (opening (scheduled c 1 1)) t h; after = v; step = step; broken = broken }

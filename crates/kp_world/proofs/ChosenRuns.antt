@@ -11,8 +11,8 @@ use Rattle.kp_log.specs.Log.{KEPT, count_of}
 use Rattle.kp_rules.specs.Next.{Sending}
 use Rattle.kp_rules.specs.Records.{Demand, Produce, InitProducerId}
 use Rattle.kp_rules.specs.Requesting.{Packet}
-use Rattle.kp_world.specs.declared.event.Event.{Event}
-use Rattle.kp_world.specs.declared.event.Event.TheVariants as event
+use Rattle.kp_world.specs.Events.{WorldEvent}
+use Rattle.kp_world.specs.Events as event
 use Rattle.kp_world.specs.declared.event.Treatment.TheVariants.{Judged}
 use Rattle.kp_world.specs.Delivering.{Delivery, Delivers, PartsDeliver, IsFresh, log_at}
 use Rattle.kp_world.specs.Loopback.{next_id, id_delivered}
@@ -126,8 +126,8 @@ abbrev came : Choice → World → Option Packet → World
 came c w (Some o) = let d = chosen c w o.demand in with_delivery o d (response_of o.correlation d.content) w
 came c w None = w
 
-abbrev pub next : Producer → Choice → Event → World → World
-next producer c (event.Deliver k how) w = came c w (slice_get w.packets k)
+abbrev pub next : Producer → Choice → WorldEvent → World → World
+next producer c (event.Deliver k) w = came c w (slice_get w.packets k)
 next producer c (event.Other p n) w = unwrap_or (with_others_at p n w) w
 next producer c e w = unwrap_or (producer e w) w
 
@@ -136,21 +136,21 @@ abbrev first_of : List Choice → Choice
 first_of [] = Append
 first_of (c ∷ cs) = c
 
-abbrev others_of : Event → List Choice → List Choice
-others_of (event.Deliver k how) cs = drop 1 cs
+abbrev others_of : WorldEvent → List Choice → List Choice
+others_of (event.Deliver k) cs = drop 1 cs
 others_of e cs = cs
 
-abbrev pub end_of : Producer → List Choice → List Event → World → World
+abbrev pub end_of : Producer → List Choice → List WorldEvent → World → World
 end_of producer cs [] w = w
 end_of producer cs (e ∷ es) w = end_of producer (others_of e cs) es (next producer (first_of cs) e w)
 
 -- each event names what is there
-abbrev is_there : Producer → Event → World → Bool
-is_there producer (event.Deliver k how) w = is_some (slice_get w.packets k)
+abbrev is_there : Producer → WorldEvent → World → Bool
+is_there producer (event.Deliver k) w = is_some (slice_get w.packets k)
 is_there producer (event.Other p n) w = is_some (with_others_at p n w)
 is_there producer e w = is_some (producer e w)
 
-abbrev pub are_there : Producer → List Choice → List Event → World → Bool
+abbrev pub are_there : Producer → List Choice → List WorldEvent → World → Bool
 are_there producer cs [] w = true
 are_there producer cs (e ∷ es) w = is_there producer e w && are_there producer (others_of e cs) es (next producer (first_of cs) e w)
 
@@ -159,9 +159,9 @@ abbrev MayCome : Choice → World → Option Packet → Type 0
 MayCome c w (Some o) = MayChoose c w o.demand
 MayCome c w None = ⊥
 
-abbrev pub AreHonest : Producer → List Choice → List Event → World → Type 0
+abbrev pub AreHonest : Producer → List Choice → List WorldEvent → World → Type 0
 AreHonest producer cs [] w = Unit {0}
-AreHonest producer cs (event.Deliver k how ∷ es) w = MayCome (first_of cs) w (slice_get w.packets k) × AreHonest producer (drop 1 cs) es (next producer (first_of cs) (event.Deliver k how) w)
+AreHonest producer cs (event.Deliver k ∷ es) w = MayCome (first_of cs) w (slice_get w.packets k) × AreHonest producer (drop 1 cs) es (next producer (first_of cs) (event.Deliver k) w)
 AreHonest producer cs (e ∷ es) w = AreHonest producer cs es (next producer (first_of cs) e w)
 
 goes_on : (o : Option World) (w : World) (later : Bool) → is_some o && later ≡ true → (o ≡ Some (unwrap_or o w)) × (later ≡ true)
@@ -172,15 +172,15 @@ arrives : (c : Choice) (k : ℕ) (w : World) (o : Option Packet) → slice_get w
 arrives c k w (Some o) is h = record { packet = o; went_out = is; delivery = chosen c w o.demand; honest = is_honest c w o.demand h; response = response_of o.correlation (chosen c w o.demand).content; answers = answers_so o.correlation (chosen c w o.demand).content; after_is = refl }
 arrives c k w None is h = absurd h
 
-pub run_of : (producer : Producer) (cs : List Choice) (es : List Event) (w : World) → are_there producer cs es w ≡ true → AreHonest producer cs es w
+pub run_of : (producer : Producer) (cs : List Choice) (es : List WorldEvent) (w : World) → are_there producer cs es w ≡ true → AreHonest producer cs es w
     → RunBy (StepsBy producer) w es (end_of producer cs es w)
 run_of producer cs [] w t h = refl
-run_of producer cs (event.Deliver k how ∷ es) w t h =
-    (_, arrives (first_of cs) k w (slice_get w.packets k) refl h.0, run_of producer (drop 1 cs) es _ (and_parts (is_there producer (event.Deliver k how) w) _ t).1 h.1)
+run_of producer cs (event.Deliver k ∷ es) w t h =
+    (_, arrives (first_of cs) k w (slice_get w.packets k) refl h.0, run_of producer (drop 1 cs) es _ (and_parts (is_there producer (event.Deliver k) w) _ t).1 h.1)
 run_of producer cs (event.Other p n ∷ es) w t h =
     let on = goes_on (with_others_at p n w) w _ t in (_, on.0, run_of producer cs es _ on.1 h)
-run_of producer cs (event.Accept s p value ∷ es) w t h =
-    let on = goes_on (producer (event.Accept s p value) w) w _ t in (_, on.0, run_of producer cs es _ on.1 h)
+run_of producer cs (event.Accept s p at body ∷ es) w t h =
+    let on = goes_on (producer (event.Accept s p at body) w) w _ t in (_, on.0, run_of producer cs es _ on.1 h)
 run_of producer cs (event.Take s ∷ es) w t h =
     let on = goes_on (producer (event.Take s) w) w _ t in (_, on.0, run_of producer cs es _ on.1 h)
 run_of producer cs (event.Now moment ∷ es) w t h =

@@ -6,6 +6,7 @@ use Rattle.kp_log.specs.KeptBatches.{kept_in}
 use Rattle.kp_log.specs.SequenceRule.{verdict}
 use Rattle.kp_rules.proofs.Evaluation as sender
 use Rattle.kp_world.specs.Client.{with_sendings, client}
+use Rattle.kp_world.specs.Events.{events_of}
 use Rattle.kp_world.specs.Loopback.{logs_with, answers_to, delivered}
 use Rattle.kp_world.specs.Lines.{lines}
 use Rattle.kp_world.specs.Noting.{noted}
@@ -15,5 +16,5 @@ use Rattle.kp_world.specs.Text.{line_text, text}
 use Rattle.kp_world.specs.World.{opening}
 
 unfoldable pub evaluated : Unit {0}
-unfolding digits sender.evaluated own_offsets offered_to kept_in verdict with_sendings client logs_with answers_to delivered lines noted with_delivery with_others_at stepped replayed_from replayed line_text text opening
+unfolding digits sender.evaluated own_offsets offered_to kept_in verdict with_sendings client logs_with answers_to delivered lines noted with_delivery with_others_at stepped replayed_from events_of replayed line_text text opening
 evaluated = tt

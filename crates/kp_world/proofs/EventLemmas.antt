@@ -2,6 +2,7 @@
 use Rattle.std.proofs.Common.{◌≡◌, ℕ, ◌<◌, Bool, true, false, List, [], ◌∷◌, length, Some, None, refl, sym, subst}
 use Rattle.std.specs.Prelude.{Result, Ok, Err, Option, if◌then◌else◌, ◌&&◌, slice_get}
 use Rattle.std.proofs.lemmas.Bool.{and_parts, ltb-true}
+use Rattle.kp_batch.specs.declared.record.Record.{Record}
 use Rattle.kp_accum.specs.declared.fault.AppendFault.{AppendFault}
 use Rattle.kp_accum.specs.declared.item.Item.{Item}
 use Rattle.kp_frames.specs.declared.response.Response.{Response}
@@ -14,8 +15,8 @@ use Rattle.kp_rules.specs.Appending.{append_step}
 use Rattle.kp_rules.specs.Dropping.{disconnect_step}
 use Rattle.kp_rules.specs.Records.{Core}
 use Rattle.kp_rules.specs.Requesting.{Packet}
-use Rattle.kp_world.specs.declared.event.Event.{Event}
-use Rattle.kp_world.specs.declared.event.Event.TheVariants as event
+use Rattle.kp_world.specs.Events.{WorldEvent}
+use Rattle.kp_world.specs.Events as event
 use Rattle.kp_world.specs.Accepting.{with_taken, taking_of, accepted_by, taken_by, item_for, is_large, with_accepted, accepting, taking}
 use Rattle.kp_world.specs.Client.{with_packet, sent_line, sending, reply_line, flush_line, has_sender, has_partition, only_if, replying, ticking, ending, closing, client}
 use Rattle.kp_world.specs.Delivering.{Delivery, Delivers}
@@ -47,21 +48,21 @@ at_taken P s i w joined full = at_answer (append_step i w.core).answer
 
 -- ---- the producer's events
 
-pub record OfEvent (P : World → Type 0) (w : World) : Type 0 where
-  pub not_accepted : (s p : ℕ) → P (only_noted (Closed s p ∷ []) w) × P (only_noted (Large s p ∷ []) w)
-  pub accepted : (s p : ℕ) (value : List ℕ) → s < length w.accepted → p < length w.logs → w.is_shut ≡ false
-      → is_large (item_for s p value w) w ≡ false → P (only_noted [] (with_accepted (item_for s p value w) w))
-  pub none_taken : (s : ℕ) → P (only_noted (Empty s ∷ []) w)
-  pub taken : (s : ℕ) (i : Item) → s < length w.accepted → slice_get (accepted_by s w) (taken_by s w) ≡ Some i → P (taking s (Some i) w)
-  pub now : (moment : ℕ) → P (only_noted [] (record w { moment = moment }))
-  pub tick : P (ticking w)
-  pub send : let step = request_step w.moment w.core in P (sending w step.after step.answer)
+pub record OfEvent (P : WorldEvent → World → Type 0) (w : World) : Type 0 where
+  pub not_accepted : (s p at : ℕ) (body : Record) → P (event.Accept s p at body) (only_noted (Closed s p ∷ []) w) × P (event.Accept s p at body) (only_noted (Large s p ∷ []) w)
+  pub accepted : (s p at : ℕ) (body : Record) → s < length w.accepted → p < length w.logs → w.is_shut ≡ false
+      → is_large (item_for s p at body w) w ≡ false → P (event.Accept s p at body) (only_noted [] (with_accepted (item_for s p at body w) w))
+  pub none_taken : (s : ℕ) → slice_get (accepted_by s w) (taken_by s w) ≡ None → P (event.Take s) (only_noted (Empty s ∷ []) w)
+  pub taken : (s : ℕ) (i : Item) → s < length w.accepted → slice_get (accepted_by s w) (taken_by s w) ≡ Some i → P (event.Take s) (taking s (Some i) w)
+  pub now : (moment : ℕ) → P (event.Now moment) (only_noted [] (record w { moment = moment }))
+  pub tick : P event.Tick (ticking w)
+  pub send : let step = request_step w.moment w.core in P event.Send (sending w step.after step.answer)
   pub reply : (j : ℕ) (r : Reply) → slice_get w.replies j ≡ Some r
-      → let step = response_step w.moment r.response w.core in P (noted step.after (reply_line j step.answer) step.told w)
-  pub lost : P (noted (disconnect_step w.moment w.core) [] [] w)
-  pub close : P (closing w)
-  pub end : P (ending w)
-  pub flush : P (noted (flush_step w.core) (flush_line w.core ∷ []) [] w)
+      → let step = response_step w.moment r.response w.core in P (event.Reply j) (noted step.after (reply_line j step.answer) step.told w)
+  pub lost : P event.Drop (noted (disconnect_step w.moment w.core) [] [] w)
+  pub close : P event.Close (closing w)
+  pub end : P event.End (ending w)
+  pub flush : P event.Flush (noted (flush_step w.core) (flush_line w.core ∷ []) [] w)
 
 at_some : (P : World → Type 0) (x v : World) → Some x ≡ Some v → P x → P v
 at_some P x v e h = let same : x ≡ v = cc in subst P same h
@@ -70,56 +71,56 @@ pub at_only_if : (P : World → Type 0) (b : Bool) (x v : World) → only_if b x
 at_only_if P true x v e h = at_some P x v e (h refl)
 at_only_if P false x v e h = absurd cc
 
-pub at_client : (P : World → Type 0) (w : World) → OfEvent P w → (e : Event) (v : World) → client e w ≡ Some v → P v
+pub at_client : (P : WorldEvent → World → Type 0) (w : World) → OfEvent P w → (e : WorldEvent) (v : World) → client e w ≡ Some v → P e v
 unfolding client
-at_client P w c (event.Accept s p value) v e =
-    at_only_if P (has_sender s w && has_partition p w) (accepting i w) v e (λ is. at_shut (and_parts (has_sender s w) (has_partition p w) is) w.is_shut refl)
+at_client P w c (event.Accept s p at body) v e =
+    at_only_if (P (event.Accept s p at body)) (has_sender s w && has_partition p w) (accepting i w) v e (λ is. at_shut (and_parts (has_sender s w) (has_partition p w) is) w.is_shut refl)
   where
     i : Item
-    i = item_for s p value w
+    i = item_for s p at body w
 
     at_large : (has_sender s w ≡ true) × (has_partition p w ≡ true) → w.is_shut ≡ false → (b : Bool) → is_large i w ≡ b
-        → P (if b then only_noted (Large s p ∷ []) w else only_noted [] (with_accepted i w))
-    at_large there is true l = (c.not_accepted s p).1
-    at_large there is false l = c.accepted s p value (ltb-true s (length w.accepted) there.0) (ltb-true p (length w.logs) there.1) is l
+        → P (event.Accept s p at body) (if b then only_noted (Large s p ∷ []) w else only_noted [] (with_accepted i w))
+    at_large there is true l = (c.not_accepted s p at body).1
+    at_large there is false l = c.accepted s p at body (ltb-true s (length w.accepted) there.0) (ltb-true p (length w.logs) there.1) is l
 
     at_shut : (has_sender s w ≡ true) × (has_partition p w ≡ true) → (b : Bool) → w.is_shut ≡ b
-        → P (if b then only_noted (Closed s p ∷ []) w else if is_large i w then only_noted (Large s p ∷ []) w else only_noted [] (with_accepted i w))
-    at_shut there true is = (c.not_accepted s p).0
+        → P (event.Accept s p at body) (if b then only_noted (Closed s p ∷ []) w else if is_large i w then only_noted (Large s p ∷ []) w else only_noted [] (with_accepted i w))
+    at_shut there true is = (c.not_accepted s p at body).0
     at_shut there false is = at_large there is (is_large i w) refl
 at_client P w c (event.Take s) v e =
-    at_only_if P (has_sender s w) (taking s (slice_get (accepted_by s w) (taken_by s w)) w) v e (λ is. at_item (slice_get (accepted_by s w) (taken_by s w)) refl (ltb-true s (length w.accepted) is))
+    at_only_if (P (event.Take s)) (has_sender s w) (taking s (slice_get (accepted_by s w) (taken_by s w)) w) v e (λ is. at_item (slice_get (accepted_by s w) (taken_by s w)) refl (ltb-true s (length w.accepted) is))
   where
-    at_item : (o : Option Item) → slice_get (accepted_by s w) (taken_by s w) ≡ o → s < length w.accepted → P (taking s o w)
-    at_item None is l = c.none_taken s
+    at_item : (o : Option Item) → slice_get (accepted_by s w) (taken_by s w) ≡ o → s < length w.accepted → P (event.Take s) (taking s o w)
+    at_item None is l = c.none_taken s is
     at_item (Some i) is l = c.taken s i l is
-at_client P w c (event.Now moment) v e = at_some P _ v e (c.now moment)
-at_client P w c event.Tick v e = at_some P _ v e c.tick
-at_client P w c event.Send v e = at_some P _ v e c.send
+at_client P w c (event.Now moment) v e = at_some (P (event.Now moment)) _ v e (c.now moment)
+at_client P w c event.Tick v e = at_some (P event.Tick) _ v e c.tick
+at_client P w c event.Send v e = at_some (P event.Send) _ v e c.send
 at_client P w c (event.Reply j) v e = at_reply (slice_get w.replies j) refl e
   where
-    at_reply : (o : Option Reply) → slice_get w.replies j ≡ o → replying j o w ≡ Some v → P v
+    at_reply : (o : Option Reply) → slice_get w.replies j ≡ o → replying j o w ≡ Some v → P (event.Reply j) v
     at_reply None is e' = absurd cc
-    at_reply (Some r) is e' = at_some P _ v e' (c.reply j r is)
-at_client P w c event.Drop v e = at_some P _ v e c.lost
-at_client P w c event.Close v e = at_some P _ v e c.close
-at_client P w c event.End v e = at_some P _ v e c.end
-at_client P w c event.Flush v e = at_some P _ v e c.flush
-at_client P w c (event.Deliver k how) v e = absurd cc
+    at_reply (Some r) is e' = at_some (P (event.Reply j)) _ v e' (c.reply j r is)
+at_client P w c event.Drop v e = at_some (P event.Drop) _ v e c.lost
+at_client P w c event.Close v e = at_some (P event.Close) _ v e c.close
+at_client P w c event.End v e = at_some (P event.End) _ v e c.end
+at_client P w c event.Flush v e = at_some (P event.Flush) _ v e c.flush
+at_client P w c (event.Deliver k) v e = absurd cc
 at_client P w c (event.Other p n) v e = absurd cc
 
 -- ---- any event
 
-pub record OfStep (P : World → Type 0) (w : World) : Type 0 where
+pub record OfStep (P : WorldEvent → World → Type 0) (w : World) : Type 0 where
   pub client : OfEvent P w
-  pub arrives : (k : ℕ) (o : Packet) (d : Delivery) (x : Response) → slice_get w.packets k ≡ Some o → Delivers w o.demand d → Answers o.correlation d.content x → P (with_delivery o d x w)
-  pub others : (p n : ℕ) → p < length w.logs → P (only_noted [] (record w { logs = logs_with_others p n w.logs }))
+  pub arrives : (k : ℕ) (o : Packet) (d : Delivery) (x : Response) → slice_get w.packets k ≡ Some o → Delivers w o.demand d → Answers o.correlation d.content x → P (event.Deliver k) (with_delivery o d x w)
+  pub others : (p n : ℕ) → p < length w.logs → P (event.Other p n) (only_noted [] (record w { logs = logs_with_others p n w.logs }))
 
-pub at_step : (P : World → Type 0) (w : World) → OfStep P w → (e : Event) (v : World) → Steps w e v → P v
+pub at_step : (P : WorldEvent → World → Type 0) (w : World) → OfStep P w → (e : WorldEvent) (v : World) → Steps w e v → P e v
 unfolding Steps with_others_at
-at_step P w c (event.Deliver k how) v a = subst P (sym a.after_is) (c.arrives k a.packet a.delivery a.response a.went_out a.honest a.answers)
-at_step P w c (event.Other p n) v e = at_only_if P (has_partition p w) _ v e (λ is. c.others p n (ltb-true p (length w.logs) is))
-at_step P w c (event.Accept s p value) v e = at_client P w c.client (event.Accept s p value) v e
+at_step P w c (event.Deliver k) v a = subst (P (event.Deliver k)) (sym a.after_is) (c.arrives k a.packet a.delivery a.response a.went_out a.honest a.answers)
+at_step P w c (event.Other p n) v e = at_only_if (P (event.Other p n)) (has_partition p w) _ v e (λ is. c.others p n (ltb-true p (length w.logs) is))
+at_step P w c (event.Accept s p at body) v e = at_client P w c.client (event.Accept s p at body) v e
 at_step P w c (event.Take s) v e = at_client P w c.client (event.Take s) v e
 at_step P w c (event.Now moment) v e = at_client P w c.client (event.Now moment) v e
 at_step P w c event.Tick v e = at_client P w c.client event.Tick v e
@@ -132,8 +133,8 @@ at_step P w c event.Flush v e = at_client P w c.client event.Flush v e
 
 -- ---- a run
 
-pub at_run : (P : World → Type 0) → ((w : World) → P w → (e : Event) (v : World) → Steps w e v → P v)
-    → (es : List Event) (w v : World) → Run w es v → P w → P v
+pub at_run : (P : World → Type 0) → ((w : World) → P w → (e : WorldEvent) (v : World) → Steps w e v → P v)
+    → (es : List WorldEvent) (w v : World) → Run w es v → P w → P v
 unfolding Run
 at_run P keeps [] w v r h = subst P (sym r) h
 at_run P keeps (e ∷ es) w v r h = at_run P keeps es r.0 v r.2 (keeps w h e r.0 r.1)

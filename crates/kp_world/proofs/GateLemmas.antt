@@ -2,8 +2,8 @@
 use Rattle.std.proofs.Common.{◌≡◌, true, List, ◌∷◌, refl, sym, ap, ◌∙◌}
 use Rattle.kp_rules.specs.Requesting.{request_step}
 use Rattle.kp_rules.specs.Records.{Core, Told}
-use Rattle.kp_world.specs.declared.event.Event.{Event}
-use Rattle.kp_world.specs.declared.event.Event.TheVariants as event
+use Rattle.kp_world.specs.Events.{WorldEvent}
+use Rattle.kp_world.specs.Events as event
 use Rattle.kp_world.specs.Client.{client, closing}
 use Rattle.kp_world.specs.Line.{Line}
 use Rattle.kp_world.specs.Noting.{noted}
@@ -26,12 +26,12 @@ follows_noted core answer told w = record { shut = λ h. h; accepted = λ h. ref
 
 -- ---- the events
 
-follows_event : (w : World) → OfEvent (Follows w) w
+follows_event : (w : World) → OfEvent (λ e. Follows w) w
 unfolding noted
 follows_event w = record {
-  not_accepted = λ s p. (follows_noted _ _ _ w, follows_noted _ _ _ w);
-  accepted = λ s p value here there shut small. record { shut = λ h. h; accepted = λ h. absurd cc };
-  none_taken = λ s. follows_noted _ _ _ w;
+  not_accepted = λ s p at body. (follows_noted _ _ _ w, follows_noted _ _ _ w);
+  accepted = λ s p at body here there shut small. record { shut = λ h. h; accepted = λ h. absurd cc };
+  none_taken = λ s none. follows_noted _ _ _ w;
   taken = λ s i here there. at_taken (Follows w) s i w (record { shut = λ h. h; accepted = λ h. refl }) (follows_noted _ _ _ w);
   now = λ moment. record { shut = λ h. h; accepted = λ h. refl };
   tick = follows_noted _ _ _ w;
@@ -43,9 +43,9 @@ follows_event w = record {
   flush = follows_noted _ _ _ w;
 }
 
-follows_step : (e : Event) (w v : World) → Steps w e v → Follows w v
+follows_step : (e : WorldEvent) (w v : World) → Steps w e v → Follows w v
 unfolding with_delivery noted
-follows_step e w v s = at_step (Follows w) w (record {
+follows_step e w v s = at_step (λ e. Follows w) w (record {
   client = follows_event w;
   arrives = λ k o d x went honest says. record { shut = λ h. h; accepted = λ h. refl };
   others = λ p n there. record { shut = λ h. h; accepted = λ h. refl };
@@ -54,7 +54,7 @@ follows_step e w v s = at_step (Follows w) w (record {
 followed : (u w v : World) → Follows u w → Follows w v → Follows u v
 followed u w v f g = record { shut = λ h. g.shut (f.shut h); accepted = λ h. g.accepted (f.shut h) ∙ f.accepted h }
 
-follows_run : (es : List Event) (w v : World) → Run w es v → Follows w v
+follows_run : (es : List WorldEvent) (w v : World) → Run w es v → Follows w v
 follows_run es w v r = at_run (Follows w) (λ x f e y s. followed w x y f (follows_step e x y s)) es w v r (same w)
 
 -- ---- closing
@@ -63,6 +63,6 @@ closed_step : (w v : World) → Steps w event.Close v → (v.is_shut ≡ true) �
 unfolding Steps client noted
 closed_step w v e = let is : closing w ≡ v = cc in (sym (ap (λ (x : World). x.is_shut) is), sym (ap (λ (x : World). x.accepted) is))
 
-pub nothing_after_close : (es : List Event) (w v : World) → Run w (event.Close ∷ es) v → v.accepted ≡ w.accepted
+pub nothing_after_close : (es : List WorldEvent) (w v : World) → Run w (event.Close ∷ es) v → v.accepted ≡ w.accepted
 unfolding Run
 nothing_after_close es w v r = let c = closed_step w r.0 r.1 in (follows_run es r.0 v r.2).accepted c.0 ∙ c.1

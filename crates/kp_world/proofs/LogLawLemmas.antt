@@ -8,7 +8,7 @@ use Rattle.kp_rules.specs.Attempts.{awaits, awaiting}
 use Rattle.kp_rules.specs.Next.{Sending}
 use Rattle.kp_rules.specs.Partitions.{present_id}
 use Rattle.kp_rules.specs.Records.{Produce, Open}
-use Rattle.kp_world.specs.declared.event.Event.{Event}
+use Rattle.kp_world.specs.Events.{WorldEvent}
 use Rattle.kp_world.specs.Client.{handed_at}
 use Rattle.kp_world.specs.Delivering.{log_at}
 use Rattle.kp_world.specs.LogLaws.{partition_of, IsPrefix, NoDuplicateIsAwaited, EarlierIdsAreSilent}
@@ -26,7 +26,7 @@ use Rattle.kp_world.proofs.ListLemmas.{found_in}
 
 -- ---- the log is a prefix
 
-pub log_is_prefix : (o : Opening) (es : List Event) (w : World) → IsReached o es w → (p : ℕ) → p < o.partitions → IsPrefix p w
+pub log_is_prefix : (o : Opening) (es : List WorldEvent) (w : World) → IsReached o es w → (p : ℕ) → p < o.partitions → IsPrefix p w
 log_is_prefix o es w r p h =
     let cut = ((lawful_reached o es w r).agree p h).steady.cut in
     record { stored = cut.landed; rest = cut.rest; handed = cut.split; records = cut.owned ∙ ap records_of cut.appended }
@@ -49,7 +49,7 @@ none_awaited n w g k a x code = at_option (awaiting k (partition_of a.partition 
         let h : a.partition < n = subst (λ (m : ℕ). a.partition < m) g.count (open_there w.core.partitions a.partition o f.0) in
         absurd (old_not_in_flight a.partition w.core.correlation k w.core.ended (partition_of a.partition w) (handed_at a.partition w.handed) (log_at a.partition w.logs) w.packets w.replies x.reply x.parts a (g.agree a.partition h).steady reply_in x.content (sym x.correlation) part_in refl code o f.0 (awaits_is k o f.1))
 
-pub no_duplicate_is_awaited : (o : Opening) (es : List Event) (w : World) → IsReached o es w → NoDuplicateIsAwaited w
+pub no_duplicate_is_awaited : (o : Opening) (es : List WorldEvent) (w : World) → IsReached o es w → NoDuplicateIsAwaited w
 no_duplicate_is_awaited o es w r =
     none_awaited o.partitions w (lawful_reached o es w r)
 
@@ -73,6 +73,6 @@ silent n w g p b x other answer after step =
         let head = lands w.ids (partition_of p w) (handed_at p w.handed) (log_at p w.logs) both.sound both.steady.cut b known.1 may in
         both.steady.cut.current b (record { earlier = []; later = head.0; split = head.1 })
 
-pub earlier_ids_are_silent : (o : Opening) (es : List Event) (w : World) → IsReached o es w → EarlierIdsAreSilent w
+pub earlier_ids_are_silent : (o : Opening) (es : List WorldEvent) (w : World) → IsReached o es w → EarlierIdsAreSilent w
 earlier_ids_are_silent o es w r =
     silent o.partitions w (lawful_reached o es w r)

@@ -15,16 +15,18 @@ use Rattle.kp_rules.specs.Partitions.{partition_at}
 use Rattle.kp_rules.specs.Records.{Demand, Produce, InitProducerId, HandedBatch, Partition, Core}
 use Rattle.kp_rules.specs.Requesting.{Packet}
 use Rattle.kp_world.specs.declared.event.Event.{Event}
-use Rattle.kp_world.specs.declared.event.Event.TheVariants as event
+use Rattle.kp_world.specs.declared.event.Event.TheVariants as schedule
 use Rattle.kp_world.specs.declared.event.Treatment.{Treatment}
 use Rattle.kp_world.specs.declared.event.Treatment.TheVariants.{Judged, Refused, Late}
 use Rattle.kp_world.specs.Client.{handed_at, has_partition, client}
 use Rattle.kp_world.specs.Delivering.{log_at, PartDelivers, PartsDeliver, IsFresh, Delivers}
+use Rattle.kp_world.specs.Events.{WorldEvent, record_at, meant, moment_after, events_of}
+use Rattle.kp_world.specs.Events as event
 use Rattle.kp_world.specs.Loopback.{treated, with_part, answer_to, logs_with, answers_to, next_id, with_id, delivered}
 use Rattle.kp_world.specs.Message.{sent_of, Says, Answers, part_response, response_of}
 use Rattle.kp_world.specs.Noting.{noted}
 use Rattle.kp_world.specs.Replay.{MayTreat, MayHappen, arrived, stepped, replayed_from, replayed}
-use Rattle.kp_world.specs.Run.{with_delivery, with_others_at, Arrives, Steps, Run}
+use Rattle.kp_world.specs.Run.{with_delivery, with_others_at, Steps, Run}
 use Rattle.kp_world.specs.World.{PartAnswer, ReplyContent, Batches, Id, Reply, World, opening, scheduled}
 use Rattle.kp_world.proofs.BrokerLemmas.{AllAgree, Known, PartsDelivered, parts_delivered}
 use Rattle.kp_world.proofs.EventLemmas.{at_sent, at_taken, OfEvent, at_client, at_only_if}
@@ -118,74 +120,103 @@ answers_so k (Id code id) = record { named = refl; says = (refl, λ zero. refl) 
 
 -- ---- an event
 
-drawn_client : (w : World) → AreDrawn w.ids → OfEvent (λ v. AreDrawn v.ids) w
+-- the moment that the clock shows behind an event
+abbrev moment_behind : ℕ → WorldEvent → ℕ
+moment_behind now (event.Now moment) = moment
+moment_behind now e = now
+
+-- the ids drawn are in order still, and the clock shows what it is set to
+abbrev Comes : World → WorldEvent → World → Type 0
+Comes w e v = AreDrawn v.ids × (v.moment ≡ moment_behind w.moment e)
+
+drawn_client : (w : World) → AreDrawn w.ids → OfEvent (Comes w) w
 unfolding noted
 drawn_client w drawn = record {
-  not_accepted = λ s p. (drawn, drawn);
-  accepted = λ s p value there at going fits. drawn;
-  none_taken = λ s. drawn;
-  taken = λ s i there is. at_taken (λ v. AreDrawn v.ids) s i w drawn drawn;
-  now = λ moment. drawn;
-  tick = drawn;
-  send = let step = request_step w.moment w.core in at_sent (λ v. AreDrawn v.ids) w step.after step.answer (λ line. drawn) (λ o line. drawn);
-  reply = λ j r is. drawn;
-  lost = drawn;
-  close = drawn;
-  end = drawn;
-  flush = drawn;
+  not_accepted = λ s p at body. ((drawn, refl), (drawn, refl));
+  accepted = λ s p at body here there going fits. (drawn, refl);
+  none_taken = λ s none. (drawn, refl);
+  taken = λ s i there is. at_taken (Comes w (event.Take s)) s i w (drawn, refl) (drawn, refl);
+  now = λ moment. (drawn, refl);
+  tick = (drawn, refl);
+  send = let step = request_step w.moment w.core in at_sent (Comes w event.Send) w step.after step.answer (λ line. (drawn, refl)) (λ o line. (drawn, refl));
+  reply = λ j r is. (drawn, refl);
+  lost = (drawn, refl);
+  close = (drawn, refl);
+  end = (drawn, refl);
+  flush = (drawn, refl);
 }
 
-arrives : {most : ℕ} (n k : ℕ) (how : Treatment) (w v : World) → MayTreat how → IsLawfulWithin most n w → AreDrawn w.ids → arrived k how (slice_get w.packets k) w ≡ Some v → Arrives w k v × AreDrawn v.ids
-unfolding with_delivery noted
+-- a step that the event makes
+abbrev Goes : World → WorldEvent → World → Type 0
+Goes w e v = Steps w e v × Comes w e v
+
+arrives : {most : ℕ} (n k : ℕ) (how : Treatment) (w v : World) → MayTreat how → IsLawfulWithin most n w → AreDrawn w.ids → arrived k how (slice_get w.packets k) w ≡ Some v → Goes w (event.Deliver k) v
+unfolding with_delivery noted Steps
 arrives n k how w v may g drawn e = at_packet (slice_get w.packets k) refl e
   where
-    at_packet : (o : Option Packet) → slice_get w.packets k ≡ o → arrived k how o w ≡ Some v → Arrives w k v × AreDrawn v.ids
+    at_packet : (o : Option Packet) → slice_get w.packets k ≡ o → arrived k how o w ≡ Some v → Goes w (event.Deliver k) v
     at_packet None is e' = absurd cc
     at_packet (Some o) is e' =
         let d = delivered how w o.demand in
         let x = response_of o.correlation d.content in
         let same : with_delivery o d x w ≡ v = cc in (
           record { packet = o; went_out = is; delivery = d; honest = honest_packet n how w o may g drawn (in_at w.packets k o is); response = x; answers = answers_so o.correlation d.content; after_is = sym same },
-          subst (λ (u : World). AreDrawn u.ids) same (drawn_delivered how w o.demand drawn),
+          subst (λ (u : World). Comes w (event.Deliver k) u) same (drawn_delivered how w o.demand drawn, refl),
         )
 
-others : (p m : ℕ) (w v : World) → with_others_at p m w ≡ Some v → AreDrawn w.ids → AreDrawn v.ids
+others : (p m : ℕ) (w v : World) → with_others_at p m w ≡ Some v → AreDrawn w.ids → Comes w (event.Other p m) v
 unfolding with_others_at noted
-others p m w v e drawn = at_only_if (λ u. AreDrawn u.ids) (has_partition p w) _ v e (λ there. drawn)
+others p m w v e drawn = at_only_if (Comes w (event.Other p m)) (has_partition p w) _ v e (λ there. (drawn, refl))
 
-by_client : (w : World) (e : Event) (v : World) → AreDrawn w.ids → client e w ≡ Some v → AreDrawn v.ids
-by_client w e v drawn is = at_client (λ u. AreDrawn u.ids) w (drawn_client w drawn) e v is
+by_client : (w : World) (e : WorldEvent) (v : World) → AreDrawn w.ids → client e w ≡ Some v → Comes w e v
+by_client w e v drawn is = at_client (Comes w) w (drawn_client w drawn) e v is
 
-steps : {most : ℕ} (n : ℕ) (e : Event) (w v : World) → MayHappen e → IsLawfulWithin most n w → AreDrawn w.ids → stepped e w ≡ Some v → Steps w e v × AreDrawn v.ids
+steps : {most : ℕ} (n : ℕ) (e : Event) (w v : World) → MayHappen e → IsLawfulWithin most n w → AreDrawn w.ids → stepped e w ≡ Some v → Goes w (meant w.moment e) v
 unfolding stepped Steps
-steps n (event.Deliver k how) w v may g drawn e = arrives n k how w v may g drawn e
-steps n (event.Other p m) w v may g drawn e = (e, others p m w v e drawn)
-steps n (event.Accept s p value) w v may g drawn e = (e, by_client w (event.Accept s p value) v drawn e)
-steps n (event.Take s) w v may g drawn e = (e, by_client w (event.Take s) v drawn e)
-steps n (event.Now moment) w v may g drawn e = (e, by_client w (event.Now moment) v drawn e)
-steps n event.Tick w v may g drawn e = (e, by_client w event.Tick v drawn e)
-steps n event.Send w v may g drawn e = (e, by_client w event.Send v drawn e)
-steps n (event.Reply j) w v may g drawn e = (e, by_client w (event.Reply j) v drawn e)
-steps n event.Drop w v may g drawn e = (e, by_client w event.Drop v drawn e)
-steps n event.Close w v may g drawn e = (e, by_client w event.Close v drawn e)
-steps n event.End w v may g drawn e = (e, by_client w event.End v drawn e)
-steps n event.Flush w v may g drawn e = (e, by_client w event.Flush v drawn e)
+steps n (schedule.Deliver k how) w v may g drawn e = arrives n k how w v may g drawn e
+steps n (schedule.Other p m) w v may g drawn e = (e, others p m w v e drawn)
+steps n (schedule.Accept s p value) w v may g drawn e = (e, by_client w (event.Accept s p w.moment (record_at w.moment value)) v drawn e)
+steps n (schedule.Take s) w v may g drawn e = (e, by_client w (event.Take s) v drawn e)
+steps n (schedule.Now moment) w v may g drawn e = (e, by_client w (event.Now moment) v drawn e)
+steps n schedule.Tick w v may g drawn e = (e, by_client w event.Tick v drawn e)
+steps n schedule.Send w v may g drawn e = (e, by_client w event.Send v drawn e)
+steps n (schedule.Reply j) w v may g drawn e = (e, by_client w (event.Reply j) v drawn e)
+steps n schedule.Drop w v may g drawn e = (e, by_client w event.Drop v drawn e)
+steps n schedule.Close w v may g drawn e = (e, by_client w event.Close v drawn e)
+steps n schedule.End w v may g drawn e = (e, by_client w event.End v drawn e)
+steps n schedule.Flush w v may g drawn e = (e, by_client w event.Flush v drawn e)
+
+same_moment : (now : ℕ) (e : Event) → moment_behind now (meant now e) ≡ moment_after now e
+same_moment now (schedule.Deliver k how) = refl
+same_moment now (schedule.Other p m) = refl
+same_moment now (schedule.Accept s p value) = refl
+same_moment now (schedule.Take s) = refl
+same_moment now (schedule.Now moment) = refl
+same_moment now schedule.Tick = refl
+same_moment now schedule.Send = refl
+same_moment now (schedule.Reply j) = refl
+same_moment now schedule.Drop = refl
+same_moment now schedule.Close = refl
+same_moment now schedule.End = refl
+same_moment now schedule.Flush = refl
 
 -- ---- a replay
 
-is_run : {most : ℕ} (n k : ℕ) (es : List Event) (w v : World) → AllByRecursion MayHappen es → IsLawfulWithin most n w → AreDrawn w.ids → replayed_from k es w ≡ Ok v → Run w es v
-unfolding replayed_from Run
+is_run : {most : ℕ} (n k : ℕ) (es : List Event) (w v : World) → AllByRecursion MayHappen es → IsLawfulWithin most n w → AreDrawn w.ids → replayed_from k es w ≡ Ok v → Run w (events_of w.moment es) v
+unfolding replayed_from events_of Run
 is_run n k [] w v may g drawn e = let same : w ≡ v = cc in sym same
 is_run n k (x ∷ es) w v may g drawn e =
-    at_world (stepped x w) refl e (λ u s d e'. is_run n (k + 1) es u v may.1 (lawful_step n x w u s g) d e')
+    at_world (stepped x w) refl e (λ u s d e'. is_run n (k + 1) es u v may.1 (lawful_step n (meant w.moment x) w u s g) d e')
   where
     at_world : (o : Option World) → stepped x w ≡ o → elim o as (λ _. Result World ℕ) [ Some u ↦ replayed_from (k + 1) es u | None ↦ Err k ] ≡ Ok v
-        → ((u : World) → Steps w x u → AreDrawn u.ids → replayed_from (k + 1) es u ≡ Ok v → Run u es v) → Run w (x ∷ es) v
+        → ((u : World) → Steps w (meant w.moment x) u → AreDrawn u.ids → replayed_from (k + 1) es u ≡ Ok v → Run u (events_of u.moment es) v) → Run w (events_of w.moment (x ∷ es)) v
     at_world None is e' later = absurd cc
     at_world (Some u) is e' later =
-        let one = steps n x w u may.0 g drawn is in (u, one.0, later u one.0 one.1 e')
+        let one = steps n x w u may.0 g drawn is in
+        let moment : u.moment ≡ moment_after w.moment x = one.1.1 ∙ same_moment w.moment x in
+        (u, one.0, subst (λ (m : ℕ). Run u (events_of m es) v) moment (later u one.0 one.1.0 e'))
 
-pub replay_is_run : (c : Config) (partitions senders : ℕ) (es : List Event) (w : World) → AllByRecursion MayHappen es → replayed es (opening (scheduled c partitions senders)) ≡ Ok w → Run (opening (scheduled c partitions senders)) es w
+pub replay_is_run : (c : Config) (partitions senders : ℕ) (es : List Event) (w : World) → AllByRecursion MayHappen es → replayed es (opening (scheduled c partitions senders)) ≡ Ok w → Run (opening (scheduled c partitions senders)) (events_of 0 es) w
 unfolding replayed opening
 replay_is_run c partitions senders es w may e =
     is_run {most = c.max_in_flight_requests_per_connection + 1} partitions 0 es (opening (scheduled c partitions senders)) w may (lawful_opening_within (scheduled c partitions senders) (omega arith) (omega arith)) (omega arith, tt) e

@@ -5,7 +5,7 @@ use Rattle.kp_rules.specs.Dropping.{disconnect_step}
 use Rattle.kp_rules.specs.Flush.{flush_step}
 use Rattle.kp_rules.specs.OutcomeRule.{Telling, MayTell, told_in}
 use Rattle.kp_rules.specs.Records.{Core, Told}
-use Rattle.kp_world.specs.declared.event.Event.{Event}
+use Rattle.kp_world.specs.Events.{WorldEvent}
 use Rattle.kp_world.specs.Accepting.{item_for, with_accepted, with_taken}
 use Rattle.kp_world.specs.Client.{with_packet, flush_line}
 use Rattle.kp_world.specs.Line.{Line, Full}
@@ -56,11 +56,11 @@ quiet w x core answer p = ruled_on w x core answer [] p tt
 
 -- ---- the events
 
-ruled_event : (w : World) → OfEvent (TellsIn w) w
+ruled_event : (w : World) → OfEvent (λ e. TellsIn w) w
 ruled_event w = record {
-  not_accepted = λ s p. (quiet w w w.core _ refl, quiet w w w.core _ refl);
-  accepted = λ s p value here there shut small. quiet w (with_accepted (item_for s p value w) w) w.core [] refl;
-  none_taken = λ s. quiet w w w.core _ refl;
+  not_accepted = λ s p at body. (quiet w w w.core _ refl, quiet w w w.core _ refl);
+  accepted = λ s p at body here there shut small. quiet w (with_accepted (item_for s p at body w) w) w.core [] refl;
+  none_taken = λ s none. quiet w w w.core _ refl;
   taken = λ s i here there.
       let told = by_call w (call.Append i) tt in
       at_taken (TellsIn w) s i w (ruled_on w (with_taken s w) _ [] _ refl told) (ruled_on w w _ (Full s ∷ []) _ refl told);
@@ -74,15 +74,15 @@ ruled_event w = record {
   flush = quiet w w (flush_step w.core) (flush_line w.core ∷ []) refl;
 }
 
-pub told_step : (w : World) (e : Event) (v : World) → Steps w e v → TellsIn w v
+pub told_step : (w : World) (e : WorldEvent) (v : World) → Steps w e v → TellsIn w v
 unfolding with_delivery
-told_step w e v s = at_step (TellsIn w) w (record {
+told_step w e v s = at_step (λ e. TellsIn w) w (record {
   client = ruled_event w;
   arrives = λ k o d x went honest says. quiet w _ w.core _ refl;
   others = λ p n there. quiet w (record w { logs = logs_with_others p n w.logs }) w.core [] refl;
 }) e v s
 
-pub ruled_step : (w : World) (e : Event) (v : World) → Steps w e v → TellsByRule w v
+pub ruled_step : (w : World) (e : WorldEvent) (v : World) → Steps w e v → TellsByRule w v
 ruled_step w e v s =
     let tells = told_step w e v s in
     record { event = tells.event; noted = tells.noted; ruled = all_weaker (MayBeToldIn w) (MayBeTold w.core) (λ t m. (m.0, m.2)) tells.event.told tells.ruled }

@@ -24,7 +24,7 @@ use Rattle.kp_rules.specs.Opening.{new_core}
 use Rattle.kp_rules.specs.Partitions.{partition_at, new_partition}
 use Rattle.kp_rules.specs.Records.{Demand, Produce, InitProducerId, HandedBatch, Partition, Core}
 use Rattle.kp_rules.specs.Requesting.{Packet}
-use Rattle.kp_world.specs.declared.event.Event.{Event}
+use Rattle.kp_world.specs.Events.{WorldEvent}
 use Rattle.kp_world.specs.Accepting.{taking}
 use Rattle.kp_world.specs.Client.{handed_at}
 use Rattle.kp_world.specs.Delivering.{log_at, PartsDeliver, Delivery, IsFresh, IsError, Delivers, given}
@@ -196,12 +196,12 @@ lawful_taken {most = most} n s i w g =
     let after : Lawful most n (append_step i w.core).after w.logs w.handed w.packets w.replies w.ids = lawful_called n w (append_step i w.core).after g (left_appended (StoredAt w.logs) i w.core) in
     at_taken (IsLawfulWithin most n) s i w after after
 
-lawful_client : {most : ℕ} (n : ℕ) (w : World) → IsLawfulWithin most n w → OfEvent (IsLawfulWithin most n) w
+lawful_client : {most : ℕ} (n : ℕ) (w : World) → IsLawfulWithin most n w → OfEvent (λ e. IsLawfulWithin most n) w
 unfolding noted
 lawful_client n w g = record {
-  not_accepted = λ s p. (g, g);
-  accepted = λ s p value there at going fits. g;
-  none_taken = λ s. g;
+  not_accepted = λ s p at body. (g, g);
+  accepted = λ s p at body there within going fits. g;
+  none_taken = λ s none. g;
   taken = λ s i there is. lawful_taken n s i w g;
   now = λ moment. g;
   tick = lawful_called n w (tick_step w.moment w.core).after g (left_ticked (StoredAt w.logs) w.moment w.core);
@@ -215,7 +215,7 @@ lawful_client n w g = record {
 
 -- ---- runs
 
-lawful_event : {most : ℕ} (n : ℕ) (w : World) → IsLawfulWithin most n w → OfStep (IsLawfulWithin most n) w
+lawful_event : {most : ℕ} (n : ℕ) (w : World) → IsLawfulWithin most n w → OfStep (λ e. IsLawfulWithin most n) w
 unfolding noted
 lawful_event n w g = record {
   client = lawful_client n w g;
@@ -223,8 +223,8 @@ lawful_event n w g = record {
   others = λ p m within. lawful_others n p m w.core w.logs w.handed w.packets w.replies w.ids within g;
 }
 
-pub lawful_step : {most : ℕ} (n : ℕ) (e : Event) (w v : World) → Steps w e v → IsLawfulWithin most n w → IsLawfulWithin most n v
-lawful_step {most = most} n e w v s g = at_step (IsLawfulWithin most n) w (lawful_event n w g) e v s
+pub lawful_step : {most : ℕ} (n : ℕ) (e : WorldEvent) (w v : World) → Steps w e v → IsLawfulWithin most n w → IsLawfulWithin most n v
+lawful_step {most = most} n e w v s g = at_step (λ e. IsLawfulWithin most n) w (lawful_event n w g) e v s
 
 -- ---- the opening world
 
@@ -297,6 +297,6 @@ pub lawful_opening : (o : Opening) → o.config.max_in_flight_requests_per_conne
 lawful_opening o five = lawful_opening_within o five (omega arith)
 
 -- Every world that a schedule leads to.
-pub lawful_reached : (o : Opening) (es : List Event) (w : World) → IsReached o es w → IsLawful o.partitions w
+pub lawful_reached : (o : Opening) (es : List WorldEvent) (w : World) → IsReached o es w → IsLawful o.partitions w
 lawful_reached o es w r =
     at_run (IsLawful o.partitions) (λ u g e v s. lawful_step o.partitions e u v s g) es (opening o) w r.run (lawful_opening o (within_five o.config r.may_begin.config))

@@ -16,7 +16,7 @@ use Rattle.kp_log.specs.Log.{count_of, stored_as}
 use Rattle.kp_log.proofs.LogLemmas.{length-stored_as, int_eq_same}
 use Rattle.kp_log.proofs.PlaceLemmas.{In, In-from_contains, contains_from_In, cut_cases}
 use Rattle.kp_rules.specs.Records.{HandedBatch, Partition, Told}
-use Rattle.kp_world.specs.declared.event.Event.{Event}
+use Rattle.kp_world.specs.Events.{WorldEvent}
 use Rattle.kp_world.specs.Client.{handed_at}
 use Rattle.kp_world.specs.Delivering.{log_at}
 use Rattle.kp_world.specs.LogLaws.{partition_of, WasTold, StandsAt, ToldOffsetsStand, EachDeliveryHasItsOffset}
@@ -159,10 +159,10 @@ stands_at n w i offset g d = record {
 was_truly : (n : ℕ) (w : World) → IsTruthful n w → (t : Told) → WasTold w t → Truly n w.handed w.logs t
 was_truly n w g t x = g x.event (In-from_contains w.past x.event x.happened) t (In-from_contains x.event.told t x.told)
 
-pub told_offsets_stand : (o : Opening) (es : List Event) (w : World) → IsReached o es w → ToldOffsetsStand w
+pub told_offsets_stand : (o : Opening) (es : List WorldEvent) (w : World) → IsReached o es w → ToldOffsetsStand w
 told_offsets_stand o es w r t offset x is =
     stands_at o.partitions w t.item offset (lawful_reached o es w r) ((was_truly o.partitions w (truthful_reached o es w r) t x).delivered offset is)
 
-pub each_delivery_has_its_offset : (o : Opening) (es : List Event) (w : World) → IsReached o es w → EachDeliveryHasItsOffset w
+pub each_delivery_has_its_offset : (o : Opening) (es : List WorldEvent) (w : World) → IsReached o es w → EachDeliveryHasItsOffset w
 each_delivery_has_its_offset o es w r t x is =
     (was_truly o.partitions w (truthful_reached o es w r) t x).offset is

@@ -9,7 +9,7 @@ use Rattle.kp_rules.specs.Requesting.{request_step}
 use Rattle.kp_rules.specs.Next.{Sending}
 use Rattle.kp_rules.specs.Records.{Demand, Produce, InitProducerId, HandedBatch}
 use Rattle.kp_rules.specs.Requesting.{Packet}
-use Rattle.kp_world.specs.declared.event.Event.{Event}
+use Rattle.kp_world.specs.Events.{WorldEvent}
 use Rattle.kp_world.specs.Delivering.{log_at, Delivery, Delivers}
 use Rattle.kp_world.specs.Loopback.{other_record, logs_with_others}
 use Rattle.kp_world.specs.Noting.{noted}
@@ -73,12 +73,12 @@ grows_not n w v handed logs = record {
   logs = λ p h. ([], ap (λ (ls : List History). (log_at p ls).records) logs ∙ sym (append-nil (log_at p w.logs).records));
 }
 
-grows_event : (n : ℕ) (w : World) → IsLawful n w → OfEvent (Grows n w) w
+grows_event : (n : ℕ) (w : World) → IsLawful n w → OfEvent (λ e. Grows n w) w
 unfolding noted
 grows_event n w g = record {
-  not_accepted = λ s p. (grows_not n w _ refl refl, grows_not n w _ refl refl);
-  accepted = λ s p value here there shut small. grows_not n w _ refl refl;
-  none_taken = λ s. grows_not n w _ refl refl;
+  not_accepted = λ s p at body. (grows_not n w _ refl refl, grows_not n w _ refl refl);
+  accepted = λ s p at body here there shut small. grows_not n w _ refl refl;
+  none_taken = λ s none. grows_not n w _ refl refl;
   taken = λ s i here there. at_taken (Grows n w) s i w (grows_not n w _ refl refl) (grows_not n w _ refl refl);
   now = λ moment. grows_not n w _ refl refl;
   tick = grows_not n w _ refl refl;
@@ -97,9 +97,9 @@ grows_event n w g = record {
     stays (Produce xs) p b h i = sendings_in xs w.handed p b h i
     stays (InitProducerId q) p b h i = i
 
-grows_step : (n : ℕ) (e : Event) (w v : World) → Steps w e v → IsLawful n w → Grows n w v
+grows_step : (n : ℕ) (e : WorldEvent) (w v : World) → Steps w e v → IsLawful n w → Grows n w v
 unfolding with_delivery noted
-grows_step n e w v s g = at_step (Grows n w) w (record {
+grows_step n e w v s g = at_step (λ e. Grows n w) w (record {
   client = grows_event n w g;
   arrives = λ k o d x went honest says. record { handed = λ p b h i. i; logs = λ p h. grown_logs n w o d g (in_at w.packets k o went) o.demand refl honest p };
   others = λ p m there. record { handed = λ q b h i. i; logs = λ q h. others_grown p m w.logs q (subst (λ (k : ℕ). q < k) (sym g.logs_count) h) };
@@ -110,7 +110,7 @@ grows_step n e w v s g = at_step (Grows n w) w (record {
 abbrev pub IsTruthful : ℕ → World → Type 0
 IsTruthful n w = (h : Happened) → In h w.past → AllTruly n w.handed w.logs h.told
 
-truthful_step : (n : ℕ) (e : Event) (w v : World) → Steps w e v → IsLawful n w → IsAccounted w → IsTruthful n w → IsTruthful n v
+truthful_step : (n : ℕ) (e : WorldEvent) (w v : World) → Steps w e v → IsLawful n w → IsAccounted w → IsTruthful n w → IsTruthful n v
 truthful_step n e w v s g a before h i t j = truly_grown n w.handed v.handed w.logs v.logs grows.handed grows.logs t (⊎_elim (λ (k : In h w.past). before h k t j) (λ (same : h ≡ tells.event). new (subst (λ (x : Happened). In t x.told) same j)) (one_more w.past tells.event h (subst (In h) tells.noted i)))
   where
     tells : TellsIn w v
@@ -122,7 +122,7 @@ truthful_step n e w v s g a before h i t j = truly_grown n w.handed v.handed w.l
     new : In t tells.event.told → Truly n w.handed w.logs t
     new k = truly_told n w t g a (all_at (MayBeToldIn w) tells.event.told t tells.ruled k)
 
-all_step : (n : ℕ) (w : World) → IsInOrder n w × IsTruthful n w → (e : Event) (v : World) → Steps w e v → IsInOrder n v × IsTruthful n v
+all_step : (n : ℕ) (w : World) → IsInOrder n w × IsTruthful n w → (e : WorldEvent) (v : World) → Steps w e v → IsInOrder n v × IsTruthful n v
 all_step n w h e v s = (order_step n w h.0 e v s, truthful_step n e w v s h.0.0 h.0.1 h.1)
 
 truthful_opening : (o : Opening) → IsTruthful o.partitions (opening o)
@@ -130,6 +130,6 @@ unfolding opening
 truthful_opening o h i = absurd (In-nil h i)
 
 -- Every world that a schedule leads to.
-pub truthful_reached : (o : Opening) (es : List Event) (w : World) → IsReached o es w → IsTruthful o.partitions w
+pub truthful_reached : (o : Opening) (es : List WorldEvent) (w : World) → IsReached o es w → IsTruthful o.partitions w
 truthful_reached o es w r =
     (at_run (λ v. IsInOrder o.partitions v × IsTruthful o.partitions v) (all_step o.partitions) es (opening o) w r.run (order_opening o r.may_begin, truthful_opening o)).1

@@ -18,18 +18,14 @@ accepted_by s w = slice_index_or w.accepted s []
 abbrev pub for_partition : ℕ → List Item → List Item
 for_partition p items = filter (λ i. i.partition == p) items
 
--- a record without a key, of this moment
-abbrev pub record_at : ℕ → List ℕ → Record
-record_at now value = record { timestamp = now; key = None; value = Some value; headers = [] }
-
 -- an item's number is how many of its sender's and partition's were accepted before it
-abbrev pub item_for : ℕ → ℕ → List ℕ → World → Item
-item_for s p value w = record {
+abbrev pub item_for : ℕ → ℕ → ℕ → Record → World → Item
+item_for s p at body w = record {
   sender = s;
   partition = p;
   number = length (for_partition p (accepted_by s w));
-  at = w.moment;
-  body = record_at w.moment value;
+  at = at;
+  body = body;
 }
 
 abbrev pub is_large : Item → World → Bool

@@ -13,8 +13,8 @@ use Rattle.kp_rules.specs.Records.{Demand, Produce, InitProducerId, HandedBatch,
 use Rattle.kp_rules.specs.Replies.{response_step}
 use Rattle.kp_rules.specs.Requesting.{Packet, request_step}
 use Rattle.kp_rules.specs.Tick.{Ticks, tick_step}
-use Rattle.kp_world.specs.declared.event.Event.{Event}
-use Rattle.kp_world.specs.declared.event.Event.TheVariants as event
+use Rattle.kp_world.specs.Events.{WorldEvent}
+use Rattle.kp_world.specs.Events as event
 use Rattle.kp_world.specs.Accepting.{accepting, item_for, accepted_by, taking, taken_by}
 use Rattle.kp_world.specs.Line.{Line, SentPart, Reconnect, SentBatches, SentInit, Idle, Ended, Stale, Flushing, Flushed}
 use Rattle.kp_world.specs.Noting.{noted, only_noted}
@@ -105,9 +105,9 @@ ending w = let step = end_step w.core in noted step.after [] step.told w
 abbrev pub closing : World → World
 closing w = noted (close_step w.core) [] [] (record w { is_shut = true })
 
-unfoldable pub client : Event → World → Option World
-client (event.Accept s p value) w =
-    only_if (has_sender s w && has_partition p w) (accepting (item_for s p value w) w)
+unfoldable pub client : WorldEvent → World → Option World
+client (event.Accept s p at body) w =
+    only_if (has_sender s w && has_partition p w) (accepting (item_for s p at body w) w)
 client (event.Take s) w =
     only_if (has_sender s w) (taking s (slice_get (accepted_by s w) (taken_by s w)) w)
 client (event.Now moment) w = Some (only_noted [] (record w { moment = moment }))
@@ -119,5 +119,5 @@ client event.Drop w = Some (noted (disconnect_step w.moment w.core) [] [] w)
 client event.Close w = Some (closing w)
 client event.End w = Some (ending w)
 client event.Flush w = Some (noted (flush_step w.core) (flush_line w.core ∷ []) [] w)
-client (event.Deliver k treatment) w = None
+client (event.Deliver k) w = None
 client (event.Other p n) w = None

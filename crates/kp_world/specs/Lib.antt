@@ -2,6 +2,7 @@ pub mod Line
 pub mod World
 pub mod Message
 pub mod Noting
+pub mod Events
 pub mod Accepting
 pub mod Client
 pub mod Delivering

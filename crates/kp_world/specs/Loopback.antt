@@ -8,7 +8,7 @@ use Rattle.kp_rules.specs.Next.{Sending}
 use Rattle.kp_rules.specs.Records.{Demand, Produce, InitProducerId}
 use Rattle.kp_world.specs.declared.event.Treatment.{Treatment}
 use Rattle.kp_world.specs.declared.event.Treatment.TheVariants.{Judged, Refused, Late}
-use Rattle.kp_world.specs.Accepting.{record_at}
+use Rattle.kp_world.specs.Events.{record_at}
 use Rattle.kp_world.specs.Delivering.{Delivery, log_at, given}
 use Rattle.kp_world.specs.Message.{sent_of}
 use Rattle.kp_world.specs.World.{PartAnswer, ReplyContent, Batches, Id, World, FIRST_ID}

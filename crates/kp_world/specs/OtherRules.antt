@@ -22,7 +22,9 @@ use Rattle.kp_rules.specs.Requesting.{Packet, Requested, request_for, partitions
 use Rattle.kp_rules.specs.Telling.{told_all}
 use Rattle.kp_rules.specs.Tick.{TickRule, is_open_late, expire_front, tick_by}
 use Rattle.kp_world.specs.declared.event.Event.{Event}
-use Rattle.kp_world.specs.declared.event.Event.TheVariants as event
+use Rattle.kp_world.specs.declared.event.Event.TheVariants as schedule
+use Rattle.kp_world.specs.Events.{WorldEvent, events_of}
+use Rattle.kp_world.specs.Events as event
 use Rattle.kp_world.specs.declared.event.Treatment.TheVariants.{Judged}
 use Rattle.kp_world.specs.Causes.{TellsByRule}
 use Rattle.kp_world.specs.Client.{sending, replying, ticked_to, client}
@@ -186,16 +188,16 @@ pub record Breaks (producer : Producer) (c : Config) (es : List Event) (Law : Wo
     : Type 0 where
   pub may_begin : MayBegin (scheduled c 1 1)
   pub world : World
-  pub run : RunBy (StepsBy producer) (opening (scheduled c 1 1)) es world
+  pub run : RunBy (StepsBy producer) (opening (scheduled c 1 1)) (events_of 0 es) world
   pub broken : Law world → ⊥
 
 -- So it goes through this schedule, and tells in the event behind it what the outcome rule has no
 -- case for.
-pub record TellsAgainstRule (producer : Producer) (c : Config) (es : List Event) (e : Event)
+pub record TellsAgainstRule (producer : Producer) (c : Config) (es : List Event) (e : WorldEvent)
     : Type 0 where
   pub may_begin : MayBegin (scheduled c 1 1)
   pub before : World
-  pub run : RunBy (StepsBy producer) (opening (scheduled c 1 1)) es before
+  pub run : RunBy (StepsBy producer) (opening (scheduled c 1 1)) (events_of 0 es) before
   pub after : World
   pub step : StepsBy producer before e after
   pub broken : TellsByRule before after → ⊥
@@ -211,37 +213,37 @@ abbrev pub two_an_id : Config
 two_an_id = record one_each { sequence_limit = 2 }
 
 abbrev pub stored : ℕ → List Event
-stored k = event.Send ∷ event.Deliver k Judged ∷ event.Reply k ∷ []
+stored k = schedule.Send ∷ schedule.Deliver k Judged ∷ schedule.Reply k ∷ []
 
 -- Of five batches in flight behind the first the second is answered, and a sixth goes out. All are
 -- stored, and then the lowest comes again, behind which five stand.
 abbrev pub six_on_their_way : List Event
 six_on_their_way =
     feed 97 ++ feed 98 ++ feed 99 ++ feed 100 ++ feed 101 ++ feed 102 ++ feed 103
-    ++ stored 0 ++ event.Send ∷ event.Deliver 1 Judged ∷ event.Send ∷ event.Deliver 2 Judged
-    ∷ event.Send ∷ event.Deliver 3 Judged ∷ event.Send ∷ event.Deliver 4 Judged ∷ event.Send
-    ∷ event.Deliver 5 Judged ∷ event.Reply 2 ∷ event.Send ∷ event.Deliver 6 Judged
-    ∷ event.Deliver 1 Judged ∷ event.Reply 7 ∷ []
+    ++ stored 0 ++ schedule.Send ∷ schedule.Deliver 1 Judged ∷ schedule.Send ∷ schedule.Deliver 2 Judged
+    ∷ schedule.Send ∷ schedule.Deliver 3 Judged ∷ schedule.Send ∷ schedule.Deliver 4 Judged ∷ schedule.Send
+    ∷ schedule.Deliver 5 Judged ∷ schedule.Reply 2 ∷ schedule.Send ∷ schedule.Deliver 6 Judged
+    ∷ schedule.Deliver 1 Judged ∷ schedule.Reply 7 ∷ []
 
 -- The first two batches are on their way, and the second comes first and is appended.
 abbrev pub second_comes_first : List Event
-second_comes_first = feed 97 ++ feed 98 ++ event.Send ∷ event.Send ∷ event.Deliver 1 Judged ∷ []
+second_comes_first = feed 97 ++ feed 98 ++ schedule.Send ∷ schedule.Send ∷ schedule.Deliver 1 Judged ∷ []
 
 -- The record is stored behind another producer's.
 abbrev pub stored_behind_another : List Event
-stored_behind_another = event.Other 0 1 ∷ feed 97 ++ stored 0
+stored_behind_another = schedule.Other 0 1 ∷ feed 97 ++ stored 0
 
 -- The first batch is stored; the reply comes again while the second is on its way.
 abbrev pub answered_again : List Event
-answered_again = feed 97 ++ feed 98 ++ stored 0 ++ event.Send ∷ event.Reply 0 ∷ []
+answered_again = feed 97 ++ feed 98 ++ stored 0 ++ schedule.Send ∷ schedule.Reply 0 ∷ []
 
 -- The record is stored, and its attempt dropped.
 abbrev pub stored_and_dropped : List Event
-stored_and_dropped = feed 97 ++ event.Send ∷ event.Deliver 0 Judged ∷ event.Drop ∷ []
+stored_and_dropped = feed 97 ++ schedule.Send ∷ schedule.Deliver 0 Judged ∷ schedule.Drop ∷ []
 
 -- The record is stored, but no reply comes until its delivery timeout is over.
 abbrev pub stored_and_late : List Event
-stored_and_late = feed 97 ++ event.Send ∷ event.Deliver 0 Judged ∷ event.Now 120000 ∷ event.Tick ∷ []
+stored_and_late = feed 97 ++ schedule.Send ∷ schedule.Deliver 0 Judged ∷ schedule.Now 120000 ∷ schedule.Tick ∷ []
 
 -- The third record, which is as the first was, goes out under the id that was given.
 abbrev pub goes_on_under_an_id : List Event

@@ -5,6 +5,7 @@ use Rattle.kp_rules.specs.declared.outcome.Outcome.{Outcome}
 use Rattle.kp_world.specs.declared.event.Event.{Event}
 use Rattle.kp_world.specs.declared.event.Event.TheVariants.{Accept, Take, Now, Tick, Send, Deliver, Reply, Drop, Other, Close, End, Flush}
 use Rattle.kp_world.specs.declared.event.Treatment.TheVariants.{Judged, Refused}
+use Rattle.kp_world.specs.Events.{events_of}
 use Rattle.kp_world.specs.Run.{IsReached}
 use Rattle.kp_world.specs.World.{World, scheduled}
 
@@ -15,7 +16,7 @@ outcomes_in w = flat_map (λ h. map (λ t. t.outcome) h.told) w.past
 -- With the default configuration, a partition and a sender, the schedule leads to a world in which just this was told.
 pub record Tells (es : List Event) (outcomes : List Outcome) : Type 0 where
   pub world : World
-  pub reached : IsReached (scheduled default_config 1 1) es world
+  pub reached : IsReached (scheduled default_config 1 1) (events_of 0 es) world
   pub told : outcomes_in world ≡ outcomes
 
 -- ---- schedules

@@ -4,8 +4,7 @@ use Rattle.std.specs.Prelude.{◌≡◌, ℕ, List, [], ◌∷◌, ◌++◌, map
 use Rattle.kp_frames.specs.declared.response.Response.{Response}
 use Rattle.kp_rules.specs.Opening.{MayOpen}
 use Rattle.kp_rules.specs.Requesting.{Packet}
-use Rattle.kp_world.specs.declared.event.Event.{Event}
-use Rattle.kp_world.specs.declared.event.Event.TheVariants.{Deliver, Other}
+use Rattle.kp_world.specs.Events.{WorldEvent, Deliver, Other}
 use Rattle.kp_world.specs.Client.{client, has_partition, only_if}
 use Rattle.kp_world.specs.Delivering.{Delivery, Delivers}
 use Rattle.kp_world.specs.Line.{Line, AnswerPart, AnswerBatches, AnswerInit}
@@ -55,23 +54,23 @@ pub record Arrives (w : World) (k : ℕ) (v : World) : Type 0 where
 
 -- what the producer's events do
 abbrev pub Producer : Type 0
-Producer = Event → World → Option World
+Producer = WorldEvent → World → Option World
 
-abbrev pub StepsBy : Producer → World → Event → World → Type 0
-StepsBy producer w (Deliver k treatment) v = Arrives w k v
+abbrev pub StepsBy : Producer → World → WorldEvent → World → Type 0
+StepsBy producer w (Deliver k) v = Arrives w k v
 StepsBy producer w (Other p n) v = with_others_at p n w ≡ Some v
 StepsBy producer w e v = producer e w ≡ Some v
 
-unfoldable pub Steps : World → Event → World → Type 0
+unfoldable pub Steps : World → WorldEvent → World → Type 0
 Steps w e v = StepsBy client w e v
 
 -- ---- a run: a list of steps
 
-abbrev pub RunBy : (World → Event → World → Type 0) → World → List Event → World → Type 0
+abbrev pub RunBy : (World → WorldEvent → World → Type 0) → World → List WorldEvent → World → Type 0
 RunBy steps w [] v = v ≡ w
 RunBy steps w (e ∷ es) v = (middle : World) × steps w e middle × RunBy steps middle es v
 
-unfoldable pub Run : World → List Event → World → Type 0
+unfoldable pub Run : World → List WorldEvent → World → Type 0
 Run w es v = RunBy Steps w es v
 
 -- What a run may begin with.
@@ -79,6 +78,6 @@ abbrev pub MayBegin : Opening → Type 0
 MayBegin o = MayOpen o.config o.names o.partitions o.senders o.id o.correlation
 
 -- The world is one to which these events lead.
-pub record IsReached (o : Opening) (es : List Event) (w : World) : Type 0 where
+pub record IsReached (o : Opening) (es : List WorldEvent) (w : World) : Type 0 where
   pub may_begin : MayBegin o
   pub run : Run (opening o) es w

@@ -1,8 +1,8 @@
 //! Laws of every run, for any honest broker: what was accepted is accounted for.
 
 ghost use Rattle.std.specs.Prelude.{◌≡◌, ◌<◌, ◌∷◌, ℕ, List};
-ghost use Rattle.kp_world.specs.declared.event.Event.{Event};
-ghost use Rattle.kp_world.specs.declared.event.Event.TheVariants as event;
+ghost use Rattle.kp_world.specs.Events.{WorldEvent};
+ghost use Rattle.kp_world.specs.Events as event;
 ghost use Rattle.kp_world.specs.Accounts.{AreAccountedFor, AreInOrder, ArePlaced, IsNeverSent, IsToldOnce, IsUsedByUntold};
 ghost use Rattle.kp_world.specs.Causes.{TellsByRule};
 ghost use Rattle.kp_world.specs.Run.{Steps, Run, IsReached};
@@ -11,49 +11,49 @@ ghost use Rattle.kp_world.specs.World.{World, Opening};
 /// Of each sender and partition the items that were handed over are, in order and once, those that were accepted and
 /// neither told Unsent nor still wait.
 pub fn what_was_accepted_is_accounted_for()
-    ensures { (o : Opening) (es : List Event) (w : World) (s p : ℕ)
+    ensures { (o : Opening) (es : List WorldEvent) (w : World) (s p : ℕ)
         → IsReached o es w → p < o.partitions → AreAccountedFor s p w }
 {}
 
 /// They are handed over in the order of their numbers, each once.
 pub fn items_are_handed_over_in_order_and_once()
-    ensures { (o : Opening) (es : List Event) (w : World) (s p : ℕ)
+    ensures { (o : Opening) (es : List WorldEvent) (w : World) (s p : ℕ)
         → IsReached o es w → p < o.partitions → AreInOrder s p w }
 {}
 
 /// An item's number is its place among those that its sender had accepted for its partition; so numbers tell them
 /// apart.
 pub fn items_are_numbered_by_place()
-    ensures { (o : Opening) (es : List Event) (w : World) (s p : ℕ)
+    ensures { (o : Opening) (es : List WorldEvent) (w : World) (s p : ℕ)
         → IsReached o es w → ArePlaced s p w }
 {}
 
 /// No item that was told Unsent was ever handed over.
 pub fn unsent_is_never_sent()
-    ensures { (o : Opening) (es : List Event) (w : World) (p : ℕ)
+    ensures { (o : Opening) (es : List WorldEvent) (w : World) (p : ℕ)
         → IsReached o es w → p < o.partitions → IsNeverSent p w }
 {}
 
 /// No event after a close accepts.
 pub fn nothing_is_accepted_after_close()
-    ensures { (w : World) (es : List Event) (v : World)
+    ensures { (w : World) (es : List WorldEvent) (v : World)
         → Run w (event.Close ∷ es) v → v.accepted ≡ w.accepted }
 {}
 
 /// Each item is told of at most once.
 pub fn each_item_is_told_once()
-    ensures { (o : Opening) (es : List Event) (w : World)
+    ensures { (o : Opening) (es : List WorldEvent) (w : World)
         → IsReached o es w → IsToldOnce w }
 {}
 
 /// The memory that is used is what the items take that were taken and are not told; those that were turned away were
 /// told at once.
 pub fn memory_is_of_what_is_not_told()
-    ensures { (o : Opening) (es : List Event) (w : World)
+    ensures { (o : Opening) (es : List WorldEvent) (w : World)
         → IsReached o es w → IsUsedByUntold w }
 {}
 
 /// Whatever an event tells of an item is a case of the outcome rule.
 pub fn each_outcome_has_its_cause()
-    ensures { (w : World) (e : Event) (v : World) → Steps w e v → TellsByRule w v }
+    ensures { (w : World) (e : WorldEvent) (v : World) → Steps w e v → TellsByRule w v }
 {}

@@ -3,6 +3,7 @@
 ghost use Rattle.std.specs.Prelude.{◌≡◌, ℕ, List, Ok};
 ghost use Rattle.std.specs.List.{AllByRecursion};
 ghost use Rattle.kp_accum.specs.declared.config.Config.{Config};
+ghost use Rattle.kp_world.specs.Events.{events_of};
 ghost use Rattle.kp_world.specs.Replay.{MayHappen, replayed};
 ghost use Rattle.kp_world.specs.Run.{Run};
 ghost use Rattle.kp_world.specs.World.{World, opening, scheduled};
@@ -14,5 +15,5 @@ pub fn a_replay_is_a_run()
     ensures { (c : Config) (partitions senders : ℕ) (es : List Event) (w : World)
         → AllByRecursion MayHappen es
         → replayed es (opening (scheduled c partitions senders)) ≡ Ok w
-        → Run (opening (scheduled c partitions senders)) es w }
+        → Run (opening (scheduled c partitions senders)) (events_of 0 es) w }
 {}

@@ -12,18 +12,17 @@ ghost use Rattle.kp_world.specs.Client.{client};
 ghost use Rattle.kp_world.specs.LogLaws.{EachDeliveryHasItsOffset, IsPrefix, ToldOffsetsStand};
 ghost use Rattle.kp_world.specs.OtherRules.{Breaks, TellsAgainstRule, settling_dropped, stored_and_dropped, sending_by, with_window, counts_open, one_wider, without_waiting, hearing_as, at_sequences, to_oldest, ticking_by, open_expires, keeping_ids, one_each, two_an_id, six_on_their_way, second_comes_first, stored_behind_another, answered_again, stored_and_late, goes_on_under_an_id};
 ghost use Rattle.kp_world.specs.World.{World};
-ghost use Rattle.kp_world.specs.declared.event.Event.{Event};
-ghost use Rattle.kp_world.specs.declared.event.Event.TheVariants.{Reply};
+ghost use Rattle.kp_world.specs.Events.{WorldEvent, Reply};
 
 /// Where the rule for handing over, the replies as they are heard, or the rule for a tick are as they are, these producers
 /// are the producer.
 #[tactic(auto, unfolding(crate::specs::Client::client, kp_rules::specs::Requesting::request_step, kp_rules::specs::Next::next_demand, kp_rules::specs::Next::next_batches, kp_rules::specs::MaySend::sends, kp_rules::specs::Tick::tick_step))]
 pub fn only_one_rule_is_changed()
-    ensures handing_over { (e : Event) (w : World) → sending_by may_hand_over e w ≡ client e w }
+    ensures handing_over { (e : WorldEvent) (w : World) → sending_by may_hand_over e w ≡ client e w }
     ensures window { (c : Config) (flags : Flags) (now : ℕ) (t : Partition) (front : Pending)
         → with_window (λ c t. is_in_span c t.next_number t.open_batches) c flags now t front ≡ may_hand_over c flags now t front }
-    ensures hearing { (e : Event) (w : World) → hearing_as (λ w x. x) e w ≡ client e w }
-    ensures ticking { (e : Event) (w : World) → ticking_by heed_deadlines e w ≡ client e w }
+    ensures hearing { (e : WorldEvent) (w : World) → hearing_as (λ w x. x) e w ≡ client e w }
+    ensures ticking { (e : WorldEvent) (w : World) → ticking_by heed_deadlines e w ≡ client e w }
 {}
 
 /// Each of these producers goes by all rules but one, and through a schedule with an honest broker after which a law does

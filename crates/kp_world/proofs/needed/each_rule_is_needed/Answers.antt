@@ -2,7 +2,7 @@ use Rattle.std.proofs.Common.{◌≡◌, List, [], ◌∷◌, refl}
 use Rattle.std.specs.Prelude.{Ok}
 use Rattle.kp_accum.specs.Config.{checked, is_outside}
 use Rattle.kp_log.specs.History.{own}
-use Rattle.kp_world.specs.declared.event.Event.TheVariants.{Reply}
+use Rattle.kp_world.specs.Events.{Reply}
 use Rattle.kp_world.specs.Accounts.{IsNeverSent}
 use Rattle.kp_world.specs.LogLaws.{EachDeliveryHasItsOffset, IsPrefix, ToldOffsetsStand}
 use Rattle.kp_world.specs.OtherRules.{Breaks, TellsAgainstRule, settling_dropped, stored_and_dropped, sending_by, with_window, counts_open, one_wider, without_waiting, hearing_as, at_sequences, to_oldest, ticking_by, open_expires, keeping_ids, one_each, two_an_id, six_on_their_way, second_comes_first, stored_behind_another, answered_again, stored_and_late, goes_on_under_an_id}

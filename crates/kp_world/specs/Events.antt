@@ -1,0 +1,47 @@
+-- What may happen in a world. Senders, partitions, packets and replies are told by their numbers, from 0.
+use Rattle.std.specs.Prelude.{ℕ, List, [], ◌∷◌, Some, None}
+use Rattle.kp_batch.specs.declared.record.Record.{Record}
+use Rattle.kp_world.specs.declared.event.Event.{Event}
+use Rattle.kp_world.specs.declared.event.Event.TheVariants as schedule
+
+pub data WorldEvent : Type 0 where
+  Accept : (sender partition at : ℕ) → Record → WorldEvent  -- a sender has a record accepted, at this moment
+  Take : (sender : ℕ) → WorldEvent  -- its oldest record that was accepted and not taken is appended
+  Now : (moment : ℕ) → WorldEvent  -- the clock shows this moment; it may go back
+  Tick : WorldEvent  -- the producer looks at the clock
+  Send : WorldEvent  -- the next request goes out, as a packet
+  Deliver : (packet : ℕ) → WorldEvent  -- a packet comes to the broker, whose answer becomes a reply
+  Reply : (reply : ℕ) → WorldEvent  -- a reply comes to the producer
+  Drop : WorldEvent  -- the connection is gone
+  Other : (partition count : ℕ) → WorldEvent  -- another producer has so many records appended
+  Close : WorldEvent  -- no record is accepted from now on, and what was accepted is to be sent
+  End : WorldEvent  -- the producer gives up what is left
+  Flush : WorldEvent  -- the producer is to send all that it was given
+
+-- ---- the events of a schedule, in which a record has no key, and is of the moment that the clock shows
+
+abbrev pub record_at : ℕ → List ℕ → Record
+record_at now value = record { timestamp = now; key = None; value = Some value; headers = [] }
+
+abbrev pub meant : ℕ → Event → WorldEvent
+meant now (schedule.Accept s p value) = Accept s p now (record_at now value)
+meant now (schedule.Take s) = Take s
+meant now (schedule.Now moment) = Now moment
+meant now schedule.Tick = Tick
+meant now schedule.Send = Send
+meant now (schedule.Deliver k treatment) = Deliver k
+meant now (schedule.Reply j) = Reply j
+meant now schedule.Drop = Drop
+meant now (schedule.Other p n) = Other p n
+meant now schedule.Close = Close
+meant now schedule.End = End
+meant now schedule.Flush = Flush
+
+-- the moment that the clock shows behind an event
+abbrev pub moment_after : ℕ → Event → ℕ
+moment_after now (schedule.Now moment) = moment
+moment_after now e = now
+
+unfoldable pub events_of : ℕ → List Event → List WorldEvent
+events_of now [] = []
+events_of now (e ∷ es) = meant now e ∷ events_of (moment_after now e) es
