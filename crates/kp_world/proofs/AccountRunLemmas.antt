@@ -1,5 +1,5 @@
 -- Every world that is reached is accounted for.
-use Rattle.std.proofs.Common.{◌≡◌, Bool, false, ℕ, zero, suc, ◌+◌, ◌<◌, ◌≤◌, true, List, [], ◌∷◌, ◌++◌, length, get_or, take, replicate, Some, refl, sym, ap, ◌∙◌, subst, arith}
+use Rattle.std.proofs.Common.{◌≡◌, Bool, false, ℕ, zero, suc, ◌+◌, ◌<◌, ◌≤◌, true, List, [], ◌∷◌, ◌++◌, length, take, replicate, Some, refl, sym, ap, ◌∙◌, subst, arith}
 use Rattle.std.specs.Prelude.{if◌then◌else◌, flat_map, slice_get, slice_index, slice_index_or}
 use Rattle.std.specs.List.{AllByRecursion, range_with_len}
 use Rattle.std.proofs.lemmas.Bool.{false_from_ne_true}
@@ -26,9 +26,8 @@ use Rattle.kp_world.specs.Events.{WorldEvent}
 use Rattle.kp_world.specs.Accepting.{for_partition, item_for, accepted_by, with_accepted, with_taken, taken_by, taking_of, taking}
 use Rattle.kp_world.specs.Accounts.{of_sender, told_in}
 use Rattle.kp_world.specs.Client.{handed_at, reply_line, flush_line}
-use Rattle.kp_world.specs.Delivering.{Delivery, log_at}
+use Rattle.kp_world.specs.Delivering.{Delivery, log_at, logs_with_others}
 use Rattle.kp_world.specs.Line.{Closed, Large, Empty, Full}
-use Rattle.kp_world.specs.Loopback.{logs_with_others}
 use Rattle.kp_world.specs.Run.{answer_line, reply_to, with_delivery, Steps, MayBegin, IsReached}
 use Rattle.kp_world.specs.World.{Reply, World, Opening, opening}
 use Rattle.kp_world.proofs.EventLemmas.{OfEvent, at_step, at_run}
@@ -43,7 +42,7 @@ use Rattle.kp_world.proofs.LawfulLemmas.{IsLawful}
 use Rattle.kp_world.proofs.LeavingLemmas.{Rising, awaits_is}
 use Rattle.kp_world.proofs.RunLemmas.{first_core, lawful_step, lawful_opening, within_five}
 use Rattle.kp_rules.proofs.ListLemmas.{all_say}
-use Rattle.kp_world.proofs.ListLemmas.{all_at, all_in, in_at}
+use Rattle.kp_world.proofs.ListLemmas.{all_alike, all_at, all_in, in_at}
 use Rattle.kp_world.proofs.WeightLemmas.{weigh, weigh_flat, weigh_none}
 use Rattle.kp_world.proofs.HandingLemmas.{accounts_sending}
 use Rattle.kp_world.proofs.TakingLemmas.{NextOf, next_of, accounts_accepted, accounts_turned_away, accounts_queued}
@@ -131,15 +130,10 @@ unfolding with_delivery
 accounts_step n w g a e v s = at_step (λ e. IsAccounted) w (record {
   client = accounts_event n w g a;
   arrives = λ k o d x went honest says. accounts_only w.core (answer_line (length w.replies) d.content ∷ []) (delivered_to o d x w) a;
-  others = λ p m there. accounts_only w.core [] (record w { logs = logs_with_others p m w.logs }) a;
+  others = λ p records others there. accounts_only w.core [] (record w { logs = logs_with_others p records w.logs }) a;
 }) e v s
 
 -- ---- from the opening world
-
-all_alike : {A : Type 0} (n i : ℕ) (d : A) → get_or (replicate n d) i d ≡ d
-all_alike zero i d = refl
-all_alike (suc n) zero d = refl
-all_alike (suc n) (suc i) d = all_alike n i d
 
 accepts_none : (n s : ℕ) → Accepts n s [] 0
 accepts_none n s = record { within = omega arith; known = tt; own = tt; numbered = λ p. tt }

@@ -12,7 +12,7 @@ use Rattle.kp_log.specs.BrokerStep.{Answered, MayAppend, IsOld, BrokerStep}
 use Rattle.kp_log.specs.HandedOver.{Follows, AreInSequence, IsStored}
 use Rattle.kp_log.specs.History.{Sent, History, stored_of, records_of, of_id, with_batch, empty_history}
 use Rattle.kp_log.specs.Log.{count_of}
-use Rattle.kp_log.proofs.KeepingLemmas.{came_appended}
+use Rattle.kp_log.proofs.LoopbackLemmas.{some_of}
 use Rattle.kp_log.proofs.LogLemmas.{count_of-append, count_of_own}
 use Rattle.kp_log.proofs.PlaceLemmas.{In, In-nil, In-cons, In-head, In-tail, cut_cases, contains_from_In}
 use Rattle.kp_rules.specs.Next.{Sending}
@@ -25,7 +25,7 @@ use Rattle.kp_world.specs.Message.{sent_of}
 use Rattle.kp_world.specs.World.{PartAnswer, Reply}
 use Rattle.kp_world.proofs.FlightLemmas.{Carried, PartHolds, Steady, part_grown, steady_grown}
 use Rattle.kp_world.proofs.PrefixLemmas.{Cut, Grown, lands, lands_at, grown_same, grown_appended}
-use Rattle.kp_world.proofs.SoundLemmas.{Sound, sents, sound_history}
+use Rattle.kp_world.proofs.SoundLemmas.{Sound, sents, came_appended, sound_history}
 use Rattle.kp_rules.proofs.ListLemmas.{at_set}
 use Rattle.kp_world.proofs.ListLemmas.{In-map}
 
@@ -98,7 +98,7 @@ delivered {most = most} p k ids e next t handed h h' packets replies b a before 
 
     appended : (later : List HandedBatch) → before.steady.cut.rest ≡ b ∷ later → (Sound ids t handed (with_batch (sent_of b) h)) × Grown t handed h (with_batch (sent_of b) h)
     appended later is = (
-      sound_history ids t handed h (with_batch (sent_of b) h) before.sound (came_appended (sents handed) h (sent_of b) before.sound.in_sequence before.sound.came (contains_from_In (sents handed) (sent_of b) (In-map sent_of b handed i)) (lands_at ids t handed h before.sound before.steady.cut b later is)),
+      sound_history ids t handed h (with_batch (sent_of b) h) before.sound (came_appended ids h (sent_of b) (some_of (sents handed) (sent_of b) before.sound.in_sequence (contains_from_In (sents handed) (sent_of b) (In-map sent_of b handed i))) before.sound.came (lands_at ids t handed h before.sound before.steady.cut b later is)),
       grown_appended ids t handed h before.sound before.steady.cut b later is i,
     )
 

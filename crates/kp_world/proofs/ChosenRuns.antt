@@ -2,7 +2,7 @@
 -- world after each event is computed.
 use Rattle.std.proofs.Common.{◌≡◌, ℕ, suc, zero, ◌+◌, Bool, true, false, List, [], ◌∷◌, ◌++◌, length, pos, negsuc, Some, None, refl, sym, ap, ◌∙◌, inl, inr, arith, append-nil}
 use Rattle.std.specs.Prelude.{Option, is_some, unwrap_or, take, drop, slice_get, slice_set, nat_le, ◌&&◌, ◌||◌, ◌==◌}
-use Rattle.std.specs.List.{list_any}
+use Rattle.std.specs.List.{AllByRecursion, list_any}
 use Rattle.std.proofs.lemmas.Bool.{true≢false, eq-eqb, eqb-true, leb-true, and_parts}
 use Rattle.std.proofs.lemmas.Int.{ints}
 use Rattle.kp_log.specs.BrokerStep.{Answered, BrokerStep}
@@ -14,7 +14,7 @@ use Rattle.kp_rules.specs.Requesting.{Packet}
 use Rattle.kp_world.specs.Events.{WorldEvent}
 use Rattle.kp_world.specs.Events as event
 use Rattle.kp_world.specs.declared.event.Treatment.TheVariants.{Judged}
-use Rattle.kp_world.specs.Delivering.{Delivery, Delivers, PartsDeliver, IsFresh, log_at}
+use Rattle.kp_world.specs.Delivering.{Delivery, Delivers, PartsDeliver, HasNone, AreOthers, log_at}
 use Rattle.kp_world.specs.Loopback.{next_id, id_delivered}
 use Rattle.kp_world.specs.Message.{sent_of, response_of}
 use Rattle.kp_world.specs.Run.{Producer, StepsBy, RunBy, Arrives, with_delivery, with_others_at}
@@ -66,7 +66,7 @@ MayChoose (Repeat offset) w (Produce (x ∷ [])) =
 MayChoose (Forgotten place) w (Produce (x ∷ [])) =
     (slice_get (log_of w x).batches place ≡ Some (sent_of x.batch))
     × (nat_le KEPT (length (of_id x.batch.id (drop (suc place) (log_of w x).batches))) ≡ true)
-MayChoose GiveId w (InitProducerId p) = list_any (λ d. d == next_id w.ids) w.ids ≡ false
+MayChoose GiveId w (InitProducerId p) = (list_any (λ d. d == next_id w.ids) w.ids ≡ false) × AllByRecursion (λ h. HasNone h.records (next_id w.ids)) w.logs
 MayChoose choice w d = ⊥
 
 part_delivers : (w : World) (x : Sending) (answer : Answered) (log : History) → BrokerStep (log_of w x) (sent_of x.batch) answer log → Delivers w (Produce (x ∷ [])) (part_came w x answer log)
@@ -78,11 +78,11 @@ split_at [] k x e = absurd cc
 split_at (y ∷ xs) zero x e = let same : y ≡ x = cc in ap (λ z. z ∷ xs) same
 split_at (y ∷ xs) (suc k) x e = ap (λ z. y ∷ z) (split_at xs k x e)
 
-is_fresh : (ids : List ℕ) (id : ℕ) → list_any (λ d. d == id) ids ≡ false → IsFresh ids id
+is_fresh : (ids : List ℕ) (id : ℕ) → list_any (λ d. d == id) ids ≡ false → AllByRecursion (λ drawn. drawn ≡ id → ⊥) ids
 is_fresh [] id e = tt
 is_fresh (d ∷ ids) id e = at_test (d == id) refl e (λ e'. is_fresh ids id e')
   where
-    at_test : (b : Bool) → (d == id) ≡ b → b || list_any (λ d. d == id) ids ≡ false → (list_any (λ d. d == id) ids ≡ false → IsFresh ids id) → IsFresh (d ∷ ids) id
+    at_test : (b : Bool) → (d == id) ≡ b → b || list_any (λ d. d == id) ids ≡ false → (list_any (λ d. d == id) ids ≡ false → AllByRecursion (λ drawn. drawn ≡ id → ⊥) ids) → AllByRecursion (λ drawn. drawn ≡ id → ⊥) (d ∷ ids)
     at_test true is e' later = absurd cc
     at_test false is e' later = (λ (same : d ≡ id). absurd (true≢false (sym (eq-eqb d id same) ∙ is)), later e')
 
@@ -105,7 +105,7 @@ is_honest (Forgotten place) w (Produce (x ∷ [])) e = part_delivers w x _ _ (re
   stands = λ none. absurd (omega (arith, ints, none));
   is_old = λ old. record { earlier = _; later = _; split = split_at (log_of w x).batches place (sent_of x.batch) e.0; more = leb-true KEPT (length (of_id x.batch.id (drop (suc place) (log_of w x).batches))) e.1 };
 })
-is_honest GiveId w (InitProducerId p) e = (inr (next_id w.ids, is_fresh w.ids (next_id w.ids) e, refl, inr refl), refl)
+is_honest GiveId w (InitProducerId p) e = (inr (next_id w.ids, (is_fresh w.ids (next_id w.ids) e.0, e.1), refl, inr refl), refl)
 is_honest GiveId w (Produce xs) e = absurd e
 is_honest Append w (Produce []) e = absurd e
 is_honest Append w (Produce (x ∷ y ∷ xs)) e = absurd e
@@ -128,7 +128,7 @@ came c w None = w
 
 abbrev pub next : Producer → Choice → WorldEvent → World → World
 next producer c (event.Deliver k) w = came c w (slice_get w.packets k)
-next producer c (event.Other p n) w = unwrap_or (with_others_at p n w) w
+next producer c (event.Other p records) w = unwrap_or (with_others_at p records w) w
 next producer c e w = unwrap_or (producer e w) w
 
 -- the choice for the next delivery, and those for the others
@@ -147,7 +147,7 @@ end_of producer cs (e ∷ es) w = end_of producer (others_of e cs) es (next prod
 -- each event names what is there
 abbrev is_there : Producer → WorldEvent → World → Bool
 is_there producer (event.Deliver k) w = is_some (slice_get w.packets k)
-is_there producer (event.Other p n) w = is_some (with_others_at p n w)
+is_there producer (event.Other p records) w = is_some (with_others_at p records w)
 is_there producer e w = is_some (producer e w)
 
 abbrev pub are_there : Producer → List Choice → List WorldEvent → World → Bool
@@ -162,6 +162,7 @@ MayCome c w None = ⊥
 abbrev pub AreHonest : Producer → List Choice → List WorldEvent → World → Type 0
 AreHonest producer cs [] w = Unit {0}
 AreHonest producer cs (event.Deliver k ∷ es) w = MayCome (first_of cs) w (slice_get w.packets k) × AreHonest producer (drop 1 cs) es (next producer (first_of cs) (event.Deliver k) w)
+AreHonest producer cs (event.Other p records ∷ es) w = AreOthers w.ids records × AreHonest producer cs es (next producer (first_of cs) (event.Other p records) w)
 AreHonest producer cs (e ∷ es) w = AreHonest producer cs es (next producer (first_of cs) e w)
 
 goes_on : (o : Option World) (w : World) (later : Bool) → is_some o && later ≡ true → (o ≡ Some (unwrap_or o w)) × (later ≡ true)
@@ -177,8 +178,8 @@ pub run_of : (producer : Producer) (cs : List Choice) (es : List WorldEvent) (w 
 run_of producer cs [] w t h = refl
 run_of producer cs (event.Deliver k ∷ es) w t h =
     (_, arrives (first_of cs) k w (slice_get w.packets k) refl h.0, run_of producer (drop 1 cs) es _ (and_parts (is_there producer (event.Deliver k) w) _ t).1 h.1)
-run_of producer cs (event.Other p n ∷ es) w t h =
-    let on = goes_on (with_others_at p n w) w _ t in (_, on.0, run_of producer cs es _ on.1 h)
+run_of producer cs (event.Other p records ∷ es) w t h =
+    let on = goes_on (with_others_at p records w) w _ t in (_, (h.0, on.0), run_of producer cs es _ on.1 h.1)
 run_of producer cs (event.Accept s p at body ∷ es) w t h =
     let on = goes_on (producer (event.Accept s p at body) w) w _ t in (_, on.0, run_of producer cs es _ on.1 h)
 run_of producer cs (event.Take s ∷ es) w t h =

@@ -6,6 +6,7 @@ use Rattle.kp_batch.specs.declared.record.Record.{Record}
 use Rattle.kp_accum.specs.declared.fault.AppendFault.{AppendFault}
 use Rattle.kp_accum.specs.declared.item.Item.{Item}
 use Rattle.kp_frames.specs.declared.response.Response.{Response}
+use Rattle.kp_log.specs.declared.stored.Stored.{Stored}
 use Rattle.kp_rules.specs.Flush.{flush_step}
 use Rattle.kp_rules.specs.Replies.{response_step}
 use Rattle.kp_rules.specs.Requesting.{request_step}
@@ -19,9 +20,8 @@ use Rattle.kp_world.specs.Events.{WorldEvent}
 use Rattle.kp_world.specs.Events as event
 use Rattle.kp_world.specs.Accepting.{with_taken, taking_of, accepted_by, taken_by, item_for, is_large, with_accepted, accepting, taking}
 use Rattle.kp_world.specs.Client.{with_packet, sent_line, sending, reply_line, flush_line, has_sender, has_partition, only_if, replying, ticking, ending, closing, client}
-use Rattle.kp_world.specs.Delivering.{Delivery, Delivers}
+use Rattle.kp_world.specs.Delivering.{Delivery, Delivers, AreOthers, logs_with_others}
 use Rattle.kp_world.specs.Line.{Line, Closed, Large, Empty, Full, Idle, Ended}
-use Rattle.kp_world.specs.Loopback.{logs_with_others}
 use Rattle.kp_world.specs.Message.{Answers}
 use Rattle.kp_world.specs.Noting.{noted, only_noted}
 use Rattle.kp_world.specs.Run.{with_delivery, with_others_at, Steps, Run}
@@ -114,12 +114,12 @@ at_client P w c (event.Other p n) v e = absurd cc
 pub record OfStep (P : WorldEvent → World → Type 0) (w : World) : Type 0 where
   pub client : OfEvent P w
   pub arrives : (k : ℕ) (o : Packet) (d : Delivery) (x : Response) → slice_get w.packets k ≡ Some o → Delivers w o.demand d → Answers o.correlation d.content x → P (event.Deliver k) (with_delivery o d x w)
-  pub others : (p n : ℕ) → p < length w.logs → P (event.Other p n) (only_noted [] (record w { logs = logs_with_others p n w.logs }))
+  pub others : (p : ℕ) (records : List Stored) → AreOthers w.ids records → p < length w.logs → P (event.Other p records) (only_noted [] (record w { logs = logs_with_others p records w.logs }))
 
 pub at_step : (P : WorldEvent → World → Type 0) (w : World) → OfStep P w → (e : WorldEvent) (v : World) → Steps w e v → P e v
 unfolding Steps with_others_at
 at_step P w c (event.Deliver k) v a = subst (P (event.Deliver k)) (sym a.after_is) (c.arrives k a.packet a.delivery a.response a.went_out a.honest a.answers)
-at_step P w c (event.Other p n) v e = at_only_if (P (event.Other p n)) (has_partition p w) _ v e (λ is. c.others p n (ltb-true p (length w.logs) is))
+at_step P w c (event.Other p records) v e = at_only_if (P (event.Other p records)) (has_partition p w) _ v e.1 (λ is. c.others p records e.0 (ltb-true p (length w.logs) is))
 at_step P w c (event.Accept s p at body) v e = at_client P w c.client (event.Accept s p at body) v e
 at_step P w c (event.Take s) v e = at_client P w c.client (event.Take s) v e
 at_step P w c (event.Now moment) v e = at_client P w c.client (event.Now moment) v e

@@ -48,7 +48,7 @@ unfolding with_delivery noted
 follows_step e w v s = at_step (λ e. Follows w) w (record {
   client = follows_event w;
   arrives = λ k o d x went honest says. record { shut = λ h. h; accepted = λ h. refl };
-  others = λ p n there. record { shut = λ h. h; accepted = λ h. refl };
+  others = λ p records others there. record { shut = λ h. h; accepted = λ h. refl };
 }) e v s
 
 followed : (u w v : World) → Follows u w → Follows w v → Follows u v

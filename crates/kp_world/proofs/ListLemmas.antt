@@ -1,6 +1,6 @@
 -- Lists: what holds of all elements, and which elements there are.
-use Rattle.std.proofs.Common.{◌≡◌, ◌⊎◌, ℕ, suc, zero, Bool, true, List, [], ◌∷◌, ◌++◌, map, Some, sym, ap, ◌∙◌, subst, inl, inr, ⊎_elim}
-use Rattle.std.specs.Prelude.{find, filter, slice_get}
+use Rattle.std.proofs.Common.{◌≡◌, ◌⊎◌, ℕ, suc, zero, Bool, true, List, [], ◌∷◌, ◌++◌, map, get_or, replicate, Some, refl, sym, ap, ◌∙◌, subst, inl, inr, ⊎_elim}
+use Rattle.std.specs.Prelude.{find, filter, slice_get, slice_index_or}
 use Rattle.std.specs.List.{AllByRecursion}
 use Rattle.std.proofs.lemmas.List.{map-append}
 use Rattle.kp_rules.proofs.ListLemmas.{found, filtered}
@@ -21,6 +21,17 @@ all_in P (x ∷ xs) f = (f x (In-head x xs), all_in P xs (λ y i. f y (In-tail y
 pub all_at : {A : Type 0} (P : A → Type 0) (xs : List A) (x : A) → AllByRecursion P xs → In x xs → P x
 all_at P [] x a i = absurd (In-nil x i)
 all_at P (y ∷ xs) x a i = ⊎_elim (λ (same : x ≡ y). subst P (sym same) a.0) (λ (j : In x xs). all_at P xs x a.1 j) (In-cons x y xs i)
+
+pub all_alike : {A : Type 0} (n i : ℕ) (d : A) → get_or (replicate n d) i d ≡ d
+all_alike zero i d = refl
+all_alike (suc n) zero d = refl
+all_alike (suc n) (suc i) d = all_alike n i d
+
+-- also past the last place, where nothing is
+pub all_place : {A : Type 0} (P : A → Type 0) (xs : List A) (d : A) → P d → (p : ℕ) → AllByRecursion P xs → P (slice_index_or xs p d)
+all_place P [] d h p a = h
+all_place P (x ∷ xs) d h zero a = a.0
+all_place P (x ∷ xs) d h (suc p) a = all_place P xs d h p a.1
 
 pub one_more : {A : Type 0} (xs : List A) (x y : A) → In y (xs ++ x ∷ []) → In y xs ⊎ (y ≡ x)
 one_more xs x y i = ⊎_elim (λ (j : In y xs). inl j) (λ (j : In y (x ∷ [])). ⊎_elim (λ (same : y ≡ x). inr same) (λ (none : In y []). absurd (In-nil y none)) (In-cons y x [] j)) (In-append_cases y xs (x ∷ []) i)

@@ -1,11 +1,10 @@
 -- What a partition's log has of the batches that were handed over for it: the first so many, in order.
 -- Whatever comes to an honest broker, only the first of the others can be appended.
-use Rattle.std.proofs.Common.{◌≡◌, ◌⊎◌, ℕ, suc, ◌+◌, ◌<◌, Bool, true, false, cond, List, [], ◌∷◌, ◌++◌, length, map, replicate, ℤ, pos, negsuc, refl, sym, ap, ◌∙◌, subst, inl, inr, ⊎_elim, arith, length-append, append_assoc}
+use Rattle.std.proofs.Common.{◌≡◌, ◌⊎◌, ℕ, suc, ◌+◌, ◌<◌, Bool, true, false, cond, List, [], ◌∷◌, ◌++◌, length, map, ℤ, pos, refl, sym, ap, ◌∙◌, subst, inl, inr, ⊎_elim, arith, length-append, append_assoc}
 use Rattle.std.specs.Prelude.{Option, None, unwrap_or, ◌==◌, ◌||◌}
 use Rattle.std.specs.List.{filter, list_any, last_or}
 use Rattle.std.specs.Ordering.{int_eq}
 use Rattle.std.proofs.lemmas.Bool.{eqb-true}
-use Rattle.std.proofs.lemmas.Bool.Decides.{Decides-int_eq}
 use Rattle.std.proofs.lemmas.List.{append-nil, map-append}
 use Rattle.std.proofs.lemmas.List.Concat.{flat_map-append}
 use Rattle.std.proofs.lemmas.List.Elements.{filter-append}
@@ -14,19 +13,20 @@ use Rattle.kp_accum.specs.Queue.{Pending}
 use Rattle.kp_log.specs.declared.stored.Stored.{Stored}
 use Rattle.kp_log.specs.BrokerStep.{MayAppend}
 use Rattle.kp_log.specs.HandedOver.{Follows, IsStored}
-use Rattle.kp_log.specs.History.{History, stored_of, records_of, with_batch, with_others, empty_history, is_under, own}
-use Rattle.kp_log.specs.Log.{count_of, stored_as, NO_ID}
+use Rattle.kp_log.specs.History.{History, stored_of, records_of, with_batch, empty_history, is_under, own}
+use Rattle.kp_log.specs.Log.{count_of, stored_as}
 use Rattle.kp_log.proofs.LogLemmas.{count_of-append, count_of_own, int_eq_same}
-use Rattle.kp_log.proofs.PlaceLemmas.{In, In-nil, In-cons, In-append_right, cut_cases}
+use Rattle.kp_log.proofs.PlaceLemmas.{In, In-nil, In-cons, In-head, In-append_left, In-append_right, cut_cases}
 use Rattle.kp_rules.specs.Replies.{go_on_under}
 use Rattle.kp_rules.specs.HandingOver.{hand_over_in}
 use Rattle.kp_rules.specs.MaySend.{is_confirmed, new_batch}
 use Rattle.kp_rules.specs.Partitions.{new_partition, present_id}
 use Rattle.kp_rules.specs.Records.{HandedBatch, Open, Partition}
+use Rattle.kp_world.specs.Delivering.{HasNone, AreOthers, with_records}
 use Rattle.kp_world.specs.Message.{sent_of}
 use Rattle.kp_world.proofs.LeavingLemmas.{Leaves}
-use Rattle.kp_world.proofs.SoundLemmas.{Sound, sents, last_is}
-use Rattle.kp_world.proofs.ListLemmas.{one_more}
+use Rattle.kp_world.proofs.SoundLemmas.{Sound, sents, count_none, last_is}
+use Rattle.kp_world.proofs.ListLemmas.{all_at, all_in, one_more}
 
 -- ---- records under these ids
 
@@ -37,14 +37,6 @@ any_known id (x ∷ ids) i = ⊎_elim (λ (same : id ≡ x). subst (λ (n : ℕ)
     at_test : (b : Bool) → list_any (int_eq (pos id)) (map pos ids) ≡ true → b || list_any (int_eq (pos id)) (map pos ids) ≡ true
     at_test true e = refl
     at_test false e = e
-
-any_none : (ids : List ℕ) → list_any (int_eq NO_ID) (map pos ids) ≡ false
-any_none [] = refl
-any_none (x ∷ ids) = at_test (int_eq NO_ID (pos x)) refl (any_none ids)
-  where
-    at_test : (b : Bool) → int_eq NO_ID (pos x) ≡ b → list_any (int_eq NO_ID) (map pos ids) ≡ false → b || list_any (int_eq NO_ID) (map pos ids) ≡ false
-    at_test true is e = absurd (let same : negsuc 0 ≡ pos x = (Decides-int_eq NO_ID (pos x)).0 is in cc)
-    at_test false is e = e
 
 any_last : (z : ℤ) (id : ℕ) (ids : List ℕ) → int_eq z (pos id) ≡ false → list_any (int_eq z) (map pos (ids ++ id ∷ [])) ≡ list_any (int_eq z) (map pos ids)
 any_last z id [] e = ap (λ (b : Bool). b || false) e
@@ -62,13 +54,26 @@ own_known id ids (r ∷ rs) i =
     ap (λ (b : Bool). cond b (first ∷ filter (is_under (map pos ids)) (stored_as (pos id) rs)) (filter (is_under (map pos ids)) (stored_as (pos id) rs))) (any_known id ids i)
     ∙ ap (λ (z : List Stored). first ∷ z) (own_known id ids rs i)
 
-own_others : (ids : List ℕ) (rs : List Record) → own ids (stored_as NO_ID rs) ≡ []
+-- none of these records is under one of these ids
+own_others : (ids : List ℕ) (rs : List Stored) → AreOthers ids rs → own ids rs ≡ []
 unfolding own
-own_others ids [] = refl
-own_others ids (r ∷ rs) =
-    let first : Stored = record { producer_id = NO_ID; body = r } in
-    ap (λ (b : Bool). cond b (first ∷ filter (is_under (map pos ids)) (stored_as NO_ID rs)) (filter (is_under (map pos ids)) (stored_as NO_ID rs))) (any_none ids)
-    ∙ own_others ids rs
+own_others [] rs none = nothing rs
+  where
+    nothing : (rs : List Stored) → filter (is_under []) rs ≡ []
+    nothing [] = refl
+    nothing (r ∷ rs) = nothing rs
+own_others (id ∷ ids) rs none = both rs none.0 (own_others ids rs none.1)
+  where
+    both : (rs : List Stored) → count_of (pos id) rs ≡ 0 → filter (is_under (map pos ids)) rs ≡ [] → filter (is_under (map pos (id ∷ ids))) rs ≡ []
+    both [] e f = refl
+    both (r ∷ rs) e f = at_tests (int_eq r.producer_id (pos id)) (is_under (map pos ids) r) e f (both rs)
+      where
+        at_tests : (b c : Bool) → cond b (suc (count_of (pos id) rs)) (count_of (pos id) rs) ≡ 0 → cond c (r ∷ filter (is_under (map pos ids)) rs) (filter (is_under (map pos ids)) rs) ≡ []
+            → (count_of (pos id) rs ≡ 0 → filter (is_under (map pos ids)) rs ≡ [] → filter (is_under (map pos (id ∷ ids))) rs ≡ [])
+            → cond (b || c) (r ∷ filter (is_under (map pos (id ∷ ids))) rs) (filter (is_under (map pos (id ∷ ids))) rs) ≡ []
+        at_tests true c e' f' later = absurd (omega (arith, e'))
+        at_tests false true e' f' later = absurd cc
+        at_tests false false e' f' later = later e' f'
 
 own_fresh : (id : ℕ) (ids : List ℕ) (xs : List Stored) → count_of (pos id) xs ≡ 0 → own (ids ++ id ∷ []) xs ≡ own ids xs
 unfolding own
@@ -119,10 +124,14 @@ pub record Cut (t : Partition) (handed : List HandedBatch) (h : History) : Type 
 pub follows : (ids : List ℕ) (t : Partition) (handed : List HandedBatch) (h : History) → Sound ids t handed h → (earlier later : List HandedBatch) (b : HandedBatch) → handed ≡ earlier ++ b ∷ later → Follows (sents earlier) (sent_of b)
 follows ids t handed h s earlier later b e = s.in_sequence.each (sents earlier) (sents later) (sent_of b) (ap sents e ∙ map-append sent_of earlier (b ∷ later))
 
+-- what was handed over is under an id that was drawn
+drawn_for : (ids : List ℕ) (t : Partition) (handed : List HandedBatch) (h : History) → Sound ids t handed h → (b : HandedBatch) → In b handed → In b.id ids
+drawn_for ids t handed h s b i = s.drawn_all b.id (s.under b i)
+
 -- the count of an id's records in the log
-counted : (ids : List ℕ) (t : Partition) (handed : List HandedBatch) (h : History) → Sound ids t handed h → (cut : Cut t handed h) → (id : ℕ) → count_of (pos id) h.records ≡ records_under id cut.landed
-counted ids t handed h s cut id =
-    s.came.counted id ∙ ap (λ z. count_of (pos id) (records_of z)) cut.appended
+counted : (ids : List ℕ) (t : Partition) (handed : List HandedBatch) (h : History) → Sound ids t handed h → (cut : Cut t handed h) → (id : ℕ) → In id ids → count_of (pos id) h.records ≡ records_under id cut.landed
+counted ids t handed h s cut id i =
+    s.came.counted id i ∙ ap (λ z. count_of (pos id) (records_of z)) cut.appended
 
 -- a batch that is stored isn't among the rest
 pub stored_landed : (ids : List ℕ) (t : Partition) (handed : List HandedBatch) (h : History) → Sound ids t handed h → (cut : Cut t handed h) → (b : HandedBatch) → IsStored h.records (sent_of b) → In b cut.rest → ⊥
@@ -130,7 +139,7 @@ stored_landed ids t handed h s cut b stored i =
     let split : handed ≡ (cut.landed ++ i.earlier) ++ b ∷ i.later = cut.split ∙ ap (λ z. cut.landed ++ z) i.split ∙ sym (append_assoc cut.landed i.earlier (b ∷ i.later)) in
     let place : Follows (sents (cut.landed ++ i.earlier)) (sent_of b) = follows ids t handed h s (cut.landed ++ i.earlier) i.later b split in
     let before = under-append b.id cut.landed i.earlier in
-    let all = counted ids t handed h s cut b.id in
+    let all = counted ids t handed h s cut b.id (drawn_for ids t handed h s b (record { earlier = cut.landed ++ i.earlier; later = i.later; split = split })) in
     let parts : count_of (pos b.id) h.records ≡ count_of (pos b.id) stored.stands.before + (count_of (pos b.id) (stored_of (sent_of b)) + count_of (pos b.id) stored.stands.after) =
     ap (count_of (pos b.id)) stored.stands.split ∙ count_of-append (pos b.id) stored.stands.before (stored_of (sent_of b) ++ stored.stands.after) ∙ ap (λ (n : ℕ). count_of (pos b.id) stored.stands.before + n) (count_of-append (pos b.id) (stored_of (sent_of b)) stored.stands.after) in
     let own_part : count_of (pos b.id) (stored_of (sent_of b)) ≡ size b = count_of_own (pos b.id) (sent_of b).bodies in
@@ -152,7 +161,7 @@ lands ids t handed h s cut b i may =
     place = follows ids t handed h s i.earlier i.later b i.split
 
     all : count_of (pos b.id) h.records ≡ records_under b.id cut.landed
-    all = counted ids t handed h s cut b.id
+    all = counted ids t handed h s cut b.id (drawn_for ids t handed h s b i)
 
     there : (more : List HandedBatch) → cut.landed ≡ i.earlier ++ b ∷ more → ⊥
     there more e =
@@ -184,7 +193,8 @@ lands ids t handed h s cut b i may =
 -- it begins at the count of its id's records
 pub lands_at : (ids : List ℕ) (t : Partition) (handed : List HandedBatch) (h : History) → Sound ids t handed h → (cut : Cut t handed h) → (b : HandedBatch) (later : List HandedBatch) → cut.rest ≡ b ∷ later → count_of (pos b.id) h.records ≡ b.sequence
 lands_at ids t handed h s cut b later e =
-    counted ids t handed h s cut b.id ∙ sym (follows ids t handed h s cut.landed later b (cut.split ∙ ap (λ z. cut.landed ++ z) e)).sequence
+    let split : handed ≡ cut.landed ++ b ∷ later = cut.split ∙ ap (λ z. cut.landed ++ z) e in
+    counted ids t handed h s cut b.id (drawn_for ids t handed h s b (record { earlier = cut.landed; later = later; split = split })) ∙ sym (follows ids t handed h s cut.landed later b split).sequence
 
 -- ---- what keeps it
 
@@ -245,22 +255,25 @@ more_counted id xs ys n = omega (arith, count_of-append (pos id) xs ys)
 pub grown_same : (t : Partition) (handed : List HandedBatch) (h : History) → Cut t handed h → Grown t handed h h
 grown_same t handed h cut = record { cut = cut; more = []; records = sym (append-nil h.records) }
 
-pub grown_others : (t : Partition) (handed : List HandedBatch) (h : History) (n : ℕ) (body : Record) → Cut t handed h → Grown t handed h (with_others n body h)
-grown_others t handed h n body cut = record {
+pub grown_others : (ids : List ℕ) (t : Partition) (handed : List HandedBatch) (h : History) (records : List Stored) → Sound ids t handed h → AreOthers ids records → Cut t handed h → Grown t handed h (with_records records h)
+grown_others ids t handed h records s others cut = record {
   cut = record {
     landed = cut.landed;
     rest = cut.rest;
     split = cut.split;
     appended = cut.appended;
-    owned = own-append t.ids h.records (stored_as NO_ID (replicate n body)) ∙ ap (λ z. own t.ids h.records ++ z) (own_others t.ids (replicate n body)) ∙ append-nil (own t.ids h.records) ∙ cut.owned;
+    owned = own-append t.ids h.records records ∙ ap (λ z. own t.ids h.records ++ z) (own_others t.ids records none) ∙ append-nil (own t.ids h.records) ∙ cut.owned;
     places = cut.places;
     current = cut.current;
-    first = λ l. more_counted (present_id t) h.records (stored_as NO_ID (replicate n body)) (cut.first l);
-    heard = λ a. more_counted (present_id t) h.records (stored_as NO_ID (replicate n body)) (cut.heard a);
+    first = λ l. more_counted (present_id t) h.records records (cut.first l);
+    heard = λ a. more_counted (present_id t) h.records records (cut.heard a);
   };
-  more = stored_as NO_ID (replicate n body);
+  more = records;
   records = refl;
 }
+  where
+    none : AreOthers t.ids records
+    none = all_in (HasNone records) t.ids (λ id i. all_at (HasNone records) ids id others (s.drawn_all id i))
 
 pub grown_appended : (ids : List ℕ) (t : Partition) (handed : List HandedBatch) (h : History) → Sound ids t handed h → (cut : Cut t handed h) (b : HandedBatch) (later : List HandedBatch) → cut.rest ≡ b ∷ later → In b handed
     → Grown t handed h (with_batch (sent_of b) h)
@@ -357,5 +370,31 @@ cut_fresh ids t handed h id s cut none = record {
     nothing : count_of (pos id) h.records ≡ 0
     nothing =
         let all : handed ≡ cut.landed = cut.split ∙ ap (λ z. cut.landed ++ z) none ∙ append-nil cut.landed in
-        s.came.counted id ∙ ap (λ z. count_of (pos id) (records_of z)) cut.appended ∙ ap (records_under id) (sym all)
+        s.came.counted id (s.drawn_all id (In-append_right id t.ids (id ∷ []) (In-head id []))) ∙ ap (λ z. count_of (pos id) (records_of z)) cut.appended ∙ ap (records_under id) (sym all)
         ∙ ap (λ (o : Option ℕ). records_under (unwrap_or o 0) handed) (sym (last_is None t.ids id)) ∙ sym s.sequence
+
+-- ---- an id is drawn
+
+-- no batch that was appended is under an id that was never drawn
+pub none_appended : (ids : List ℕ) (id : ℕ) (t : Partition) (handed : List HandedBatch) (h : History) → Sound ids t handed h → Cut t handed h → (In id ids → ⊥) → count_of (pos id) (records_of h.batches) ≡ 0
+none_appended ids id t handed h s cut fresh =
+    ap (λ z. count_of (pos id) (records_of z)) cut.appended
+    ∙ count_none id cut.landed (λ b i e. fresh (subst (λ (m : ℕ). In m ids) e (drawn_for ids t handed h s b (subst (λ (bs : List HandedBatch). In b bs) (sym cut.split) (In-append_left b cut.landed cut.rest i)))))
+
+-- Where nobody has a record under it, and it was never drawn before, what is known of the ids drawn is so with it.
+pub sound_drawn : (ids : List ℕ) (id : ℕ) (t : Partition) (handed : List HandedBatch) (h : History) → Sound ids t handed h → Cut t handed h → (In id ids → ⊥) → HasNone h.records id → Sound (ids ++ id ∷ []) t handed h
+sound_drawn ids id t handed h s cut fresh none = record {
+  number = s.number;
+  sequence = s.sequence;
+  in_sequence = s.in_sequence;
+  came = record { whole = s.came.whole; counted = λ m i. ⊎_elim (λ (j : In m ids). s.came.counted m j) (λ (same : m ≡ id). subst Counted (sym same) (none ∙ sym (none_appended ids id t handed h s cut fresh))) (one_more ids id m i) };
+  numbers = s.numbers;
+  under = s.under;
+  present = s.present;
+  drawn_all = λ m at. In-append_left m ids (id ∷ []) (s.drawn_all m at);
+  opens = s.opens;
+  queue = s.queue;
+}
+  where
+    Counted : ℕ → Type 0
+    Counted m = count_of (pos m) h.records ≡ count_of (pos m) (records_of h.batches)

@@ -9,7 +9,7 @@ use Rattle.kp_world.specs.Events.{WorldEvent}
 use Rattle.kp_world.specs.Accepting.{item_for, with_accepted, with_taken}
 use Rattle.kp_world.specs.Client.{with_packet, flush_line}
 use Rattle.kp_world.specs.Line.{Line, Full}
-use Rattle.kp_world.specs.Loopback.{logs_with_others}
+use Rattle.kp_world.specs.Delivering.{logs_with_others}
 use Rattle.kp_world.specs.Noting.{noted, ends_flush}
 use Rattle.kp_world.specs.Run.{with_delivery, Steps}
 use Rattle.kp_world.specs.World.{Reply, World, Happened}
@@ -79,7 +79,7 @@ unfolding with_delivery
 told_step w e v s = at_step (λ e. TellsIn w) w (record {
   client = ruled_event w;
   arrives = λ k o d x went honest says. quiet w _ w.core _ refl;
-  others = λ p n there. quiet w (record w { logs = logs_with_others p n w.logs }) w.core [] refl;
+  others = λ p records others there. quiet w (record w { logs = logs_with_others p records w.logs }) w.core [] refl;
 }) e v s
 
 pub ruled_step : (w : World) (e : WorldEvent) (v : World) → Steps w e v → TellsByRule w v

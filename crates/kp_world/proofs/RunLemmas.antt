@@ -10,8 +10,8 @@ use Rattle.kp_accum.specs.declared.fault.ConfigFault.TheVariants.{BatchSize, Lin
 use Rattle.kp_accum.specs.declared.item.Item.{Item}
 use Rattle.kp_accum.specs.Config.{is_outside, checked}
 use Rattle.kp_frames.specs.declared.response.Response.{Response}
-use Rattle.kp_log.specs.History.{History, empty_history, with_others}
-use Rattle.kp_log.proofs.KeepingLemmas.{came_others}
+use Rattle.kp_log.specs.declared.stored.Stored.{Stored}
+use Rattle.kp_log.specs.History.{History, empty_history}
 use Rattle.kp_log.proofs.PlaceLemmas.{In, In-nil, In-head, In-append_left, In-append_right}
 use Rattle.kp_rules.specs.Closing.{close_step, end_step}
 use Rattle.kp_rules.specs.Flush.{flush_step}
@@ -27,8 +27,7 @@ use Rattle.kp_rules.specs.Requesting.{Packet}
 use Rattle.kp_world.specs.Events.{WorldEvent}
 use Rattle.kp_world.specs.Accepting.{taking}
 use Rattle.kp_world.specs.Client.{handed_at}
-use Rattle.kp_world.specs.Delivering.{log_at, PartsDeliver, Delivery, IsFresh, IsError, Delivers, given}
-use Rattle.kp_world.specs.Loopback.{other_record, logs_with_others}
+use Rattle.kp_world.specs.Delivering.{log_at, PartsDeliver, Delivery, HasNone, IsFresh, IsError, Delivers, given, AreOthers, with_records, logs_with_others}
 use Rattle.kp_world.specs.Noting.{noted}
 use Rattle.kp_world.specs.Message.{Answers}
 use Rattle.kp_world.specs.Run.{with_delivery, Steps, IsReached}
@@ -39,9 +38,9 @@ use Rattle.kp_world.proofs.FlightLemmas.{Carries, PartHolds, ContentHolds, stead
 use Rattle.kp_world.proofs.HearingLemmas.{lawful_reply}
 use Rattle.kp_world.proofs.LawfulLemmas.{Lawful, IsLawful, StoredAt, lawful_core, lawful_sending, IsLawfulWithin, PartsIn, Given}
 use Rattle.kp_world.proofs.LeavingLemmas.{CoreLeaves, left_appended, left_ticked, left_ended, left_flushed, left_disconnected, left_closed, left_unaudited}
-use Rattle.kp_world.proofs.PrefixLemmas.{grown_others}
-use Rattle.kp_world.proofs.SoundLemmas.{sents, sound_new, sound_history, sound_drawn}
-use Rattle.kp_world.proofs.ListLemmas.{all_at, in_at, one_more}
+use Rattle.kp_world.proofs.PrefixLemmas.{grown_others, sound_drawn}
+use Rattle.kp_world.proofs.SoundLemmas.{came_others, sound_new, sound_history}
+use Rattle.kp_world.proofs.ListLemmas.{all_at, all_place, in_at, one_more}
 
 -- ---- a packet comes
 
@@ -111,8 +110,8 @@ not_given : (c : ReplyContent) → IsError c → (id : ℕ) → c ≡ given id �
 not_given (Batches parts) e id is = absurd e
 not_given (Id code z) e id is = let zero : code ≡ pos 0 = cc in e zero
 
-fresh_apart : (ids : List ℕ) (id : ℕ) → IsFresh ids id → In id ids → ⊥
-fresh_apart ids id f i = all_at (λ (x : ℕ). x ≡ id → ⊥) ids id f i refl
+fresh_apart : (logs : List History) (ids : List ℕ) (id : ℕ) → IsFresh logs ids id → In id ids → ⊥
+fresh_apart logs ids id f i = all_at (λ (x : ℕ). x ≡ id → ⊥) ids id f.0 i refl
 
 came_error : {most : ℕ} (n : ℕ) (w : World) (o : Packet) (c : ReplyContent) (x : Response) → IsLawfulWithin most n w → In o w.packets → IsError c → Answers o.correlation c x
     → Lawful most n w.core w.logs w.handed w.packets (w.replies ++ reply o c x ∷ []) w.ids
@@ -120,13 +119,17 @@ came_error n w o c x g i e says =
     lawful_answered n w.core w.logs w.logs w.handed w.packets w.replies w.ids w.ids (reply o c x) g g.logs_count g.agree (λ id j. j)
     (gives_none n w.ids w.core (reply o c x) (g.went o i).before says (not_given c e)) (λ p h. no_parts p (length (handed_at p w.handed)) o.correlation w.packets (log_at p w.logs) c e)
 
-came_drawn : {most : ℕ} (n : ℕ) (w : World) (o : Packet) (c : ReplyContent) (x : Response) (id : ℕ) → IsLawfulWithin most n w → In o w.packets → IsFresh w.ids id → IsError c ⊎ (c ≡ given id) → Answers o.correlation c x
+came_drawn : {most : ℕ} (n : ℕ) (w : World) (o : Packet) (c : ReplyContent) (x : Response) (id : ℕ) → IsLawfulWithin most n w → In o w.packets → IsFresh w.logs w.ids id → IsError c ⊎ (c ≡ given id) → Answers o.correlation c x
     → Lawful most n w.core w.logs w.handed w.packets (w.replies ++ reply o c x ∷ []) (w.ids ++ id ∷ [])
 came_drawn {most = most} n w o c x id g i fresh what says =
     lawful_answered n w.core w.logs w.logs w.handed w.packets w.replies w.ids (w.ids ++ id ∷ []) (reply o c x) g g.logs_count agree (λ m j. In-append_left m w.ids (id ∷ []) j) (newest what) (λ p h. content p what)
   where
     agree : AllAgree most n (w.ids ++ id ∷ []) w.core w.handed w.logs w.packets w.replies
-    agree p h = record { sound = sound_drawn w.ids id (partition_at p w.core.partitions) (handed_at p w.handed) (log_at p w.logs) (g.agree p h).sound; steady = (g.agree p h).steady }
+    agree p h = record {
+      sound = sound_drawn w.ids id (partition_at p w.core.partitions) (handed_at p w.handed) (log_at p w.logs) (g.agree p h).sound (g.agree p h).steady.cut (fresh_apart w.logs w.ids id fresh)
+          (all_place (λ (l : History). HasNone l.records id) w.logs empty_history refl p fresh.1);
+      steady = (g.agree p h).steady;
+    }
 
     same_id : (m : ℕ) → given id ≡ given m → id ≡ m
     same_id m e = cc
@@ -137,7 +140,7 @@ came_drawn {most = most} n w o c x id g i fresh what says =
       before = (g.went o i).before;
       answers = says;
       drawn = λ m e. subst (λ (x : ℕ). In x (w.ids ++ id ∷ [])) (same_id m (sym is ∙ e)) (In-append_right id w.ids (id ∷ []) (In-head id []));
-      spare = λ m q e a x b p h at. fresh_apart w.ids id fresh ((g.agree p h).sound.drawn_all id (subst (λ (x : ℕ). In x (partition_at p w.core.partitions).ids) (sym (same_id m (sym is ∙ e))) at));
+      spare = λ m q e a x b p h at. fresh_apart w.logs w.ids id fresh ((g.agree p h).sound.drawn_all id (subst (λ (x : ℕ). In x (partition_at p w.core.partitions).ids) (sym (same_id m (sym is ∙ e))) at));
     }
 
     content : (p : ℕ) → IsError c ⊎ (c ≡ given id) → ContentHolds p (length (handed_at p w.handed)) o.correlation w.packets (log_at p w.logs).records c
@@ -151,7 +154,7 @@ came_id {most = most} n p w o d x g i honest says =
     subst (λ (ls : List History). Lawful most n w.core ls w.handed w.packets (w.replies ++ reply o d.content x ∷ []) d.ids) (sym honest.1)
     (⊎_elim
     (λ (e : IsError d.content × (d.ids ≡ w.ids)). subst (λ (is : List ℕ). Lawful most n w.core w.logs w.handed w.packets (w.replies ++ reply o d.content x ∷ []) is) (sym e.1) (came_error n w o d.content x g i e.0 says))
-    (λ (e : (id : ℕ) × IsFresh w.ids id × (d.ids ≡ w.ids ++ id ∷ []) × (IsError d.content ⊎ (d.content ≡ given id))).
+    (λ (e : (id : ℕ) × IsFresh w.logs w.ids id × (d.ids ≡ w.ids ++ id ∷ []) × (IsError d.content ⊎ (d.content ≡ given id))).
     subst (λ (is : List ℕ). Lawful most n w.core w.logs w.handed w.packets (w.replies ++ reply o d.content x ∷ []) is) (sym e.2) (came_drawn n w o d.content x e.0 g i e.1 e.3 says))
     honest.0)
 
@@ -165,17 +168,17 @@ lawful_arrives {most = most} n w o d x g i honest says = at_demand o.demand refl
     at_demand (Produce xs) is honest' = came_parts n w o xs d x g i is honest' says
     at_demand (InitProducerId p) is honest' = came_id n p w o d x g i honest' says
 
-lawful_others : {most : ℕ} (n p m : ℕ) (core : Core) (logs : List History) (handed : List (List HandedBatch)) (packets : List Packet) (replies : List Reply) (ids : List ℕ)
-    → p < length logs → Lawful most n core logs handed packets replies ids → Lawful most n core (logs_with_others p m logs) handed packets replies ids
-lawful_others {most = most} n p m core logs handed packets replies ids within g = record {
+lawful_others : {most : ℕ} (n p : ℕ) (records : List Stored) (core : Core) (logs : List History) (handed : List (List HandedBatch)) (packets : List Packet) (replies : List Reply) (ids : List ℕ)
+    → p < length logs → AreOthers ids records → Lawful most n core logs handed packets replies ids → Lawful most n core (logs_with_others p records logs) handed packets replies ids
+lawful_others {most = most} n p records core logs handed packets replies ids within others g = record {
   count = g.count;
   handed_count = g.handed_count;
-  logs_count = length-set logs p (with_others m other_record (log_at p logs)) ∙ g.logs_count;
+  logs_count = length-set logs p (with_records records (log_at p logs)) ∙ g.logs_count;
   window = g.window;
   some = g.some;
-  agree = agree_set n ids core handed logs packets replies p (with_others m other_record (log_at p logs)) within g.agree (record {
-    sound = sound_history ids (partition_at p core.partitions) (handed_at p handed) (log_at p logs) (with_others m other_record (log_at p logs)) mine.sound (came_others (sents (handed_at p handed)) (log_at p logs) m other_record mine.sound.came);
-    steady = steady_grown p core.correlation core.ended (partition_at p core.partitions) (handed_at p handed) (log_at p logs) (with_others m other_record (log_at p logs)) packets replies mine.steady (grown_others (partition_at p core.partitions) (handed_at p handed) (log_at p logs) m other_record mine.steady.cut);
+  agree = agree_set n ids core handed logs packets replies p (with_records records (log_at p logs)) within g.agree (record {
+    sound = sound_history ids (partition_at p core.partitions) (handed_at p handed) (log_at p logs) (with_records records (log_at p logs)) mine.sound (came_others ids (log_at p logs) records others mine.sound.came);
+    steady = steady_grown p core.correlation core.ended (partition_at p core.partitions) (handed_at p handed) (log_at p logs) (with_records records (log_at p logs)) packets replies mine.steady (grown_others ids (partition_at p core.partitions) (handed_at p handed) (log_at p logs) records mine.sound others mine.steady.cut);
   });
   went = g.went;
   gave = g.gave;
@@ -220,7 +223,7 @@ unfolding noted
 lawful_event n w g = record {
   client = lawful_client n w g;
   arrives = λ k o d x is honest says. lawful_arrives n w o d x g (in_at w.packets k o is) honest says;
-  others = λ p m within. lawful_others n p m w.core w.logs w.handed w.packets w.replies w.ids within g;
+  others = λ p records there within. lawful_others n p records w.core w.logs w.handed w.packets w.replies w.ids within there g;
 }
 
 pub lawful_step : {most : ℕ} (n : ℕ) (e : WorldEvent) (w v : World) → Steps w e v → IsLawfulWithin most n w → IsLawfulWithin most n v

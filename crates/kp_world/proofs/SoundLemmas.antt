@@ -1,15 +1,18 @@
 -- A partition, what was handed over for it, and its log: they agree, whatever happens.
 use Rattle.std.proofs.Common.{◌≡◌, ℕ, ◌+◌, ◌<◌, List, [], ◌∷◌, ◌++◌, length, map, pos, Some, None, refl, sym, ap, ◌∙◌, subst, ⊎_elim, arith, length-append}
-use Rattle.std.specs.Prelude.{Option, unwrap_or}
+use Rattle.std.specs.Prelude.{Option, unwrap_or, All}
 use Rattle.std.specs.List.{AllByRecursion, last_or}
 use Rattle.std.proofs.lemmas.Bool.{ne_eqb}
 use Rattle.std.proofs.lemmas.List.{map-append, length-map}
 use Rattle.std.proofs.lemmas.List.Concat.{flat_map-append}
+use Rattle.std.proofs.lemmas.List.Elements.{All-nil, All-weaker, All-push}
 use Rattle.kp_accum.specs.Queue.{Pending, body_of}
-use Rattle.kp_log.specs.HandedOver.{Follows, AreInSequence, CameBy}
-use Rattle.kp_log.specs.History.{Sent, History, stored_of, records_of, empty_history}
+use Rattle.kp_log.specs.declared.stored.Stored.{Stored}
+use Rattle.kp_log.specs.HandedOver.{Follows, AreInSequence, IsStored}
+use Rattle.kp_log.specs.History.{Sent, History, stored_of, records_of, with_batch, empty_history}
 use Rattle.kp_log.specs.Log.{count_of}
-use Rattle.kp_log.proofs.KeepingLemmas.{nothing_handed, one_more_handed, came_empty, came_of_more}
+use Rattle.kp_log.proofs.KeepingLemmas.{nothing_handed, one_more_handed}
+use Rattle.kp_log.proofs.OffsetLemmas.{stored_still, stands_last}
 use Rattle.kp_log.proofs.LogLemmas.{count_of-append, count_of_own, count_of_others}
 use Rattle.kp_log.proofs.PlaceLemmas.{In, In-nil, In-head, In-tail, In-append_left, In-append_right}
 use Rattle.kp_log.proofs.SequenceLemmas.{ids_apart}
@@ -18,10 +21,11 @@ use Rattle.kp_rules.specs.HandingOver.{opened_in, hand_over_in}
 use Rattle.kp_rules.specs.MaySend.{new_batch}
 use Rattle.kp_rules.specs.Partitions.{new_partition, present_id}
 use Rattle.kp_rules.specs.Records.{HandedBatch, Open, Partition}
+use Rattle.kp_world.specs.Delivering.{HasNone, AreOthers, with_records}
 use Rattle.kp_world.specs.Message.{sent_of}
 use Rattle.kp_world.proofs.KeepingLemmas.{HasItems, OpenIn, Keeps}
 use Rattle.kp_rules.proofs.ListLemmas.{all_weaker}
-use Rattle.kp_world.proofs.ListLemmas.{one_more}
+use Rattle.kp_world.proofs.ListLemmas.{all_at, one_more}
 use Rattle.kp_wire.proofs.ListLemmas.{all_append}
 
 -- the batches as a broker sees them
@@ -32,12 +36,38 @@ sents handed = map sent_of handed
 abbrev pub count_under : List ℕ → List HandedBatch → ℕ
 count_under ids handed = count_of (pos (unwrap_or (last_or None ids) 0)) (records_of (sents handed))
 
+-- A log: all batches that were appended stand in it as a whole, and it has no other records under an id that was drawn.
+pub record Came (drawn : List ℕ) (h : History) : Type 0 where
+  pub whole : All (IsStored h.records) h.batches
+  pub counted : (id : ℕ) → In id drawn → count_of (pos id) h.records ≡ count_of (pos id) (records_of h.batches)
+
+came_empty : (drawn : List ℕ) → Came drawn empty_history
+came_empty drawn = record { whole = All-nil (IsStored []); counted = λ id i. refl }
+
+pub came_others : (drawn : List ℕ) (h : History) (records : List Stored) → AreOthers drawn records → Came drawn h → Came drawn (with_records records h)
+came_others drawn h records none came = record {
+  whole = All-weaker (IsStored h.records) (IsStored (with_records records h).records) (stored_still h.records records) h.batches came.whole;
+  counted = λ id i. count_of-append (pos id) h.records records ∙ omega (arith, came.counted id i, all_at (HasNone records) drawn id none i);
+}
+
+-- it begins at the count of its id
+pub came_appended : (drawn : List ℕ) (h : History) (b : Sent) → 0 < length b.bodies → Came drawn h → count_of (pos b.id) h.records ≡ b.sequence → Came drawn (with_batch b h)
+came_appended drawn h b some came is = record {
+  whole = All-push (IsStored (with_batch b h).records) h.batches b
+      (All-weaker (IsStored h.records) (IsStored (with_batch b h).records) (stored_still h.records (stored_of b)) h.batches came.whole)
+      (record { some_records = some; base = pos (length h.records); stands = stands_last h.records b is });
+  counted = λ id i.
+      count_of-append (pos id) h.records (stored_of b)
+      ∙ omega (arith, came.counted id i, count_of-append (pos id) (records_of h.batches) (stored_of b ++ []), count_of-append (pos id) (stored_of b) [])
+      ∙ ap (count_of (pos id)) (sym (flat_map-append stored_of h.batches (b ∷ [])));
+}
+
 -- A partition, of all ids that were drawn, with what was handed over for it, and its history.
 pub record Sound (drawn : List ℕ) (t : Partition) (handed : List HandedBatch) (h : History) : Type 0 where
   pub number : t.next_number ≡ length handed
   pub sequence : t.next_sequence ≡ count_under t.ids handed
   pub in_sequence : AreInSequence (sents handed)
-  pub came : CameBy (sents handed) h
+  pub came : Came drawn h
   pub numbers : (b : HandedBatch) → In b handed → b.number < length handed
   pub under : (b : HandedBatch) → In b handed → In b.id t.ids
   pub present : In (present_id t) t.ids
@@ -63,7 +93,7 @@ sound_kept drawn t t' handed h s k = record {
 }
 
 pub sound_history : (drawn : List ℕ) (t : Partition) (handed : List HandedBatch) (h h' : History)
-    → Sound drawn t handed h → CameBy (sents handed) h' → Sound drawn t handed h'
+    → Sound drawn t handed h → Came drawn h' → Sound drawn t handed h'
 sound_history drawn t handed h h' s c = record {
   number = s.number;
   sequence = s.sequence;
@@ -77,21 +107,6 @@ sound_history drawn t handed h h' s c = record {
   queue = s.queue;
 }
 
-pub sound_drawn : (drawn : List ℕ) (id : ℕ) (t : Partition) (handed : List HandedBatch) (h : History)
-    → Sound drawn t handed h → Sound (drawn ++ id ∷ []) t handed h
-sound_drawn drawn id t handed h s = record {
-  number = s.number;
-  sequence = s.sequence;
-  in_sequence = s.in_sequence;
-  came = s.came;
-  numbers = s.numbers;
-  under = s.under;
-  present = s.present;
-  drawn_all = λ i at. In-append_left i drawn (id ∷ []) (s.drawn_all i at);
-  opens = s.opens;
-  queue = s.queue;
-}
-
 -- ---- the beginning
 
 pub sound_new : (id : ℕ) → Sound (id ∷ []) (new_partition id) [] empty_history
@@ -99,7 +114,7 @@ sound_new id = record {
   number = refl;
   sequence = refl;
   in_sequence = nothing_handed;
-  came = came_empty [];
+  came = came_empty (id ∷ []);
   numbers = λ b i. absurd (In-nil b i);
   under = λ b i. absurd (In-nil b i);
   present = In-head id [];
@@ -152,7 +167,7 @@ sound_handed drawn t handed h request front rest s queue = record {
   number = omega (arith, all, s.number);
   sequence = let m : count_under t.ids (handed ++ new_batch t front ∷ []) ≡ count_under t.ids handed + length front.items = count_one_more (present_id t) handed (new_batch t front) refl in omega (arith, s.sequence, m);
   in_sequence = subst AreInSequence (sym (sents_more handed (new_batch t front))) (one_more_handed (sents handed) (new t front) s.in_sequence follows);
-  came = subst (λ (ss : List Sent). CameBy ss h) (sym (sents_more handed (new_batch t front))) (came_of_more (sents handed) (new t front) h s.came);
+  came = s.came;
   numbers = λ x i. ⊎_elim (λ (j : In x handed). omega (arith, all, s.numbers x j)) (λ (same : x ≡ new_batch t front). let m : x.number ≡ t.next_number = ap (λ (y : HandedBatch). y.number) same in omega (arith, all, s.number, m)) (one_more handed (new_batch t front) x i);
   under = λ x i. ⊎_elim (λ (j : In x handed). s.under x j) (λ (same : x ≡ new_batch t front). subst (λ (y : HandedBatch). In y.id t.ids) (sym same) s.present) (one_more handed (new_batch t front) x i);
   present = s.present;
@@ -175,7 +190,7 @@ sound_handed drawn t handed h request front rest s queue = record {
 
 -- ---- a fresh id
 
-count_none : (id : ℕ) (handed : List HandedBatch) → ((b : HandedBatch) → In b handed → b.id ≡ id → ⊥)
+pub count_none : (id : ℕ) (handed : List HandedBatch) → ((b : HandedBatch) → In b handed → b.id ≡ id → ⊥)
     → count_of (pos id) (records_of (sents handed)) ≡ 0
 count_none id [] h = refl
 count_none id (b ∷ handed) h =

@@ -1,17 +1,15 @@
 -- In every world of a run, what was ever told of an item is true of what was handed over and of the
 -- logs.
-use Rattle.std.proofs.Common.{◌≡◌, ℕ, ◌<◌, Bool, true, false, List, [], ◌∷◌, ◌++◌, length, replicate, refl, sym, ap, ◌∙◌, subst, ⊎_elim}
+use Rattle.std.proofs.Common.{◌≡◌, ℕ, ◌<◌, Bool, true, false, List, [], ◌∷◌, ◌++◌, length, refl, sym, ap, ◌∙◌, subst, ⊎_elim}
 use Rattle.std.specs.Prelude.{if◌then◌else◌, ◌==◌}
 use Rattle.kp_log.specs.declared.stored.Stored.{Stored}
-use Rattle.kp_log.specs.History.{History, empty_history, with_others}
-use Rattle.kp_log.specs.Log.{stored_as, NO_ID}
+use Rattle.kp_log.specs.History.{History, empty_history}
 use Rattle.kp_rules.specs.Requesting.{request_step}
 use Rattle.kp_rules.specs.Next.{Sending}
 use Rattle.kp_rules.specs.Records.{Demand, Produce, InitProducerId, HandedBatch}
 use Rattle.kp_rules.specs.Requesting.{Packet}
 use Rattle.kp_world.specs.Events.{WorldEvent}
-use Rattle.kp_world.specs.Delivering.{log_at, Delivery, Delivers}
-use Rattle.kp_world.specs.Loopback.{other_record, logs_with_others}
+use Rattle.kp_world.specs.Delivering.{log_at, Delivery, Delivers, with_records, logs_with_others}
 use Rattle.kp_world.specs.Noting.{noted}
 use Rattle.kp_world.specs.Run.{with_delivery, Steps, IsReached}
 use Rattle.kp_world.specs.World.{Happened, World, Opening, opening}
@@ -54,10 +52,10 @@ unfolding Delivers
 grown_logs n w o d g i (Produce xs) is honest p = (parts_came n w o xs d.logs honest.0 g i is honest.1).grown p
 grown_logs n w o d g i (InitProducerId q) is honest p = ([], ap (λ (ls : List History). (log_at p ls).records) honest.1 ∙ sym (append-nil (log_at p w.logs).records))
 
-others_grown : (p m : ℕ) (logs : List History) (q : ℕ) → q < length logs → (more : List Stored) × ((log_at q (logs_with_others p m logs)).records ≡ (log_at q logs).records ++ more)
-others_grown p m logs q within =
-    at_set (λ (l : History). (more : List Stored) × (l.records ≡ (log_at q logs).records ++ more)) logs p q (with_others m other_record (log_at p logs)) empty_history
-    (λ e. (subst (λ (n : ℕ). n < length logs) e within, (stored_as NO_ID (replicate m other_record), ap (λ (n : ℕ). (log_at n logs).records ++ stored_as NO_ID (replicate m other_record)) (sym e))))
+others_grown : (p : ℕ) (records : List Stored) (logs : List History) (q : ℕ) → q < length logs → (more : List Stored) × ((log_at q (logs_with_others p records logs)).records ≡ (log_at q logs).records ++ more)
+others_grown p records logs q within =
+    at_set (λ (l : History). (more : List Stored) × (l.records ≡ (log_at q logs).records ++ more)) logs p q (with_records records (log_at p logs)) empty_history
+    (λ e. (subst (λ (n : ℕ). n < length logs) e within, (records, ap (λ (n : ℕ). (log_at n logs).records ++ records) (sym e))))
     ([], sym (append-nil (log_at q logs).records))
 
 -- ---- every step
@@ -102,7 +100,7 @@ unfolding with_delivery noted
 grows_step n e w v s g = at_step (λ e. Grows n w) w (record {
   client = grows_event n w g;
   arrives = λ k o d x went honest says. record { handed = λ p b h i. i; logs = λ p h. grown_logs n w o d g (in_at w.packets k o went) o.demand refl honest p };
-  others = λ p m there. record { handed = λ q b h i. i; logs = λ q h. others_grown p m w.logs q (subst (λ (k : ℕ). q < k) (sym g.logs_count) h) };
+  others = λ p records others there. record { handed = λ q b h i. i; logs = λ q h. others_grown p records w.logs q (subst (λ (k : ℕ). q < k) (sym g.logs_count) h) };
 }) e v s
 
 -- ---- what was told is true

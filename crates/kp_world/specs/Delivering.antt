@@ -1,8 +1,10 @@
 -- A packet at the broker: what any honest one may do with it.
 use Rattle.std.specs.Prelude.{◌≡◌, ◌⊎◌, ℕ, pos, List, [], ◌∷◌, ◌++◌, slice_index_or, slice_set}
 use Rattle.std.specs.List.{AllByRecursion}
+use Rattle.kp_log.specs.declared.stored.Stored.{Stored}
 use Rattle.kp_log.specs.BrokerStep.{BrokerStep}
 use Rattle.kp_log.specs.History.{History, empty_history}
+use Rattle.kp_log.specs.Log.{count_of}
 use Rattle.kp_rules.specs.Next.{Sending}
 use Rattle.kp_rules.specs.Records.{Demand, Produce, InitProducerId}
 use Rattle.kp_world.specs.Message.{sent_of}
@@ -37,9 +39,14 @@ PartsDeliver before (x ∷ xs) [] after = ⊥
 
 -- ---- ids
 
--- the id was never drawn before
-abbrev pub IsFresh : List ℕ → ℕ → Type 0
-IsFresh ids id = AllByRecursion (λ drawn. drawn ≡ id → ⊥) ids
+-- no record is under this id
+abbrev pub HasNone : List Stored → ℕ → Type 0
+HasNone records id = count_of (pos id) records ≡ 0
+
+-- The id was never drawn before, and no log has a record under it.
+abbrev pub IsFresh : List History → List ℕ → ℕ → Type 0
+IsFresh logs ids id =
+    AllByRecursion (λ drawn. drawn ≡ id → ⊥) ids × AllByRecursion (λ h. HasNone h.records id) logs
 
 abbrev pub IsError : ReplyContent → Type 0
 IsError (Id code id) = code ≡ pos 0 → ⊥
@@ -50,10 +57,10 @@ given id = Id (pos 0) (pos id)
 
 -- No id was drawn and an error is answered, or a fresh one was drawn and it or an error is
 -- answered.
-abbrev pub IdDelivers : List ℕ → ReplyContent → List ℕ → Type 0
-IdDelivers before content after =
+abbrev pub IdDelivers : List History → List ℕ → ReplyContent → List ℕ → Type 0
+IdDelivers logs before content after =
     (IsError content × (after ≡ before))
-    ⊎ ((id : ℕ) × IsFresh before id × (after ≡ before ++ id ∷ [])
+    ⊎ ((id : ℕ) × IsFresh logs before id × (after ≡ before ++ id ∷ [])
     × (IsError content ⊎ (content ≡ given id)))
 
 -- ---- a packet
@@ -62,4 +69,16 @@ unfoldable pub Delivers : World → Demand Sending → Delivery → Type 0
 Delivers w (Produce xs) d =
     (answers : List PartAnswer) × PartsDeliver w.logs xs answers d.logs
     × (d.content ≡ Batches answers) × (d.ids ≡ w.ids)
-Delivers w (InitProducerId p) d = IdDelivers w.ids d.content d.ids × (d.logs ≡ w.logs)
+Delivers w (InitProducerId p) d = IdDelivers w.logs w.ids d.content d.ids × (d.logs ≡ w.logs)
+
+-- ---- other producers
+
+-- No record is under an id that was ever drawn for this producer.
+abbrev pub AreOthers : List ℕ → List Stored → Type 0
+AreOthers ids records = AllByRecursion (HasNone records) ids
+
+abbrev pub with_records : List Stored → History → History
+with_records records h = record { records = h.records ++ records; batches = h.batches }
+
+abbrev pub logs_with_others : ℕ → List Stored → List History → List History
+logs_with_others p records logs = slice_set logs p (with_records records (log_at p logs))

@@ -1,6 +1,8 @@
 -- What may happen in a world. Senders, partitions, packets and replies are told by their numbers, from 0.
-use Rattle.std.specs.Prelude.{ℕ, List, [], ◌∷◌, Some, None}
+use Rattle.std.specs.Prelude.{ℕ, List, [], ◌∷◌, Some, None, replicate, codes}
 use Rattle.kp_batch.specs.declared.record.Record.{Record}
+use Rattle.kp_log.specs.declared.stored.Stored.{Stored}
+use Rattle.kp_log.specs.Log.{stored_as, NO_ID}
 use Rattle.kp_world.specs.declared.event.Event.{Event}
 use Rattle.kp_world.specs.declared.event.Event.TheVariants as schedule
 
@@ -13,15 +15,19 @@ pub data WorldEvent : Type 0 where
   Deliver : (packet : ℕ) → WorldEvent  -- a packet comes to the broker, whose answer becomes a reply
   Reply : (reply : ℕ) → WorldEvent  -- a reply comes to the producer
   Drop : WorldEvent  -- the connection is gone
-  Other : (partition count : ℕ) → WorldEvent  -- another producer has so many records appended
+  Other : (partition : ℕ) → List Stored → WorldEvent  -- records of other producers are appended
   Close : WorldEvent  -- no record is accepted from now on, and what was accepted is to be sent
   End : WorldEvent  -- the producer gives up what is left
   Flush : WorldEvent  -- the producer is to send all that it was given
 
--- ---- the events of a schedule, in which a record has no key, and is of the moment that the clock shows
+-- ---- the events of a schedule, in which a record has no key, and is of the moment that the clock shows;
+-- another producer's have no producer id
 
 abbrev pub record_at : ℕ → List ℕ → Record
 record_at now value = record { timestamp = now; key = None; value = Some value; headers = [] }
+
+abbrev pub other_records : ℕ → List Stored
+other_records n = stored_as NO_ID (replicate n (record_at 0 (codes "other")))
 
 abbrev pub meant : ℕ → Event → WorldEvent
 meant now (schedule.Accept s p value) = Accept s p now (record_at now value)
@@ -32,7 +38,7 @@ meant now schedule.Send = Send
 meant now (schedule.Deliver k treatment) = Deliver k
 meant now (schedule.Reply j) = Reply j
 meant now schedule.Drop = Drop
-meant now (schedule.Other p n) = Other p n
+meant now (schedule.Other p n) = Other p (other_records n)
 meant now schedule.Close = Close
 meant now schedule.End = End
 meant now schedule.Flush = Flush

@@ -1,14 +1,11 @@
--- A packet at the loopback broker, which goes by the sequence rule unless it is told otherwise; and
--- other producers.
-use Rattle.std.specs.Prelude.{ℕ, ◌+◌, ℤ, negsuc, List, [], ◌∷◌, ◌++◌, length, slice_set, codes}
-use Rattle.kp_batch.specs.declared.record.Record.{Record}
+-- A packet at the loopback broker, which goes by the sequence rule unless it is told otherwise.
+use Rattle.std.specs.Prelude.{ℕ, ◌+◌, ℤ, negsuc, List, [], ◌∷◌, ◌++◌, length, slice_set}
 use Rattle.kp_log.specs.BrokerStep.{Offered, offered_to, refused_unseen, offered_late}
-use Rattle.kp_log.specs.History.{Sent, History, with_others}
+use Rattle.kp_log.specs.History.{Sent, History}
 use Rattle.kp_rules.specs.Next.{Sending}
 use Rattle.kp_rules.specs.Records.{Demand, Produce, InitProducerId}
 use Rattle.kp_world.specs.declared.event.Treatment.{Treatment}
 use Rattle.kp_world.specs.declared.event.Treatment.TheVariants.{Judged, Refused, Late}
-use Rattle.kp_world.specs.Events.{record_at}
 use Rattle.kp_world.specs.Delivering.{Delivery, log_at, given}
 use Rattle.kp_world.specs.Message.{sent_of}
 use Rattle.kp_world.specs.World.{PartAnswer, ReplyContent, Batches, Id, World, FIRST_ID}
@@ -66,11 +63,3 @@ delivered how w (Produce xs) = record {
   content = Batches (answers_to how w.logs xs);
 }
 delivered how w (InitProducerId p) = id_delivered how w
-
--- ---- another producer
-
-abbrev pub other_record : Record
-other_record = record_at 0 (codes "other")
-
-abbrev pub logs_with_others : ℕ → ℕ → List History → List History
-logs_with_others p n logs = slice_set logs p (with_others n other_record (log_at p logs))

@@ -7,7 +7,7 @@ use Rattle.kp_world.specs.declared.event.Event.TheVariants.{Deliver, Other}
 use Rattle.kp_world.specs.declared.event.Treatment.{Treatment}
 use Rattle.kp_world.specs.declared.event.Treatment.TheVariants.{Judged, Refused, Late}
 use Rattle.kp_world.specs.Client.{client}
-use Rattle.kp_world.specs.Events.{meant}
+use Rattle.kp_world.specs.Events.{other_records, meant}
 use Rattle.kp_world.specs.Loopback.{delivered}
 use Rattle.kp_world.specs.Message.{response_of}
 use Rattle.kp_world.specs.Run.{with_delivery, with_others_at}
@@ -38,7 +38,7 @@ arrived k how (Some o) w =
 
 unfoldable pub stepped : Event → World → Option World
 stepped (Deliver k how) w = arrived k how (slice_get w.packets k) w
-stepped (Other p n) w = with_others_at p n w
+stepped (Other p n) w = with_others_at p (other_records n) w
 stepped e w = client (meant w.moment e) w
 
 -- The world after the events, or the number of the first that names what isn't there, from n on.

@@ -2,13 +2,13 @@
 -- honest broker.
 use Rattle.std.specs.Prelude.{◌≡◌, ℕ, List, [], ◌∷◌, ◌++◌, map, length, Option, Some, slice_get}
 use Rattle.kp_frames.specs.declared.response.Response.{Response}
+use Rattle.kp_log.specs.declared.stored.Stored.{Stored}
 use Rattle.kp_rules.specs.Opening.{MayOpen}
 use Rattle.kp_rules.specs.Requesting.{Packet}
 use Rattle.kp_world.specs.Events.{WorldEvent, Deliver, Other}
 use Rattle.kp_world.specs.Client.{client, has_partition, only_if}
-use Rattle.kp_world.specs.Delivering.{Delivery, Delivers}
+use Rattle.kp_world.specs.Delivering.{Delivery, Delivers, AreOthers, logs_with_others}
 use Rattle.kp_world.specs.Line.{Line, AnswerPart, AnswerBatches, AnswerInit}
-use Rattle.kp_world.specs.Loopback.{logs_with_others}
 use Rattle.kp_world.specs.Message.{Answers}
 use Rattle.kp_world.specs.Noting.{only_noted}
 use Rattle.kp_world.specs.World.{PartAnswer, ReplyContent, Batches, Id, Reply, World, Opening, opening}
@@ -35,9 +35,10 @@ with_delivery o d response w = only_noted (answer_line (length w.replies) d.cont
 })
 
 -- other producers' records come in between
-unfoldable pub with_others_at : ℕ → ℕ → World → Option World
-with_others_at p n w =
-    only_if (has_partition p w) (only_noted [] (record w { logs = logs_with_others p n w.logs }))
+unfoldable pub with_others_at : ℕ → List Stored → World → Option World
+with_others_at p records w =
+    only_if (has_partition p w)
+    (only_noted [] (record w { logs = logs_with_others p records w.logs }))
 
 -- ---- a step
 
@@ -58,7 +59,8 @@ Producer = WorldEvent → World → Option World
 
 abbrev pub StepsBy : Producer → World → WorldEvent → World → Type 0
 StepsBy producer w (Deliver k) v = Arrives w k v
-StepsBy producer w (Other p n) v = with_others_at p n w ≡ Some v
+StepsBy producer w (Other p records) v =
+    AreOthers w.ids records × (with_others_at p records w ≡ Some v)
 StepsBy producer w e v = producer e w ≡ Some v
 
 unfoldable pub Steps : World → WorldEvent → World → Type 0

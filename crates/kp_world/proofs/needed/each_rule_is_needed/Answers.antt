@@ -40,7 +40,7 @@ second_first = breaks (sending_by without_waiting) (AppendLate ∷ []) one_each 
 
 sequence_told : Breaks (hearing_as at_sequences) one_each stored_behind_another ToldOffsetsStand
 unfolding evaluated
-sequence_told = breaks (hearing_as at_sequences) (Append ∷ []) one_each stored_behind_another ToldOffsetsStand one_each_passes refl (tt, tt) _ offset_is_anothers refl
+sequence_told = breaks (hearing_as at_sequences) (Append ∷ []) one_each stored_behind_another ToldOffsetsStand one_each_passes refl ((refl, tt), (tt, tt)) _ offset_is_anothers refl
 
 stale_settles : Breaks (hearing_as to_oldest) one_each answered_again ToldOffsetsStand
 unfolding evaluated
@@ -59,7 +59,7 @@ id_kept : Breaks keeping_ids two_an_id goes_on_under_an_id ToldOffsetsStand
 unfolding evaluated
 id_kept =
     breaks keeping_ids (Append ∷ Append ∷ GiveId ∷ Repeat 0 ∷ []) two_an_id goes_on_under_an_id ToldOffsetsStand two_an_id_passes refl
-    (tt, (tt, (refl, ((refl, refl, refl), tt)))) _ offset_is_early refl
+    (tt, (tt, ((refl, (refl, tt)), ((refl, refl, refl), tt)))) _ offset_is_early refl
 
 pub returns : goal.returns
 returns c = record {
