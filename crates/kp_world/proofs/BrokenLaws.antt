@@ -32,12 +32,12 @@ use Rattle.kp_world.specs.Accounts.{items_handed, is_among, is_same, told_unsent
 use Rattle.kp_world.specs.Delivering.{log_at}
 use Rattle.kp_world.specs.LogLaws.{partition_of, own_records, as_stored, IsPrefix, WasTold, EachDeliveryHasItsOffset, ToldOffsetsStand, StandsAt}
 use Rattle.kp_world.specs.Message.{sent_of}
-use Rattle.kp_world.specs.Causes.{MayBeTold, TellsByRule}
+use Rattle.kp_world.specs.Causes.{call_of, MayBeTold, TellsByRule}
 use Rattle.kp_world.specs.OtherRules.{Breaks, TellsAgainstRule}
 use Rattle.kp_world.specs.Run.{Producer}
 use Rattle.kp_world.specs.World.{World, opening, scheduled}
 use Rattle.kp_log.proofs.PlaceLemmas.{In-from_contains}
-use Rattle.kp_world.specs.Events.{events_of}
+use Rattle.kp_world.specs.Events.{WorldEvent, events_of}
 use Rattle.kp_world.specs.Events as event
 use Rattle.kp_world.proofs.LeavingLemmas.{awaits_is}
 use Rattle.kp_world.proofs.ListLemmas.{all_at}
@@ -218,9 +218,10 @@ wait_at (t ∷ ts) (suc p) e = wait_at ts p (and_parts (all_wait t) (list_all al
 abbrev waits : Attempt → Bool
 waits a = elim a [ InFlight c ↦ false | Waiting since ↦ true ]
 
-none_delivered : (s : Core) (t : Told) (offset : ℤ) → list_all all_wait s.partitions ≡ true → t.outcome ≡ Delivered offset → MayBeTold s t → ⊥
+none_delivered : (s : Core) (c : Option Telling) (t : Told) (offset : ℤ) → list_all all_wait s.partitions ≡ true → t.outcome ≡ Delivered offset → MayBeTold s c t → ⊥
 unfolding MayTell
-none_delivered s t offset still is h = at_call h.0 (subst (MayTell s h.0 t.item) is h.1)
+none_delivered s None t offset still is h = h
+none_delivered s (Some c) t offset still is h = at_call c (subst (MayTell s c t.item) is h)
   where
     at_call : (call : Telling) → MayTell s call t.item (Delivered offset) → ⊥
     at_call (Append i) m = m
@@ -241,13 +242,13 @@ last_passes test xs x none e =
     at_test true e' = refl
     at_test false e' = absurd cc
 
-pub told_against_rule : (w v : World) → list_all all_wait w.core.partitions ≡ true → has_told (λ t. is_delivered t.outcome) w ≡ false → has_told (λ t. is_delivered t.outcome) v ≡ true
-    → TellsByRule w v → ⊥
-told_against_rule w v still none some law =
+pub told_against_rule : (e : WorldEvent) (w v : World) → list_all all_wait w.core.partitions ≡ true → has_told (λ t. is_delivered t.outcome) w ≡ false → has_told (λ t. is_delivered t.outcome) v ≡ true
+    → TellsByRule e w v → ⊥
+told_against_rule x w v still none some law =
     let last = last_passes (λ h. list_any (λ t. is_delivered t.outcome) h.told) w.past law.event none (sym (ap (list_any (λ h. list_any (λ t. is_delivered t.outcome) h.told)) law.noted) ∙ some) in
     let t = any_contained (λ t. is_delivered t.outcome) law.event.told last in
     let offset = delivered_is t.0.outcome t.2 in
-    none_delivered w.core t.0 offset.0 still offset.1 (all_at (MayBeTold w.core) law.event.told t.0 law.ruled (In-from_contains law.event.told t.0 t.1))
+    none_delivered w.core (call_of x w) t.0 offset.0 still offset.1 (all_at (MayBeTold w.core (call_of x w)) law.event.told t.0 law.ruled (In-from_contains law.event.told t.0 t.1))
 
 -- ---- a schedule that breaks a law
 
@@ -263,6 +264,6 @@ breaks producer cs c es Law e t h test none is = record {
 
 pub breaks_outcome_rule : (producer : Producer) (cs : List Choice) (c : Config) (es : List Event) (j : ℕ) → checked c ≡ Ok tt → are_there producer cs (events_of 0 es) (opening (scheduled c 1 1)) ≡ true
     → AreHonest producer cs (events_of 0 es) (opening (scheduled c 1 1)) → (v : World) → producer (event.Reply j) (end_of producer cs (events_of 0 es) (opening (scheduled c 1 1))) ≡ Some v
-    → (TellsByRule (end_of producer cs (events_of 0 es) (opening (scheduled c 1 1))) v → ⊥) → TellsAgainstRule producer c es (event.Reply j)
+    → (TellsByRule (event.Reply j) (end_of producer cs (events_of 0 es) (opening (scheduled c 1 1))) v → ⊥) → TellsAgainstRule producer c es (event.Reply j)
 breaks_outcome_rule producer cs c es j e t h v step broken =
     record { may_begin = may_begin c e; before = end_of producer cs (events_of 0 es) (opening (scheduled c 1 1)); run = run_of producer cs (events_of 0 es) (opening (scheduled c 1 1)) t h; after = v; step = step; broken = broken }

@@ -1,23 +1,25 @@
 -- Whatever an event tells is told by a call on the core, and so a case of the outcome rule.
-use Rattle.std.proofs.Common.{◌≡◌, true, List, [], ◌∷◌, refl, ap, ◌++◌}
+use Rattle.std.proofs.Common.{◌≡◌, true, List, [], ◌∷◌, refl, sym, ap, subst, ◌++◌}
 use Rattle.kp_rules.specs.Requesting.{request_step}
 use Rattle.kp_rules.specs.Dropping.{disconnect_step}
 use Rattle.kp_rules.specs.Flush.{flush_step}
 use Rattle.kp_rules.specs.OutcomeRule.{Telling, MayTell, told_in}
 use Rattle.kp_rules.specs.Records.{Core, Told}
 use Rattle.kp_world.specs.Events.{WorldEvent}
-use Rattle.kp_world.specs.Accepting.{item_for, with_accepted, with_taken}
+use Rattle.kp_world.specs.Events as world
+use Rattle.kp_world.specs.Accepting.{accepted_by, taken_by, item_for, with_accepted, with_taken}
 use Rattle.kp_world.specs.Client.{with_packet, flush_line}
 use Rattle.kp_world.specs.Line.{Line, Full}
 use Rattle.kp_world.specs.Delivering.{logs_with_others}
 use Rattle.kp_world.specs.Noting.{noted, ends_flush}
 use Rattle.kp_world.specs.Run.{with_delivery, Steps}
 use Rattle.kp_world.specs.World.{Reply, World, Happened}
+use Rattle.std.specs.Prelude.{Option, Some, None, option_map, slice_get}
 use Rattle.std.specs.List.{AllByRecursion}
+use Rattle.kp_accum.specs.declared.item.Item.{Item}
 use Rattle.kp_rules.specs.OutcomeRule as call
 use Rattle.kp_rules.proofs.OutcomeLemmas.{each_outcome}
-use Rattle.kp_world.specs.Causes.{MayBeTold, TellsByRule}
-use Rattle.kp_rules.proofs.ListLemmas.{all_weaker}
+use Rattle.kp_world.specs.Causes.{call_of, told_by, MayBeTold, TellsByRule}
 use Rattle.kp_world.proofs.EventLemmas.{at_sent, at_taken, OfEvent, at_step}
 use Rattle.kp_world.proofs.ListLemmas.{in_at}
 use Rattle.kp_log.proofs.PlaceLemmas.{In}
@@ -32,57 +34,67 @@ IsMade w c = Unit {0}
 abbrev pub MayBeToldIn : World → Told → Type 0
 MayBeToldIn w t = (c : Telling) × IsMade w c × MayTell w.core c t.item t.outcome
 
--- the event between these worlds, and what it told
-pub record TellsIn (before after : World) : Type 0 where
-  pub event : Happened
-  pub noted : after.past ≡ before.past ++ event ∷ []
-  pub ruled : AllByRecursion (MayBeToldIn before) event.told
+pub told_in_it : (w : World) (e : WorldEvent) (t : Told) → MayBeTold w.core (call_of e w) t → MayBeToldIn w t
+told_in_it w (world.Take s) t m = at_item (slice_get (accepted_by s w) (taken_by s w)) m
+  where
+    at_item : (o : Option Item) → MayBeTold w.core (option_map call.Append o) t → MayBeToldIn w t
+    at_item (Some i) m' = (call.Append i, tt, m')
+    at_item None m' = absurd m'
+told_in_it w world.Tick t m = (call.Tick w.moment, tt, m)
+told_in_it w (world.Reply j) t m = at_reply (slice_get w.replies j) refl m
+  where
+    at_reply : (o : Option Reply) → slice_get w.replies j ≡ o → MayBeTold w.core (option_map (λ r. call.Reply w.moment r.response) o) t → MayBeToldIn w t
+    at_reply (Some r) is m' = (call.Reply w.moment r.response, (r, in_at w.replies j r is, refl), m')
+    at_reply None is m' = absurd m'
+told_in_it w world.End t m = (call.End, tt, m)
+told_in_it w (world.Accept s p at body) t m = absurd m
+told_in_it w (world.Now moment) t m = absurd m
+told_in_it w world.Send t m = absurd m
+told_in_it w (world.Deliver k) t m = absurd m
+told_in_it w world.Drop t m = absurd m
+told_in_it w (world.Other p records) t m = absurd m
+told_in_it w world.Close t m = absurd m
+told_in_it w world.Flush t m = absurd m
 
-by_call : (w : World) (c : Telling) → IsMade w c → AllByRecursion (MayBeToldIn w) (told_in w.core c)
-by_call w c made = all_weaker (λ (t : Told). MayTell w.core c t.item t.outcome) (MayBeToldIn w) (λ t m. (c, made, m)) (told_in w.core c) (each_outcome w.core c)
+all_ruled : (s : Core) (c : Option Telling) → AllByRecursion (MayBeTold s c) (told_by c s)
+all_ruled s (Some c) = each_outcome s c
+all_ruled s None = tt
 
 -- ---- what is noted
 
-ruled_on : (w x : World) (core : Core) (answer : List Line) (told : List Told) → x.past ≡ w.past → AllByRecursion (MayBeToldIn w) told → TellsIn w (noted core answer told x)
+ruled_on : (e : WorldEvent) (w x : World) (core : Core) (answer : List Line) (told : List Told) → x.past ≡ w.past → told ≡ told_by (call_of e w) w.core → TellsByRule e w (noted core answer told x)
 unfolding noted
-ruled_on w x core answer told p r = record {
+ruled_on e w x core answer told p is = record {
   event = record { answer = answer; told = told; flushed = ends_flush x.core core };
   noted = ap (λ (past : List Happened). past ++ (record { answer = answer; told = told; flushed = ends_flush x.core core }) ∷ []) p;
-  ruled = r;
+  told = is;
+  ruled = subst (AllByRecursion (MayBeTold w.core (call_of e w))) (sym is) (all_ruled w.core (call_of e w));
 }
-
-quiet : (w x : World) (core : Core) (answer : List Line) → x.past ≡ w.past → TellsIn w (noted core answer [] x)
-quiet w x core answer p = ruled_on w x core answer [] p tt
 
 -- ---- the events
 
-ruled_event : (w : World) → OfEvent (λ e. TellsIn w) w
+ruled_event : (w : World) → OfEvent (λ e. TellsByRule e w) w
 ruled_event w = record {
-  not_accepted = λ s p at body. (quiet w w w.core _ refl, quiet w w w.core _ refl);
-  accepted = λ s p at body here there shut small. quiet w (with_accepted (item_for s p at body w) w) w.core [] refl;
-  none_taken = λ s none. quiet w w w.core _ refl;
+  not_accepted = λ s p at body. (ruled_on (world.Accept s p at body) w w w.core _ [] refl refl, ruled_on (world.Accept s p at body) w w w.core _ [] refl refl);
+  accepted = λ s p at body here there shut small. ruled_on (world.Accept s p at body) w (with_accepted (item_for s p at body w) w) w.core [] [] refl refl;
+  none_taken = λ s none. ruled_on (world.Take s) w w w.core _ [] refl (sym (ap (λ (o : Option Item). told_by (option_map call.Append o) w.core) none));
   taken = λ s i here there.
-      let told = by_call w (call.Append i) tt in
-      at_taken (TellsIn w) s i w (ruled_on w (with_taken s w) _ [] _ refl told) (ruled_on w w _ (Full s ∷ []) _ refl told);
-  now = λ moment. quiet w (record w { moment = moment }) w.core [] refl;
-  tick = ruled_on w w _ _ _ refl (by_call w (call.Tick w.moment) tt);
-  send = let step = request_step w.moment w.core in at_sent (TellsIn w) w step.after step.answer (λ line. quiet w w _ _ refl) (λ o line. quiet w (with_packet o w) _ _ refl);
-  reply = λ j r there. ruled_on w w _ _ _ refl (by_call w (call.Reply w.moment r.response) (r, in_at w.replies j r there, refl));
-  lost = quiet w w (disconnect_step w.moment w.core) [] refl;
-  close = quiet w (record w { is_shut = true }) _ [] refl;
-  end = ruled_on w w _ _ _ refl (by_call w call.End tt);
-  flush = quiet w w (flush_step w.core) (flush_line w.core ∷ []) refl;
+      let told : told_in w.core (call.Append i) ≡ told_by (call_of (world.Take s) w) w.core = sym (ap (λ (o : Option Item). told_by (option_map call.Append o) w.core) there) in
+      at_taken (TellsByRule (world.Take s) w) s i w (ruled_on (world.Take s) w (with_taken s w) _ [] _ refl told) (ruled_on (world.Take s) w w _ (Full s ∷ []) _ refl told);
+  now = λ moment. ruled_on (world.Now moment) w (record w { moment = moment }) w.core [] [] refl refl;
+  tick = ruled_on world.Tick w w _ _ _ refl refl;
+  send = let step = request_step w.moment w.core in at_sent (TellsByRule world.Send w) w step.after step.answer (λ line. ruled_on world.Send w w _ _ [] refl refl) (λ o line. ruled_on world.Send w (with_packet o w) _ _ [] refl refl);
+  reply = λ j r there. ruled_on (world.Reply j) w w _ _ _ refl (sym (ap (λ (o : Option Reply). told_by (option_map (λ (x : Reply). call.Reply w.moment x.response) o) w.core) there));
+  lost = ruled_on world.Drop w w (disconnect_step w.moment w.core) [] [] refl refl;
+  close = ruled_on world.Close w (record w { is_shut = true }) _ [] [] refl refl;
+  end = ruled_on world.End w w _ _ _ refl refl;
+  flush = ruled_on world.Flush w w (flush_step w.core) (flush_line w.core ∷ []) [] refl refl;
 }
 
-pub told_step : (w : World) (e : WorldEvent) (v : World) → Steps w e v → TellsIn w v
+pub ruled_step : (w : World) (e : WorldEvent) (v : World) → Steps w e v → TellsByRule e w v
 unfolding with_delivery
-told_step w e v s = at_step (λ e. TellsIn w) w (record {
+ruled_step w e v s = at_step (λ e. TellsByRule e w) w (record {
   client = ruled_event w;
-  arrives = λ k o d x went honest says. quiet w _ w.core _ refl;
-  others = λ p records others there. quiet w (record w { logs = logs_with_others p records w.logs }) w.core [] refl;
+  arrives = λ k o d x went honest says. ruled_on (world.Deliver k) w _ w.core _ [] refl refl;
+  others = λ p records others there. ruled_on (world.Other p records) w (record w { logs = logs_with_others p records w.logs }) w.core [] [] refl refl;
 }) e v s
-
-pub ruled_step : (w : World) (e : WorldEvent) (v : World) → Steps w e v → TellsByRule w v
-ruled_step w e v s =
-    let tells = told_step w e v s in
-    record { event = tells.event; noted = tells.noted; ruled = all_weaker (MayBeToldIn w) (MayBeTold w.core) (λ t m. (m.0, m.2)) tells.event.told tells.ruled }

@@ -16,13 +16,14 @@ use Rattle.kp_world.specs.World.{Happened, World, Opening, opening}
 use Rattle.kp_world.proofs.RunLemmas.{parts_came}
 use Rattle.std.proofs.lemmas.List.{length-set, append-nil}
 use Rattle.kp_log.proofs.PlaceLemmas.{In, In-nil, In-append_left}
+use Rattle.kp_world.specs.Causes.{call_of, MayBeTold, TellsByRule}
 use Rattle.kp_world.specs.Client.{handed_at, handed_with, grown_by, with_sending, with_sendings}
 use Rattle.kp_world.proofs.AccountLemmas.{IsAccounted}
 use Rattle.kp_world.proofs.AccountRunLemmas.{IsInOrder, order_step, order_opening}
 use Rattle.kp_world.proofs.DeliveredLemmas.{Truly, AllTruly, truly_grown, truly_told}
 use Rattle.kp_world.proofs.EventLemmas.{at_sent, at_taken, OfEvent, at_step, at_run}
 use Rattle.kp_world.proofs.LawfulLemmas.{IsLawful}
-use Rattle.kp_world.proofs.RuledLemmas.{MayBeToldIn, TellsIn, told_step}
+use Rattle.kp_world.proofs.RuledLemmas.{told_in_it, ruled_step}
 use Rattle.kp_rules.proofs.ListLemmas.{at_set}
 use Rattle.kp_world.proofs.ListLemmas.{all_at, in_at, one_more}
 
@@ -111,14 +112,14 @@ IsTruthful n w = (h : Happened) → In h w.past → AllTruly n w.handed w.logs h
 truthful_step : (n : ℕ) (e : WorldEvent) (w v : World) → Steps w e v → IsLawful n w → IsAccounted w → IsTruthful n w → IsTruthful n v
 truthful_step n e w v s g a before h i t j = truly_grown n w.handed v.handed w.logs v.logs grows.handed grows.logs t (⊎_elim (λ (k : In h w.past). before h k t j) (λ (same : h ≡ tells.event). new (subst (λ (x : Happened). In t x.told) same j)) (one_more w.past tells.event h (subst (In h) tells.noted i)))
   where
-    tells : TellsIn w v
-    tells = told_step w e v s
+    tells : TellsByRule e w v
+    tells = ruled_step w e v s
 
     grows : Grows n w v
     grows = grows_step n e w v s g
 
     new : In t tells.event.told → Truly n w.handed w.logs t
-    new k = truly_told n w t g a (all_at (MayBeToldIn w) tells.event.told t tells.ruled k)
+    new k = truly_told n w t g a (told_in_it w e t (all_at (MayBeTold w.core (call_of e w)) tells.event.told t tells.ruled k))
 
 all_step : (n : ℕ) (w : World) → IsInOrder n w × IsTruthful n w → (e : WorldEvent) (v : World) → Steps w e v → IsInOrder n v × IsTruthful n v
 all_step n w h e v s = (order_step n w h.0 e v s, truthful_step n e w v s h.0.0 h.0.1 h.1)

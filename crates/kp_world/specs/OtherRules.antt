@@ -200,7 +200,7 @@ pub record TellsAgainstRule (producer : Producer) (c : Config) (es : List Event)
   pub run : RunBy (StepsBy producer) (opening (scheduled c 1 1)) (events_of 0 es) before
   pub after : World
   pub step : StepsBy producer before e after
-  pub broken : TellsByRule before after → ⊥
+  pub broken : TellsByRule e before after → ⊥
 
 -- ---- schedules
 

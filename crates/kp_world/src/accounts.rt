@@ -53,7 +53,7 @@ pub fn memory_is_of_what_is_not_told()
         → IsReached o es w → IsUsedByUntold w }
 {}
 
-/// Whatever an event tells of an item is a case of the outcome rule.
+/// An event tells what the one call on the core that it makes tells, and each of it is a case of the outcome rule.
 pub fn each_outcome_has_its_cause()
-    ensures { (w : World) (e : WorldEvent) (v : World) → Steps w e v → TellsByRule w v }
+    ensures { (w : World) (e : WorldEvent) (v : World) → Steps w e v → TellsByRule e w v }
 {}

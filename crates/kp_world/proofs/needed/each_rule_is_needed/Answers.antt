@@ -49,7 +49,7 @@ stale_settles = breaks (hearing_as to_oldest) (Append ∷ []) one_each answered_
 dropped_settles : TellsAgainstRule settling_dropped one_each stored_and_dropped (Reply 0)
 unfolding evaluated
 dropped_settles =
-    breaks_outcome_rule settling_dropped (Append ∷ []) one_each stored_and_dropped 0 one_each_passes refl (tt, tt) _ refl (told_against_rule _ _ refl refl refl)
+    breaks_outcome_rule settling_dropped (Append ∷ []) one_each stored_and_dropped 0 one_each_passes refl (tt, tt) _ refl (told_against_rule _ _ _ refl refl refl)
 
 expires : Breaks (ticking_by open_expires) one_each stored_and_late (IsNeverSent 0)
 unfolding evaluated
