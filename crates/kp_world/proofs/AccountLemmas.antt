@@ -9,8 +9,9 @@ use Rattle.std.proofs.lemmas.List.Elements.{filter-append}
 use Rattle.kp_accum.specs.declared.item.Item.{Item}
 use Rattle.kp_rules.specs.Partitions.{partition_at, items_queued, untold}
 use Rattle.kp_rules.specs.Records.{HandedBatch, Core, Told}
+use Rattle.kp_world.specs.Facts.{told_in}
 use Rattle.kp_world.specs.Accepting.{for_partition}
-use Rattle.kp_world.specs.Accounts.{of_sender, told_in, unsent_among, is_unsent}
+use Rattle.kp_world.specs.Accounts.{of_sender, items_of, unsent_among, is_unsent}
 use Rattle.kp_world.specs.Client.{handed_at}
 use Rattle.kp_world.specs.Line.{Line}
 use Rattle.kp_world.specs.Noting.{noted}
@@ -21,9 +22,6 @@ use Rattle.kp_world.proofs.TellingLemmas.{told_for, AtHome, home_past, CoreTells
 use Rattle.kp_world.proofs.WeightLemmas.{weigh, weigh-append}
 
 -- ---- what holds
-
-abbrev pub items_of : List HandedBatch → List Item
-items_of handed = flat_map (λ b. b.items) handed
 
 -- a sender's items that were taken
 abbrev pub taken_of : List (List Item) → List ℕ → ℕ → List Item
@@ -118,7 +116,7 @@ accounts_core core accepted taken handed told more core' a k = record {
 
 -- ---- how it is noted
 
-told_noted : (past : List Happened) (h : Happened) → told_in (past ++ h ∷ []) ≡ told_in past ++ h.told
+pub told_noted : (past : List Happened) (h : Happened) → told_in (past ++ h ∷ []) ≡ told_in past ++ h.told
 told_noted past h = flat_map-append (λ (x : Happened). x.told) past (h ∷ []) ∙ ap (λ r. told_in past ++ r) (append-nil h.told)
 
 pub accounts_noted : (core : Core) (answer : List Line) (told : List Told) (w : World)

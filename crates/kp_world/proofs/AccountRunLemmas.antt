@@ -22,16 +22,17 @@ use Rattle.kp_rules.specs.Opening.{new_core}
 use Rattle.kp_rules.specs.Partitions.{partition_at, new_partition, items_queued, untold}
 use Rattle.kp_rules.specs.Records.{HandedBatch, Open, Partition, Core}
 use Rattle.kp_rules.specs.Requesting.{Packet}
+use Rattle.kp_world.specs.Facts.{told_in}
 use Rattle.kp_world.specs.Events.{WorldEvent}
 use Rattle.kp_world.specs.Accepting.{for_partition, item_for, accepted_by, with_accepted, with_taken, taken_by, taking_of, taking}
-use Rattle.kp_world.specs.Accounts.{of_sender, told_in}
+use Rattle.kp_world.specs.Accounts.{items_of, of_sender}
 use Rattle.kp_world.specs.Client.{handed_at, reply_line, flush_line}
 use Rattle.kp_world.specs.Delivering.{Delivery, log_at, logs_with_others}
 use Rattle.kp_world.specs.Line.{Closed, Large, Empty, Full}
 use Rattle.kp_world.specs.Run.{answer_line, reply_to, with_delivery, Steps, MayBegin, IsReached}
 use Rattle.kp_world.specs.World.{Reply, World, Opening, opening}
 use Rattle.kp_world.proofs.EventLemmas.{OfEvent, at_step, at_run}
-use Rattle.kp_world.proofs.AccountLemmas.{items_of, taken_of, Accepts, Accounts, IsAccounted, accounts_core, accounts_only, accounts_noted, accounts_call}
+use Rattle.kp_world.proofs.AccountLemmas.{taken_of, Accepts, Accounts, IsAccounted, accounts_core, accounts_only, accounts_noted, accounts_call}
 use Rattle.kp_world.proofs.ConservationLemmas.{attempts_of, attempt_count}
 use Rattle.kp_world.proofs.FateLemmas.{Fates}
 use Rattle.kp_rules.specs.declared.attempt.Attempt.TheVariants.{InFlight}

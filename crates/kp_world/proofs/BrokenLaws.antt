@@ -27,10 +27,11 @@ use Rattle.kp_rules.specs.OutcomeRule.{Telling, Append, Tick, Reply as ToReply, 
 use Rattle.kp_rules.specs.Partitions.{partition_at}
 use Rattle.kp_rules.specs.Records.{Core, Partition, HandedBatch, Told}
 use Rattle.kp_rules.proofs.ListLemmas.{contains_head, contains_tail}
+use Rattle.kp_world.specs.Facts.{Facts, facts}
 use Rattle.kp_world.specs.declared.event.Event.{Event}
-use Rattle.kp_world.specs.Accounts.{items_handed, is_among, is_same, told_unsent, IsNeverSent}
+use Rattle.kp_world.specs.Accounts.{items_handed, is_among, is_same, unsent_among, IsNeverSent}
 use Rattle.kp_world.specs.Delivering.{log_at}
-use Rattle.kp_world.specs.LogLaws.{partition_of, own_records, as_stored, IsPrefix, WasTold, EachDeliveryHasItsOffset, ToldOffsetsStand, StandsAt}
+use Rattle.kp_world.specs.LogLaws.{partition_of, own_records, as_stored, IsPrefix, EachDeliveryHasItsOffset, ToldOffsetsStand, StandsAt}
 use Rattle.kp_world.specs.Message.{sent_of}
 use Rattle.kp_world.specs.Causes.{call_of, MayBeTold, TellsByRule}
 use Rattle.kp_world.specs.OtherRules.{Breaks, TellsAgainstRule}
@@ -56,14 +57,8 @@ any_contained {A = A} test (x ∷ xs) e = at_test (test x) refl e (λ e'. any_co
     at_test false is e' later = let h = later e' in (h.0, contains_tail h.0 x xs h.1, h.2)
 
 -- something was told that passes this test
-abbrev pub has_told : (Told → Bool) → World → Bool
-has_told test w = list_any (λ h. list_any test h.told) w.past
-
-told_such : (test : Told → Bool) (w : World) → has_told test w ≡ true → (t : Told) × WasTold w t × (test t ≡ true)
-told_such test w e =
-    let h = any_contained (λ h. list_any test h.told) w.past e in
-    let t = any_contained test h.0.told h.2 in
-    (t.0, record { event = h.0; happened = h.1; told = t.1 }, t.2)
+abbrev pub has_told : (Told → Bool) → Facts → Bool
+has_told test f = list_any test f.told
 
 -- a delivery without an offset
 
@@ -78,18 +73,18 @@ without_offset_is Unknown e = absurd cc
 without_offset_is (Rejected code) e = absurd cc
 without_offset_is (Unsent why) e = absurd cc
 
-pub offset_is_missing : (w : World) → has_told (λ t. is_without_offset t.outcome) w ≡ true → EachDeliveryHasItsOffset w → ⊥
-offset_is_missing w e law =
-    let t = told_such (λ t. is_without_offset t.outcome) w e in law t.0 t.1 (without_offset_is t.0.outcome t.2)
+pub offset_is_missing : (f : Facts) → has_told (λ t. is_without_offset t.outcome) f ≡ true → EachDeliveryHasItsOffset f → ⊥
+offset_is_missing f e law =
+    let t = any_contained (λ t. is_without_offset t.outcome) f.told e in law t.0 t.1 (without_offset_is t.0.outcome t.2)
 
 -- an item that was told Unsent, and was handed over
 
-pub unsent_is_sent : (w : World) → list_any (λ i. is_among i (told_unsent w)) (items_handed 0 w) ≡ true → IsNeverSent 0 w → ⊥
-unsent_is_sent w e law = at_items (items_handed 0 w) e law
+pub unsent_is_sent : (f : Facts) → list_any (λ i. is_among i (unsent_among f.told)) (items_handed 0 f) ≡ true → IsNeverSent 0 f → ⊥
+unsent_is_sent f e law = at_items (items_handed 0 f) e law
   where
-    at_items : (is : List Item) → list_any (λ i. is_among i (told_unsent w)) is ≡ true → AllByRecursion (λ i. is_among i (told_unsent w) ≡ false) is → ⊥
+    at_items : (is : List Item) → list_any (λ i. is_among i (unsent_among f.told)) is ≡ true → AllByRecursion (λ i. is_among i (unsent_among f.told) ≡ false) is → ⊥
     at_items [] e h = absurd cc
-    at_items (i ∷ is) e h = at_items is (sym (ap (λ (b : Bool). b || list_any (λ i. is_among i (told_unsent w)) is) h.0) ∙ e) h.1
+    at_items (i ∷ is) e h = at_items is (sym (ap (λ (b : Bool). b || list_any (λ i. is_among i (unsent_among f.told)) is) h.0) ∙ e) h.1
 
 -- an item that was told a wrong offset
 
@@ -105,17 +100,17 @@ offset_passes test Unknown e = absurd cc
 offset_passes test (Rejected code) e = absurd cc
 offset_passes test (Unsent why) e = absurd cc
 
-offset_stands_not : (w : World) (is_wrong : Item → ℕ → Bool) → ((i : Item) (k : ℕ) → StandsAt w i (pos k) → is_wrong i k ≡ false)
-    → has_told (λ t. at_offset (is_wrong t.item) t.outcome) w ≡ true → ToldOffsetsStand w → ⊥
-offset_stands_not w is_wrong right e law =
-    let t = told_such (λ t. at_offset (is_wrong t.item) t.outcome) w e in
+offset_stands_not : (f : Facts) (is_wrong : Item → ℕ → Bool) → ((i : Item) (k : ℕ) → StandsAt f i (pos k) → is_wrong i k ≡ false)
+    → has_told (λ t. at_offset (is_wrong t.item) t.outcome) f ≡ true → ToldOffsetsStand f → ⊥
+offset_stands_not f is_wrong right e law =
+    let t = any_contained (λ t. at_offset (is_wrong t.item) t.outcome) f.told e in
     let k = offset_passes (is_wrong t.0.item) t.0.outcome t.2 in
     absurd (true≢false (sym k.2 ∙ right t.0.item k.0 (law t.0 (pos k.0) t.1 k.1)))
 
 -- it is below the item's place among what was handed over
 
-abbrev is_before_place : World → Item → ℕ → Bool
-is_before_place w i k = not (is_among i (take (k + 1) (items_handed i.partition w)))
+abbrev is_before_place : Facts → Item → ℕ → Bool
+is_before_place f i k = not (is_among i (take (k + 1) (items_handed i.partition f)))
 
 among_first : (i : Item) (earlier later : List Item) (n : ℕ) → length earlier < n → is_among i (take n (earlier ++ i ∷ later)) ≡ true
 among_first i [] later zero l = absurd (omega (arith, l))
@@ -127,18 +122,18 @@ among_first i (x ∷ earlier) later (suc n) l = at_test (is_same i x) (among_fir
     at_test true e = refl
     at_test false e = e
 
-place_is_above : (w : World) (i : Item) (k : ℕ) → StandsAt w i (pos k) → is_before_place w i k ≡ false
+place_is_above : (f : Facts) (i : Item) (k : ℕ) → StandsAt f i (pos k) → is_before_place f i k ≡ false
 unfolding own
-place_is_above w i k s =
-    let is_own = is_under (map pos (partition_of i.partition w).ids) in
+place_is_above f i k s =
+    let is_own = is_under (map pos (partition_of i.partition f).ids) in
     let own_before = length-filter is_own s.before in
     let no_more = count_by-le-length is_own s.before in
     let before : k ≡ length s.before = cc in
     let early : length s.earlier < k + 1 = omega (arith, own_before, no_more, before, s.place) in
     ap (λ is. not (is_among i (take (k + 1) is))) s.handed ∙ ap not (among_first i s.earlier s.later (k + 1) early)
 
-pub offset_is_early : (w : World) → has_told (λ t. at_offset (is_before_place w t.item) t.outcome) w ≡ true → ToldOffsetsStand w → ⊥
-offset_is_early w e law = offset_stands_not w (is_before_place w) (place_is_above w) e law
+pub offset_is_early : (f : Facts) → has_told (λ t. at_offset (is_before_place f t.item) t.outcome) f ≡ true → ToldOffsetsStand f → ⊥
+offset_is_early f e law = offset_stands_not f (is_before_place f) (place_is_above f) e law
 
 -- another producer's record stands there
 
@@ -146,21 +141,21 @@ abbrev is_of_none : Option Stored → Bool
 is_of_none (Some r) = int_eq r.producer_id NO_ID
 is_of_none None = false
 
-abbrev is_anothers : World → Item → ℕ → Bool
-is_anothers w i k = is_of_none (slice_get (log_at i.partition w.logs).records k)
+abbrev is_anothers : Facts → Item → ℕ → Bool
+is_anothers f i k = is_of_none (slice_get (log_at i.partition f.logs).records k)
 
 element : {A : Type 0} (xs ys : List A) (x : A) (k : ℕ) → k ≡ length xs → slice_get (xs ++ x ∷ ys) k ≡ Some x
 element [] ys x k e = ap (slice_get (x ∷ ys)) e
 element (y ∷ xs) ys x zero e = absurd (omega (arith, e))
 element (y ∷ xs) ys x (suc k) e = element xs ys x k (omega (arith, e))
 
-own_is_there : (w : World) (i : Item) (k : ℕ) → StandsAt w i (pos k) → is_anothers w i k ≡ false
-own_is_there w i k s =
+own_is_there : (f : Facts) (i : Item) (k : ℕ) → StandsAt f i (pos k) → is_anothers f i k ≡ false
+own_is_there f i k s =
     let before : k ≡ length s.before = cc in
     ap is_of_none (ap (λ rs. slice_get rs k) s.record_is ∙ element s.before s.after _ k before)
 
-pub offset_is_anothers : (w : World) → has_told (λ t. at_offset (is_anothers w t.item) t.outcome) w ≡ true → ToldOffsetsStand w → ⊥
-offset_is_anothers w e law = offset_stands_not w (is_anothers w) (own_is_there w) e law
+pub offset_is_anothers : (f : Facts) → has_told (λ t. at_offset (is_anothers f t.item) t.outcome) f ≡ true → ToldOffsetsStand f → ⊥
+offset_is_anothers f e law = offset_stands_not f (is_anothers f) (own_is_there f) e law
 
 -- a log that begins with another record than what was handed over
 
@@ -187,12 +182,12 @@ like_itself : (xs ys : List Record) → is_unlike xs (xs ++ ys) ≡ false
 like_itself [] ys = refl
 like_itself (x ∷ xs) ys = ap not ((bytes_eq-Decides (value_of x) (value_of x)).1 refl)
 
-pub log_is_unlike : (w : World) → is_unlike (map (λ s. s.body) (own_records 0 w)) (map body_of (items_handed 0 w)) ≡ true → IsPrefix 0 w → ⊥
-log_is_unlike w e law =
-    let mine : map (λ s. s.body) (own_records 0 w) ≡ map body_of (flat_map (λ b. b.items) law.stored) = ap (map (λ s. s.body)) law.records ∙ bodies_as_stored law.stored in
-    let all : map body_of (items_handed 0 w) ≡ map body_of (flat_map (λ b. b.items) law.stored) ++ map body_of (flat_map (λ b. b.items) law.rest) =
+pub log_is_unlike : (f : Facts) → is_unlike (map (λ s. s.body) (own_records 0 f)) (map body_of (items_handed 0 f)) ≡ true → IsPrefix 0 f → ⊥
+log_is_unlike f e law =
+    let mine : map (λ s. s.body) (own_records 0 f) ≡ map body_of (flat_map (λ b. b.items) law.stored) = ap (map (λ s. s.body)) law.records ∙ bodies_as_stored law.stored in
+    let all : map body_of (items_handed 0 f) ≡ map body_of (flat_map (λ b. b.items) law.stored) ++ map body_of (flat_map (λ b. b.items) law.rest) =
     ap (λ z. map body_of (flat_map (λ b. b.items) z)) law.handed ∙ ap (map body_of) (flat_map-append (λ (b : HandedBatch). b.items) law.stored law.rest) ∙ map-append body_of (flat_map (λ b. b.items) law.stored) (flat_map (λ b. b.items) law.rest) in
-    absurd (true≢false (sym e ∙ ap (λ z. is_unlike z (map body_of (items_handed 0 w))) mine ∙ ap (is_unlike (map body_of (flat_map (λ b. b.items) law.stored))) all ∙ like_itself (map body_of (flat_map (λ b. b.items) law.stored)) (map body_of (flat_map (λ b. b.items) law.rest))))
+    absurd (true≢false (sym e ∙ ap (λ z. is_unlike z (map body_of (items_handed 0 f))) mine ∙ ap (is_unlike (map body_of (flat_map (λ b. b.items) law.stored))) all ∙ like_itself (map body_of (flat_map (λ b. b.items) law.stored)) (map body_of (flat_map (λ b. b.items) law.rest))))
 
 -- an item was told that it was delivered, where no batch was in flight before
 
@@ -242,7 +237,10 @@ last_passes test xs x none e =
     at_test true e' = refl
     at_test false e' = absurd cc
 
-pub told_against_rule : (e : WorldEvent) (w v : World) → list_all all_wait w.core.partitions ≡ true → has_told (λ t. is_delivered t.outcome) w ≡ false → has_told (λ t. is_delivered t.outcome) v ≡ true
+abbrev has_noted : (Told → Bool) → World → Bool
+has_noted test w = list_any (λ h. list_any test h.told) w.past
+
+pub told_against_rule : (e : WorldEvent) (w v : World) → list_all all_wait w.core.partitions ≡ true → has_noted (λ t. is_delivered t.outcome) w ≡ false → has_noted (λ t. is_delivered t.outcome) v ≡ true
     → TellsByRule e w v → ⊥
 told_against_rule x w v still none some law =
     let last = last_passes (λ h. list_any (λ t. is_delivered t.outcome) h.told) w.past law.event none (sym (ap (list_any (λ h. list_any (λ t. is_delivered t.outcome) h.told)) law.noted) ∙ some) in
@@ -253,13 +251,13 @@ told_against_rule x w v still none some law =
 -- ---- a schedule that breaks a law
 
 -- What the world at its end has is computed.
-pub breaks : (producer : Producer) (cs : List Choice) (c : Config) (es : List Event) (Law : World → Type 0) → checked c ≡ Ok tt → are_there producer cs (events_of 0 es) (opening (scheduled c 1 1)) ≡ true
-    → AreHonest producer cs (events_of 0 es) (opening (scheduled c 1 1)) → (test : World → Bool) → ((w : World) → test w ≡ true → Law w → ⊥) → test (end_of producer cs (events_of 0 es) (opening (scheduled c 1 1))) ≡ true → Breaks producer c es Law
+pub breaks : (producer : Producer) (cs : List Choice) (c : Config) (es : List Event) (Law : Facts → Type 0) → checked c ≡ Ok tt → are_there producer cs (events_of 0 es) (opening (scheduled c 1 1)) ≡ true
+    → AreHonest producer cs (events_of 0 es) (opening (scheduled c 1 1)) → (test : Facts → Bool) → ((f : Facts) → test f ≡ true → Law f → ⊥) → test (facts (end_of producer cs (events_of 0 es) (opening (scheduled c 1 1)))) ≡ true → Breaks producer c es Law
 breaks producer cs c es Law e t h test none is = record {
   may_begin = may_begin c e;
   world = end_of producer cs (events_of 0 es) (opening (scheduled c 1 1));
   run = run_of producer cs (events_of 0 es) (opening (scheduled c 1 1)) t h;
-  broken = none (end_of producer cs (events_of 0 es) (opening (scheduled c 1 1))) is;
+  broken = none (facts (end_of producer cs (events_of 0 es) (opening (scheduled c 1 1)))) is;
 }
 
 pub breaks_outcome_rule : (producer : Producer) (cs : List Choice) (c : Config) (es : List Event) (j : ℕ) → checked c ≡ Ok tt → are_there producer cs (events_of 0 es) (opening (scheduled c 1 1)) ≡ true

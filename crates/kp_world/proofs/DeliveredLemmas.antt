@@ -21,14 +21,15 @@ use Rattle.kp_rules.specs.Partitions.{partition_at}
 use Rattle.kp_rules.specs.Records.{HandedBatch, Open, Partition, Core, Told}
 use Rattle.kp_rules.specs.Settling.{meaning_of}
 use Rattle.kp_rules.specs.OutcomeRule as call
-use Rattle.kp_world.specs.Accounts.{items_handed}
+use Rattle.kp_world.specs.Facts.{facts}
+use Rattle.kp_world.specs.Accounts.{items_of, items_handed}
 use Rattle.kp_world.specs.Client.{handed_at}
 use Rattle.kp_world.specs.Delivering.{log_at}
 use Rattle.kp_world.specs.Message.{sent_of, Says, Answers}
 use Rattle.kp_world.specs.World.{PartAnswer, Batches as Parts, Reply, World}
 use Rattle.std.proofs.lemmas.List.{length-take-le}
 use Rattle.kp_world.proofs.TakingLemmas.{took}
-use Rattle.kp_world.proofs.AccountLemmas.{items_of, IsAccounted}
+use Rattle.kp_world.proofs.AccountLemmas.{IsAccounted}
 use Rattle.kp_world.proofs.AccountedLemmas.{handed_home}
 use Rattle.kp_world.proofs.HearingLemmas.{parts_heard, stored_code, duplicate_code, answered_batch, old_not_in_flight, same_correlation}
 use Rattle.kp_world.proofs.LawfulLemmas.{IsLawful}
@@ -137,7 +138,7 @@ delivered_at n w r i offset g a given d =
     let code = stored_code h.part.answer.code (ap meaning_of (sym h.code) ∙ s.means) in
     let known : In o.batch (handed_at p w.handed) = all_at (λ (y : Open). In y.batch (handed_at p w.handed)) (partition_at p w.core.partitions).open_batches o both.sound.opens h.there in
     let at = took o.batch.items s.place i s.item in
-    let mine : i.partition ≡ p = all_at (λ (j : Item). j.partition ≡ p) (items_handed p w) i (handed_home p w a (subst (λ (m : ℕ). p < m) (sym g.count) h.within)) (record { earlier = items_of known.earlier ++ take s.place o.batch.items; later = at.0 ++ items_of known.later; split = items_split (handed_at p w.handed) o.batch i (take s.place o.batch.items) at.0 known at.2 }) in
+    let mine : i.partition ≡ p = all_at (λ (j : Item). j.partition ≡ p) (items_handed p (facts w)) i (handed_home p w a (subst (λ (m : ℕ). p < m) (sym g.count) h.within)) (record { earlier = items_of known.earlier ++ take s.place o.batch.items; later = at.0 ++ items_of known.later; split = items_split (handed_at p w.handed) o.batch i (take s.place o.batch.items) at.0 known at.2 }) in
     record {
       within = subst (λ (m : ℕ). m < n) (sym mine) h.within;
       batch = o.batch;

@@ -20,13 +20,14 @@ use Rattle.kp_rules.specs.Next.{Sending, flags_of, next_demand}
 use Rattle.kp_rules.specs.Partitions.{new_partition, partition_at, items_open, items_queued, untold}
 use Rattle.kp_rules.specs.Records.{Demand, Produce, InitProducerId, HandedBatch, Open, Partition, Core, Told}
 use Rattle.kp_rules.specs.Requesting.{Requested, partitions_in, sent_out}
+use Rattle.kp_world.specs.Facts.{told_in}
 use Rattle.kp_world.specs.Accepting.{for_partition}
-use Rattle.kp_world.specs.Accounts.{of_sender, told_in, unsent_among}
+use Rattle.kp_world.specs.Accounts.{items_of, of_sender, unsent_among}
 use Rattle.kp_world.specs.Client.{grown_by, handed_at, with_sendings, with_packet, sent_line, sending}
 use Rattle.kp_world.specs.Line.{Idle, Ended}
 use Rattle.kp_world.specs.World.{World}
 use Rattle.kp_world.proofs.TellingLemmas.{HasDistinct}
-use Rattle.kp_world.proofs.AccountLemmas.{items_of, taken_for, all_taken, Accepts, Accounts, IsAccounted, sender-append, accounts_only}
+use Rattle.kp_world.proofs.AccountLemmas.{taken_for, all_taken, Accepts, Accounts, IsAccounted, sender-append, accounts_only}
 use Rattle.kp_world.proofs.ConservationLemmas.{items_told}
 use Rattle.kp_world.proofs.TakingLemmas.{weigh_same}
 use Rattle.kp_world.proofs.WeightLemmas.{weigh}

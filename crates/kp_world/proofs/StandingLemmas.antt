@@ -15,11 +15,13 @@ use Rattle.kp_log.specs.History.{History, stored_of, records_of, own, is_under}
 use Rattle.kp_log.specs.Log.{count_of, stored_as}
 use Rattle.kp_log.proofs.LogLemmas.{length-stored_as, int_eq_same}
 use Rattle.kp_log.proofs.PlaceLemmas.{In, In-from_contains, contains_from_In, cut_cases}
-use Rattle.kp_rules.specs.Records.{HandedBatch, Partition, Told}
+use Rattle.kp_rules.specs.Records.{HandedBatch, Partition}
+use Rattle.kp_world.specs.Accounts.{items_of}
+use Rattle.kp_world.specs.Facts.{facts, told_in}
 use Rattle.kp_world.specs.Events.{WorldEvent}
 use Rattle.kp_world.specs.Client.{handed_at}
 use Rattle.kp_world.specs.Delivering.{log_at}
-use Rattle.kp_world.specs.LogLaws.{partition_of, WasTold, StandsAt, ToldOffsetsStand, EachDeliveryHasItsOffset}
+use Rattle.kp_world.specs.LogLaws.{partition_of, StandsAt, ToldOffsetsStand, EachDeliveryHasItsOffset}
 use Rattle.kp_world.specs.Message.{sent_of}
 use Rattle.kp_world.specs.Run.{IsReached}
 use Rattle.kp_world.specs.World.{World, Opening}
@@ -28,9 +30,9 @@ use Rattle.kp_world.proofs.LawfulLemmas.{IsLawful}
 use Rattle.kp_world.proofs.PrefixLemmas.{Cut, own-append, own_known, follows, stored_landed}
 use Rattle.kp_world.proofs.RunLemmas.{lawful_reached}
 use Rattle.kp_world.proofs.SoundLemmas.{Sound, sents}
-use Rattle.kp_world.proofs.DeliveredLemmas.{DeliveredAt, Truly, items_split}
-use Rattle.kp_world.proofs.AccountLemmas.{items_of}
-use Rattle.kp_world.proofs.TruthLemmas.{IsTruthful, truthful_reached}
+use Rattle.kp_world.proofs.DeliveredLemmas.{DeliveredAt, items_split}
+use Rattle.kp_world.proofs.AccountLemmas.{}
+use Rattle.kp_world.proofs.TruthLemmas.{truthful_reached}
 
 -- ---- places among an id's records
 
@@ -126,21 +128,21 @@ own_before ids t handed h sound cut b i base s =
 
 -- ---- the laws
 
-stands_at : (n : ℕ) (w : World) (i : Item) (offset : ℤ) → IsLawful n w → DeliveredAt n w.handed w.logs i offset → StandsAt w i offset
+stands_at : (n : ℕ) (w : World) (i : Item) (offset : ℤ) → IsLawful n w → DeliveredAt n w.handed w.logs i offset → StandsAt (facts w) i offset
 stands_at n w i offset g d = record {
   earlier = items_of d.known.earlier ++ d.front;
   later = d.back ++ items_of d.known.later;
   handed = items_split (handed_at i.partition w.handed) d.batch i d.front d.back d.known d.items;
   id = d.batch.id;
-  known = contains_from_In (partition_of i.partition w).ids d.batch.id (both.sound.under d.batch d.known);
+  known = contains_from_In (partition_of i.partition (facts w)).ids d.batch.id (both.sound.under d.batch d.known);
   before = d.stands.before ++ stored d.front;
   after = stored d.back ++ d.stands.after;
   record_is = d.stands.split ∙ ap (λ z. d.stands.before ++ (z ++ d.stands.after)) (ap stored d.items ∙ stored-append d.front (i ∷ d.back))
       ∙ ap (λ z. d.stands.before ++ z) (append_assoc (stored d.front) (stored (i ∷ d.back)) d.stands.after) ∙ sym (append_assoc d.stands.before (stored d.front) (stored (i ∷ d.back) ++ d.stands.after));
   offset_is = d.offset_is ∙ ap (λ (z : ℤ). z +ℤ pos (length d.front)) d.stands.offset ∙ ap (λ (m : ℕ). pos m) (sym (length-append d.stands.before (stored d.front) ∙ ap (λ (m : ℕ). length d.stands.before + m) (length_stored d.front)));
-  place = ap length (own-append (partition_of i.partition w).ids d.stands.before (stored d.front) ∙ ap (λ z. own (partition_of i.partition w).ids d.stands.before ++ z) (own_known d.batch.id (partition_of i.partition w).ids (map body_of d.front) (both.sound.under d.batch d.known)))
-      ∙ length-append (own (partition_of i.partition w).ids d.stands.before) (stored d.front)
-      ∙ ap (λ (m : ℕ). m + length (stored d.front)) (own_before w.ids (partition_of i.partition w) (handed_at i.partition w.handed) (log_at i.partition w.logs) both.sound both.steady.cut d.batch d.known d.base d.stands)
+  place = ap length (own-append (partition_of i.partition (facts w)).ids d.stands.before (stored d.front) ∙ ap (λ z. own (partition_of i.partition (facts w)).ids d.stands.before ++ z) (own_known d.batch.id (partition_of i.partition (facts w)).ids (map body_of d.front) (both.sound.under d.batch d.known)))
+      ∙ length-append (own (partition_of i.partition (facts w)).ids d.stands.before) (stored d.front)
+      ∙ ap (λ (m : ℕ). m + length (stored d.front)) (own_before w.ids (partition_of i.partition (facts w)) (handed_at i.partition w.handed) (log_at i.partition w.logs) both.sound both.steady.cut d.batch d.known d.base d.stands)
       ∙ ap (λ (m : ℕ). length (items_of d.known.earlier) + m) (length_stored d.front) ∙ sym (length-append (items_of d.known.earlier) d.front);
 }
   where
@@ -156,13 +158,10 @@ stands_at n w i offset g d = record {
     both : Agrees 5 n w.ids w.core w.handed w.logs w.packets w.replies i.partition
     both = g.agree i.partition d.within
 
-was_truly : (n : ℕ) (w : World) → IsTruthful n w → (t : Told) → WasTold w t → Truly n w.handed w.logs t
-was_truly n w g t x = g x.event (In-from_contains w.past x.event x.happened) t (In-from_contains x.event.told t x.told)
-
-pub told_offsets_stand : (o : Opening) (es : List WorldEvent) (w : World) → IsReached o es w → ToldOffsetsStand w
+pub told_offsets_stand : (o : Opening) (es : List WorldEvent) (w : World) → IsReached o es w → ToldOffsetsStand (facts w)
 told_offsets_stand o es w r t offset x is =
-    stands_at o.partitions w t.item offset (lawful_reached o es w r) ((was_truly o.partitions w (truthful_reached o es w r) t x).delivered offset is)
+    stands_at o.partitions w t.item offset (lawful_reached o es w r) ((truthful_reached o es w r t (In-from_contains (told_in w.past) t x)).delivered offset is)
 
-pub each_delivery_has_its_offset : (o : Opening) (es : List WorldEvent) (w : World) → IsReached o es w → EachDeliveryHasItsOffset w
+pub each_delivery_has_its_offset : (o : Opening) (es : List WorldEvent) (w : World) → IsReached o es w → EachDeliveryHasItsOffset (facts w)
 each_delivery_has_its_offset o es w r t x is =
-    (was_truly o.partitions w (truthful_reached o es w r) t x).offset is
+    (truthful_reached o es w r t (In-from_contains (told_in w.past) t x)).offset is

@@ -16,9 +16,9 @@ use Rattle.kp_rules.specs.Partitions.{new_partition, partition_at, changed_at, i
 use Rattle.kp_rules.specs.Records.{HandedBatch, Partition, Core, Told}
 use Rattle.kp_rules.specs.Telling.{told_all}
 use Rattle.kp_world.specs.Accepting.{for_partition}
-use Rattle.kp_world.specs.Accounts.{of_sender, unsent_among}
+use Rattle.kp_world.specs.Accounts.{items_of, of_sender, unsent_among}
 use Rattle.kp_world.specs.Client.{handed_at}
-use Rattle.kp_world.proofs.AccountLemmas.{items_of, taken_for, taken_of, all_taken, items_told-append, Accepts, Accounts, sender-append, partition-append, both-append}
+use Rattle.kp_world.proofs.AccountLemmas.{taken_for, taken_of, all_taken, items_told-append, Accepts, Accounts, sender-append, partition-append, both-append}
 use Rattle.kp_world.proofs.ConservationLemmas.{items_told, unsent-append}
 use Rattle.kp_world.proofs.WeightLemmas.{weigh, weigh-append, weigh_at, weigh_flat, weigh_none}
 use Rattle.kp_world.proofs.FateLemmas.{filter_same, AreNumbered, numbered_more, numbered_back, Fates, fates_queued, fates_turned_away}

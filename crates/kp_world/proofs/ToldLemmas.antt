@@ -7,6 +7,7 @@ use Rattle.std.proofs.lemmas.List.{take-append-drop}
 use Rattle.kp_accum.specs.declared.item.Item.{Item}
 use Rattle.kp_accum.specs.Queue.{charge_of}
 use Rattle.kp_rules.specs.Partitions.{untold, used}
+use Rattle.kp_world.specs.Facts.{facts}
 use Rattle.kp_world.specs.Accepting.{accepted_by, for_partition, taken_by}
 use Rattle.kp_world.specs.Accounts.{is_same, is_among, told_items, items_taken, IsToldOnce, IsUsedByUntold}
 use Rattle.kp_world.specs.World.{World}
@@ -92,10 +93,10 @@ one_place F q h one a (suc m) = at_test (a == q) refl (one_place F q h one (a + 
         omega (arith, here, none, zeros)
     at_test false is rest = let here : F a ≡ 0 = h a is in omega (arith, here, rest)
 
-taken_once : (w : World) → IsAccounted w → (i : Item) → weigh (count_of i) (items_taken w) ≤ 1
+taken_once : (w : World) → IsAccounted w → (i : Item) → weigh (count_of i) (items_taken (facts w)) ≤ 1
 taken_once w a i =
     let most : weigh (λ s. weigh (count_of i) (take (taken_by s w) (accepted_by s w))) (range_with_len 0 (length w.accepted)) ≤ 1 = one_place (λ s. weigh (count_of i) (take (taken_by s w) (accepted_by s w))) i.sender other here 0 (length w.accepted) in
-    let all : weigh (count_of i) (items_taken w) ≡ weigh (λ s. weigh (count_of i) (take (taken_by s w) (accepted_by s w))) (range_with_len 0 (length w.accepted)) = weigh_flat (count_of i) (λ s. take (taken_by s w) (accepted_by s w)) (range_with_len 0 (length w.accepted)) in
+    let all : weigh (count_of i) (items_taken (facts w)) ≡ weigh (λ s. weigh (count_of i) (take (taken_by s w) (accepted_by s w))) (range_with_len 0 (length w.accepted)) = weigh_flat (count_of i) (λ s. take (taken_by s w) (accepted_by s w)) (range_with_len 0 (length w.accepted)) in
     omega (arith, most, all)
   where
     own : (s : ℕ) → AllByRecursion (λ (x : Item). x.sender ≡ s) (take (taken_by s w) (accepted_by s w))
@@ -115,14 +116,14 @@ taken_once w a i =
         omega (arith, same, once)
 
 -- told or not told, it counts once
-counted_all : (w : World) → IsAccounted w → (i : Item) → weigh (count_of i) (told_items w) + weigh (count_of i) (flat_map untold w.core.partitions) ≤ 1
+counted_all : (w : World) → IsAccounted w → (i : Item) → weigh (count_of i) (told_items (facts w)) + weigh (count_of i) (flat_map untold w.core.partitions) ≤ 1
 counted_all w a i =
-    let all : weigh (count_of i) (told_items w) + weigh (count_of i) (flat_map untold w.core.partitions) ≡ weigh (count_of i) (items_taken w) = a.weights (count_of i) in
-    let once : weigh (count_of i) (items_taken w) ≤ 1 = taken_once w a i in
+    let all : weigh (count_of i) (told_items (facts w)) + weigh (count_of i) (flat_map untold w.core.partitions) ≡ weigh (count_of i) (items_taken (facts w)) = a.weights (count_of i) in
+    let once : weigh (count_of i) (items_taken (facts w)) ≤ 1 = taken_once w a i in
     omega (arith, all, once)
 
-pub told_once : (w : World) → IsAccounted w → IsToldOnce w
-told_once w a = distinct (told_items w) (λ i. let all : weigh (count_of i) (told_items w) + weigh (count_of i) (flat_map untold w.core.partitions) ≤ 1 = counted_all w a i in omega (arith, all))
+pub told_once : (w : World) → IsAccounted w → IsToldOnce (facts w)
+told_once w a = distinct (told_items (facts w)) (λ i. let all : weigh (count_of i) (told_items (facts w)) + weigh (count_of i) (flat_map untold w.core.partitions) ≤ 1 = counted_all w a i in omega (arith, all))
 
 -- ---- memory
 
@@ -135,23 +136,23 @@ weigh_tested g test (x ∷ xs) = at_test (test x) (weigh_tested g test xs)
     at_test true rest = ap (λ (n : ℕ). g x + n) rest
     at_test false rest = omega (arith, rest)
 
-pub used_by_untold : (w : World) → IsAccounted w → IsUsedByUntold w
+pub used_by_untold : (w : World) → IsAccounted w → IsUsedByUntold (facts w)
 unfolding used
 used_by_untold w a =
-    let told : Item → Bool = λ i. not (is_among i (told_items w)) in
-    let f : Item → ℕ = λ i. if not (is_among i (told_items w)) then charge_of i else 0 in
-    let all : weigh (λ i. if not (is_among i (told_items w)) then charge_of i else 0) (told_items w) + weigh (λ i. if not (is_among i (told_items w)) then charge_of i else 0) (flat_map untold w.core.partitions) ≡ weigh (λ i. if not (is_among i (told_items w)) then charge_of i else 0) (items_taken w) = a.weights f in
-    let none : weigh (λ i. if not (is_among i (told_items w)) then charge_of i else 0) (told_items w) ≡ 0 =
-    weigh_none f (told_items w) (all_weaker (λ i. is_among i (told_items w) ≡ true) (λ i. (if not (is_among i (told_items w)) then charge_of i else 0) ≡ 0) (λ i e. ap (λ (b : Bool). if not b then charge_of i else 0) e) (told_items w) (any_itself is_same same_itself (told_items w))) in
-    let same : weigh (λ i. if not (is_among i (told_items w)) then charge_of i else 0) (flat_map untold w.core.partitions) ≡ weigh charge_of (flat_map untold w.core.partitions) =
-    weigh_agrees f charge_of (flat_map untold w.core.partitions) (all_weaker (λ i. 1 ≤ weigh (count_of i) (flat_map untold w.core.partitions)) (λ i. (if not (is_among i (told_items w)) then charge_of i else 0) ≡ charge_of i) untold_is (flat_map untold w.core.partitions) (weighs_itself (flat_map untold w.core.partitions))) in
-    let left : weigh (λ i. if not (is_among i (told_items w)) then charge_of i else 0) (items_taken w) ≡ weigh charge_of (filter (λ i. not (is_among i (told_items w))) (items_taken w)) = weigh_tested charge_of told (items_taken w) in
+    let told : Item → Bool = λ i. not (is_among i (told_items (facts w))) in
+    let f : Item → ℕ = λ i. if not (is_among i (told_items (facts w))) then charge_of i else 0 in
+    let all : weigh (λ i. if not (is_among i (told_items (facts w))) then charge_of i else 0) (told_items (facts w)) + weigh (λ i. if not (is_among i (told_items (facts w))) then charge_of i else 0) (flat_map untold w.core.partitions) ≡ weigh (λ i. if not (is_among i (told_items (facts w))) then charge_of i else 0) (items_taken (facts w)) = a.weights f in
+    let none : weigh (λ i. if not (is_among i (told_items (facts w))) then charge_of i else 0) (told_items (facts w)) ≡ 0 =
+    weigh_none f (told_items (facts w)) (all_weaker (λ i. is_among i (told_items (facts w)) ≡ true) (λ i. (if not (is_among i (told_items (facts w))) then charge_of i else 0) ≡ 0) (λ i e. ap (λ (b : Bool). if not b then charge_of i else 0) e) (told_items (facts w)) (any_itself is_same same_itself (told_items (facts w)))) in
+    let same : weigh (λ i. if not (is_among i (told_items (facts w))) then charge_of i else 0) (flat_map untold w.core.partitions) ≡ weigh charge_of (flat_map untold w.core.partitions) =
+    weigh_agrees f charge_of (flat_map untold w.core.partitions) (all_weaker (λ i. 1 ≤ weigh (count_of i) (flat_map untold w.core.partitions)) (λ i. (if not (is_among i (told_items (facts w))) then charge_of i else 0) ≡ charge_of i) untold_is (flat_map untold w.core.partitions) (weighs_itself (flat_map untold w.core.partitions))) in
+    let left : weigh (λ i. if not (is_among i (told_items (facts w))) then charge_of i else 0) (items_taken (facts w)) ≡ weigh charge_of (filter (λ i. not (is_among i (told_items (facts w)))) (items_taken (facts w))) = weigh_tested charge_of told (items_taken (facts w)) in
     let before : sum_by charge_of (flat_map untold w.core.partitions) ≡ weigh charge_of (flat_map untold w.core.partitions) = sum_is charge_of (flat_map untold w.core.partitions) in
-    let after : sum_by charge_of (filter (λ i. not (is_among i (told_items w))) (items_taken w)) ≡ weigh charge_of (filter (λ i. not (is_among i (told_items w))) (items_taken w)) = sum_is charge_of (filter told (items_taken w)) in
+    let after : sum_by charge_of (filter (λ i. not (is_among i (told_items (facts w)))) (items_taken (facts w))) ≡ weigh charge_of (filter (λ i. not (is_among i (told_items (facts w)))) (items_taken (facts w))) = sum_is charge_of (filter told (items_taken (facts w))) in
     omega (arith, all, none, same, left, before, after)
   where
-    untold_is : (i : Item) → 1 ≤ weigh (count_of i) (flat_map untold w.core.partitions) → (if not (is_among i (told_items w)) then charge_of i else 0) ≡ charge_of i
+    untold_is : (i : Item) → 1 ≤ weigh (count_of i) (flat_map untold w.core.partitions) → (if not (is_among i (told_items (facts w))) then charge_of i else 0) ≡ charge_of i
     untold_is i l =
-        let all : weigh (count_of i) (told_items w) + weigh (count_of i) (flat_map untold w.core.partitions) ≤ 1 = counted_all w a i in
-        let none : weigh (count_of i) (told_items w) ≡ 0 = omega (arith, all, l) in
-        ap (λ (b : Bool). if not b then charge_of i else 0) (any_none (is_same i) (told_items w) (none_counted (is_same i) (told_items w) none))
+        let all : weigh (count_of i) (told_items (facts w)) + weigh (count_of i) (flat_map untold w.core.partitions) ≤ 1 = counted_all w a i in
+        let none : weigh (count_of i) (told_items (facts w)) ≡ 0 = omega (arith, all, l) in
+        ap (λ (b : Bool). if not b then charge_of i else 0) (any_none (is_same i) (told_items (facts w)) (none_counted (is_same i) (told_items (facts w)) none))

@@ -12,20 +12,21 @@ use Rattle.kp_world.specs.Events.{WorldEvent}
 use Rattle.kp_world.specs.Delivering.{log_at, Delivery, Delivers, with_records, logs_with_others}
 use Rattle.kp_world.specs.Noting.{noted}
 use Rattle.kp_world.specs.Run.{with_delivery, Steps, IsReached}
-use Rattle.kp_world.specs.World.{Happened, World, Opening, opening}
+use Rattle.kp_world.specs.World.{World, Opening, opening}
 use Rattle.kp_world.proofs.RunLemmas.{parts_came}
 use Rattle.std.proofs.lemmas.List.{length-set, append-nil}
-use Rattle.kp_log.proofs.PlaceLemmas.{In, In-nil, In-append_left}
+use Rattle.kp_log.proofs.PlaceLemmas.{In, In-nil, In-append_left, In-append_cases}
+use Rattle.kp_world.specs.Facts.{told_in}
 use Rattle.kp_world.specs.Causes.{call_of, MayBeTold, TellsByRule}
 use Rattle.kp_world.specs.Client.{handed_at, handed_with, grown_by, with_sending, with_sendings}
-use Rattle.kp_world.proofs.AccountLemmas.{IsAccounted}
+use Rattle.kp_world.proofs.AccountLemmas.{IsAccounted, told_noted}
 use Rattle.kp_world.proofs.AccountRunLemmas.{IsInOrder, order_step, order_opening}
 use Rattle.kp_world.proofs.DeliveredLemmas.{Truly, AllTruly, truly_grown, truly_told}
 use Rattle.kp_world.proofs.EventLemmas.{at_sent, at_taken, OfEvent, at_step, at_run}
 use Rattle.kp_world.proofs.LawfulLemmas.{IsLawful}
 use Rattle.kp_world.proofs.RuledLemmas.{told_in_it, ruled_step}
 use Rattle.kp_rules.proofs.ListLemmas.{at_set}
-use Rattle.kp_world.proofs.ListLemmas.{all_at, in_at, one_more}
+use Rattle.kp_world.proofs.ListLemmas.{all_at, in_at}
 
 -- ---- what was handed over stays
 
@@ -107,13 +108,17 @@ grows_step n e w v s g = at_step (λ e. Grows n w) w (record {
 -- ---- what was told is true
 
 abbrev pub IsTruthful : ℕ → World → Type 0
-IsTruthful n w = (h : Happened) → In h w.past → AllTruly n w.handed w.logs h.told
+IsTruthful n w = AllTruly n w.handed w.logs (told_in w.past)
 
 truthful_step : (n : ℕ) (e : WorldEvent) (w v : World) → Steps w e v → IsLawful n w → IsAccounted w → IsTruthful n w → IsTruthful n v
-truthful_step n e w v s g a before h i t j = truly_grown n w.handed v.handed w.logs v.logs grows.handed grows.logs t (⊎_elim (λ (k : In h w.past). before h k t j) (λ (same : h ≡ tells.event). new (subst (λ (x : Happened). In t x.told) same j)) (one_more w.past tells.event h (subst (In h) tells.noted i)))
+truthful_step n e w v s g a before t i =
+    truly_grown n w.handed v.handed w.logs v.logs grows.handed grows.logs t (⊎_elim (λ (j : In t (told_in w.past)). before t j) (λ (j : In t tells.event.told). new j) (In-append_cases t (told_in w.past) tells.event.told (subst (In t) all i)))
   where
     tells : TellsByRule e w v
     tells = ruled_step w e v s
+
+    all : told_in v.past ≡ told_in w.past ++ tells.event.told
+    all = ap told_in tells.noted ∙ told_noted w.past tells.event
 
     grows : Grows n w v
     grows = grows_step n e w v s g
@@ -126,7 +131,7 @@ all_step n w h e v s = (order_step n w h.0 e v s, truthful_step n e w v s h.0.0 
 
 truthful_opening : (o : Opening) → IsTruthful o.partitions (opening o)
 unfolding opening
-truthful_opening o h i = absurd (In-nil h i)
+truthful_opening o t i = absurd (In-nil t i)
 
 -- Every world that a schedule leads to.
 pub truthful_reached : (o : Opening) (es : List WorldEvent) (w : World) → IsReached o es w → IsTruthful o.partitions w

@@ -1,5 +1,5 @@
 -- What became of the items that were accepted: handed over, told, or still waiting.
-use Rattle.std.specs.Prelude.{◌≡◌, ℕ, Bool, true, false, List, map, filter, flat_map, length, take, drop, not, ◌==◌, ◌&&◌, ◌||◌}
+use Rattle.std.specs.Prelude.{◌≡◌, ℕ, Bool, true, false, List, [], slice_index, slice_index_or, map, filter, flat_map, length, take, drop, not, ◌==◌, ◌&&◌, ◌||◌}
 use Rattle.std.specs.List.{AllByRecursion, IsDistinct, list_any, range_with_len, sum_by}
 use Rattle.kp_accum.specs.declared.item.Item.{Item}
 use Rattle.kp_accum.specs.Queue.{charge_of}
@@ -7,10 +7,10 @@ use Rattle.kp_rules.specs.declared.outcome.Outcome.{Outcome}
 use Rattle.kp_rules.specs.declared.outcome.Outcome.TheVariants.{Unsent}
 use Rattle.kp_rules.specs.InOrder.{AreRising}
 use Rattle.kp_rules.specs.Partitions.{partition_at, items_queued, used}
-use Rattle.kp_rules.specs.Records.{Told}
-use Rattle.kp_world.specs.Accepting.{accepted_by, for_partition, taken_by}
+use Rattle.kp_rules.specs.Records.{HandedBatch, Told}
+use Rattle.kp_world.specs.Accepting.{for_partition}
 use Rattle.kp_world.specs.Client.{handed_at}
-use Rattle.kp_world.specs.World.{World, Happened}
+use Rattle.kp_world.specs.Facts.{Facts}
 
 -- ---- items: of one sender and partition they are told apart by their numbers
 
@@ -25,18 +25,17 @@ of_sender s items = filter (λ i. i.sender == s) items
 
 -- ---- handed over
 
--- the items of a partition that were handed over, in order
-abbrev pub items_handed : ℕ → World → List Item
-items_handed p w = flat_map (λ b. b.items) (handed_at p w.handed)
+-- the items of batches, in order
+abbrev pub items_of : List HandedBatch → List Item
+items_of batches = flat_map (λ b. b.items) batches
+
+abbrev pub items_handed : ℕ → Facts → List Item
+items_handed p f = items_of (handed_at p f.handed)
 
 -- ---- told
 
--- all that was told, in order
-abbrev pub told_in : List Happened → List Told
-told_in past = flat_map (λ h. h.told) past
-
-abbrev pub told_items : World → List Item
-told_items w = map (λ t. t.item) (told_in w.past)
+abbrev pub told_items : Facts → List Item
+told_items f = map (λ t. t.item) f.told
 
 abbrev pub is_unsent : Outcome → Bool
 is_unsent (Unsent why) = true
@@ -46,59 +45,61 @@ is_unsent _ = false
 abbrev pub unsent_among : List Told → List Item
 unsent_among told = map (λ t. t.item) (filter (λ t. is_unsent t.outcome) told)
 
-abbrev pub told_unsent : World → List Item
-told_unsent w = unsent_among (told_in w.past)
+-- ---- accepted, and still waiting
 
--- ---- still waiting
+abbrev pub all_accepted : ℕ → Facts → List Item
+all_accepted s f = slice_index_or f.accepted s []
 
--- a sender's items that were accepted and not yet taken
-abbrev pub not_taken : ℕ → World → List Item
-not_taken s w = drop (taken_by s w) (accepted_by s w)
+-- a sender's items that were accepted and taken, and those not yet taken
+abbrev pub taken_from : ℕ → Facts → List Item
+taken_from s f = take (slice_index f.taken s) (all_accepted s f)
+
+abbrev pub not_taken : ℕ → Facts → List Item
+not_taken s f = drop (slice_index f.taken s) (all_accepted s f)
 
 -- a partition's items that were taken and wait in its queue
-abbrev pub queued_at : ℕ → World → List Item
-queued_at p w = items_queued (partition_at p w.core.partitions).queue
+abbrev pub queued_at : ℕ → Facts → List Item
+queued_at p f = items_queued (partition_at p f.core.partitions).queue
 
-abbrev pub still_waits : World → Item → Bool
-still_waits w i = is_among i (not_taken i.sender w) || is_among i (queued_at i.partition w)
+abbrev pub still_waits : Facts → Item → Bool
+still_waits f i = is_among i (not_taken i.sender f) || is_among i (queued_at i.partition f)
 
 -- ---- what was accepted is accounted for
 
 -- It was neither told Unsent nor does it still wait.
-abbrev pub has_left : World → Item → Bool
-has_left w i = not (is_among i (told_unsent w)) && not (still_waits w i)
+abbrev pub has_left : Facts → Item → Bool
+has_left f i = not (is_among i (unsent_among f.told)) && not (still_waits f i)
 
 -- What was handed over of a sender and partition is what was accepted and has left, in order.
-abbrev pub AreAccountedFor : ℕ → ℕ → World → Type 0
-AreAccountedFor s p w =
-    of_sender s (items_handed p w) ≡ filter (has_left w) (for_partition p (accepted_by s w))
+abbrev pub AreAccountedFor : ℕ → ℕ → Facts → Type 0
+AreAccountedFor s p f =
+    of_sender s (items_handed p f) ≡ filter (has_left f) (for_partition p (all_accepted s f))
 
 -- An item's number is its place among those that its sender had accepted for its partition.
-pub record ArePlaced (s p : ℕ) (w : World) : Type 0 where
-  pub senders : AllByRecursion (λ i. i.sender ≡ s) (accepted_by s w)
-  pub numbers : map (λ i. i.number) (for_partition p (accepted_by s w))
-      ≡ range_with_len 0 (length (for_partition p (accepted_by s w)))
+pub record ArePlaced (s p : ℕ) (f : Facts) : Type 0 where
+  pub senders : AllByRecursion (λ i. i.sender ≡ s) (all_accepted s f)
+  pub numbers : map (λ i. i.number) (for_partition p (all_accepted s f))
+      ≡ range_with_len 0 (length (for_partition p (all_accepted s f)))
 
 -- Of each sender the items were handed over in the order of their numbers, and each once.
-abbrev pub AreInOrder : ℕ → ℕ → World → Type 0
-AreInOrder s p w = AreRising (map (λ i. i.number) (of_sender s (items_handed p w)))
+abbrev pub AreInOrder : ℕ → ℕ → Facts → Type 0
+AreInOrder s p f = AreRising (map (λ i. i.number) (of_sender s (items_handed p f)))
 
 -- No item that was told Unsent was handed over.
-abbrev pub IsNeverSent : ℕ → World → Type 0
-IsNeverSent p w = AllByRecursion (λ i. is_among i (told_unsent w) ≡ false) (items_handed p w)
+abbrev pub IsNeverSent : ℕ → Facts → Type 0
+IsNeverSent p f = AllByRecursion (λ i. is_among i (unsent_among f.told) ≡ false) (items_handed p f)
 
 -- ---- what was taken is told once, and uses memory until then
 
 -- No two of the items that were told are one.
-abbrev pub IsToldOnce : World → Type 0
-IsToldOnce w = IsDistinct is_same (told_items w)
+abbrev pub IsToldOnce : Facts → Type 0
+IsToldOnce f = IsDistinct is_same (told_items f)
 
 -- the items that were taken, by sender
-abbrev pub items_taken : World → List Item
-items_taken w =
-    flat_map (λ s. take (taken_by s w) (accepted_by s w)) (range_with_len 0 (length w.accepted))
+abbrev pub items_taken : Facts → List Item
+items_taken f = flat_map (λ s. taken_from s f) (range_with_len 0 (length f.accepted))
 
 -- The memory that is used is what the items take that were taken and are not told.
-abbrev pub IsUsedByUntold : World → Type 0
-IsUsedByUntold w =
-    used w.core ≡ sum_by charge_of (filter (λ i. not (is_among i (told_items w))) (items_taken w))
+abbrev pub IsUsedByUntold : Facts → Type 0
+IsUsedByUntold f =
+    used f.core ≡ sum_by charge_of (filter (λ i. not (is_among i (told_items f))) (items_taken f))

@@ -11,6 +11,7 @@ pub mod Run
 pub mod Replay
 pub mod Lines
 pub mod Text
+pub mod Facts
 pub mod Accounts
 pub mod LogLaws
 pub mod Reaching

@@ -1,4 +1,4 @@
--- What holds of the partitions' logs in every world that a schedule leads to, for any honest broker.
+-- What holds of the partitions' logs in every run, for any honest broker.
 use Rattle.std.specs.Prelude.{◌≡◌, ℕ, ℤ, pos, List, ◌∷◌, ◌++◌, map, length, None, Contains}
 use Rattle.kp_accum.specs.declared.item.Item.{Item}
 use Rattle.kp_log.specs.declared.stored.Stored.{Stored}
@@ -13,17 +13,18 @@ use Rattle.kp_rules.specs.Requesting.{Packet}
 use Rattle.kp_world.specs.Accounts.{items_handed}
 use Rattle.kp_world.specs.Client.{handed_at}
 use Rattle.kp_world.specs.Delivering.{log_at}
+use Rattle.kp_world.specs.Facts.{Facts}
 use Rattle.kp_world.specs.Message.{sent_of}
-use Rattle.kp_world.specs.World.{PartAnswer, Batches, Happened, Reply, World}
+use Rattle.kp_world.specs.World.{PartAnswer, Batches, Reply, World}
 
-abbrev pub partition_of : ℕ → World → Partition
-partition_of p w = partition_at p w.core.partitions
+abbrev pub partition_of : ℕ → Facts → Partition
+partition_of p f = partition_at p f.core.partitions
 
 -- ---- the log
 
 -- the own records of a partition's log: those under the partition's producer ids, in order
-abbrev pub own_records : ℕ → World → List Stored
-own_records p w = own (partition_of p w).ids (log_at p w.logs).records
+abbrev pub own_records : ℕ → Facts → List Stored
+own_records p f = own (partition_of p f).ids (log_at p f.logs).records
 
 -- the records of these batches, as a log has them
 abbrev pub as_stored : List HandedBatch → List Stored
@@ -31,41 +32,40 @@ as_stored batches = records_of (map sent_of batches)
 
 -- Of the batches that were handed over for the partition the first so many are stored, whole and in
 -- their order, and the log has no other own records.
-pub record IsPrefix (p : ℕ) (w : World) : Type 0 where
+pub record IsPrefix (p : ℕ) (f : Facts) : Type 0 where
   pub stored : List HandedBatch
   pub rest : List HandedBatch
-  pub handed : handed_at p w.handed ≡ stored ++ rest
-  pub records : own_records p w ≡ as_stored stored
+  pub handed : handed_at p f.handed ≡ stored ++ rest
+  pub records : own_records p f ≡ as_stored stored
 
 -- ---- what was told
 
--- Some event told this.
-pub record WasTold (w : World) (t : Told) : Type 0 where
-  pub event : Happened
-  pub happened : Contains w.past event
-  pub told : Contains event.told t
-
 -- The item's record is the one at this offset of its partition's log, under one of the partition's
 -- ids, and as many own records stand before it as items were handed over before it.
-pub record StandsAt (w : World) (i : Item) (offset : ℤ) : Type 0 where
+pub record StandsAt (f : Facts) (i : Item) (offset : ℤ) : Type 0 where
   pub earlier : List Item
   pub later : List Item
-  pub handed : items_handed i.partition w ≡ earlier ++ i ∷ later
+  pub handed : items_handed i.partition f ≡ earlier ++ i ∷ later
   pub id : ℕ
-  pub known : Contains (partition_of i.partition w).ids id
+  pub known : Contains (partition_of i.partition f).ids id
   pub before : List Stored
   pub after : List Stored
-  pub record_is : (log_at i.partition w.logs).records
+  pub record_is : (log_at i.partition f.logs).records
       ≡ before ++ (record { producer_id = pos id; body = i.body }) ∷ after
   pub offset_is : offset ≡ pos (length before)
-  pub place : length (own (partition_of i.partition w).ids before) ≡ length earlier
+  pub place : length (own (partition_of i.partition f).ids before) ≡ length earlier
 
-abbrev pub ToldOffsetsStand : World → Type 0
-ToldOffsetsStand w =
+abbrev pub ToldOffsetsStand : Facts → Type 0
+ToldOffsetsStand f =
     (t : Told) (offset : ℤ)
-    → WasTold w t
+    → Contains f.told t
     → t.outcome ≡ Delivered offset
-    → StandsAt w t.item offset
+    → StandsAt f t.item offset
+
+-- No item is told delivered without its offset.
+abbrev pub EachDeliveryHasItsOffset : Facts → Type 0
+EachDeliveryHasItsOffset f =
+    (t : Told) → Contains f.told t → t.outcome ≡ DeliveredNoOffset → ⊥
 
 -- ---- answers
 
@@ -85,28 +85,24 @@ NoDuplicateIsAwaited w =
     (k : ℕ) (a : PartAnswer)
     → WasAnswered w k a
     → a.answer.code ≡ DUPLICATE_SEQUENCE_NUMBER
-    → awaiting k (partition_of a.partition w) ≡ None
-
--- So no item is ever told delivered without its offset.
-abbrev pub EachDeliveryHasItsOffset : World → Type 0
-EachDeliveryHasItsOffset w = (t : Told) → WasTold w t → t.outcome ≡ DeliveredNoOffset → ⊥
+    → awaiting k (partition_at a.partition w.core.partitions) ≡ None
 
 -- ---- packets
 
 -- A packet went out with this batch of the partition.
-pub record WentOut (w : World) (p : ℕ) (b : HandedBatch) : Type 0 where
+pub record WentOut (f : Facts) (p : ℕ) (b : HandedBatch) : Type 0 where
   pub packet : Packet
-  pub sent : Contains w.packets packet
+  pub sent : Contains f.packets packet
   pub parts : List Sending
   pub demand : packet.demand ≡ Produce parts
   pub part : Contains parts (record { partition = p; batch = b })
 
 -- Whenever a batch under an earlier producer id comes again, the log stays as it is.
-abbrev pub EarlierIdsAreSilent : World → Type 0
-EarlierIdsAreSilent w =
+abbrev pub EarlierIdsAreSilent : Facts → Type 0
+EarlierIdsAreSilent f =
     (p : ℕ) (b : HandedBatch)
-    → WentOut w p b
-    → (b.id ≡ present_id (partition_of p w) → ⊥)
+    → WentOut f p b
+    → (b.id ≡ present_id (partition_of p f) → ⊥)
     → (answer : Answered) (after : History)
-    → BrokerStep (log_at p w.logs) (sent_of b) answer after
-    → after ≡ log_at p w.logs
+    → BrokerStep (log_at p f.logs) (sent_of b) answer after
+    → after ≡ log_at p f.logs

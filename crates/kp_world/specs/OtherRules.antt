@@ -15,7 +15,7 @@ use Rattle.kp_rules.specs.Attempts.{awaiting}
 use Rattle.kp_rules.specs.HandingOver.{again_in}
 use Rattle.kp_rules.specs.MaySend.{HandOverRule, is_confirmed, is_in_span, is_within_limit, sends_by}
 use Rattle.kp_rules.specs.Next.{Sending, batches_by, demand_with}
-use Rattle.kp_rules.specs.Partitions.{items_open, changed_at}
+use Rattle.kp_rules.specs.Partitions.{items_open, partition_at, changed_at}
 use Rattle.kp_rules.specs.Records.{Demand, Produce, InitProducerId, Partition, Request, Core, Open}
 use Rattle.kp_rules.specs.Replies.{awaited}
 use Rattle.kp_rules.specs.Requesting.{Packet, Requested, request_for, partitions_in}
@@ -28,7 +28,7 @@ use Rattle.kp_world.specs.Events as event
 use Rattle.kp_world.specs.declared.event.Treatment.TheVariants.{Judged}
 use Rattle.kp_world.specs.Causes.{TellsByRule}
 use Rattle.kp_world.specs.Client.{sending, replying, ticked_to, client}
-use Rattle.kp_world.specs.LogLaws.{partition_of}
+use Rattle.kp_world.specs.Facts.{Facts, facts}
 use Rattle.kp_world.specs.Reaching.{feed}
 use Rattle.kp_world.specs.Run.{Producer, StepsBy, RunBy, MayBegin}
 use Rattle.kp_world.specs.World.{Reply, World, opening, scheduled}
@@ -83,7 +83,7 @@ sequence_awaiting k t = unwrap_or (option_map (λ o. pos o.batch.sequence) (awai
 
 abbrev pub at_sequence : World → ℕ → PartitionProduceResponse → PartitionProduceResponse
 at_sequence w k entry = record entry {
-  base_offset = sequence_awaiting k (partition_of (nat_abs entry.partition) w);
+  base_offset = sequence_awaiting k (partition_at (nat_abs entry.partition) w.core.partitions);
 }
 
 abbrev pub topic_at_sequences : World → ℕ → TopicProduceResponse → TopicProduceResponse
@@ -170,7 +170,7 @@ open_expires c now t =
 abbrev pub with_ids_of : World → World → World
 with_ids_of w v = record v {
   core = record v.core {
-    partitions = map (λ x. record x.1 { ids = (partition_of x.0 w).ids })
+    partitions = map (λ x. record x.1 { ids = (partition_at x.0 w.core.partitions).ids })
         (enumerate_from 0 v.core.partitions);
   };
 }
@@ -184,12 +184,12 @@ keeping_ids e w = client e w
 
 -- With one partition, one sender and some honest broker such a producer goes through this schedule,
 -- and then the law does not hold.
-pub record Breaks (producer : Producer) (c : Config) (es : List Event) (Law : World → Type 0)
+pub record Breaks (producer : Producer) (c : Config) (es : List Event) (Law : Facts → Type 0)
     : Type 0 where
   pub may_begin : MayBegin (scheduled c 1 1)
   pub world : World
   pub run : RunBy (StepsBy producer) (opening (scheduled c 1 1)) (events_of 0 es) world
-  pub broken : Law world → ⊥
+  pub broken : Law (facts world) → ⊥
 
 -- So it goes through this schedule, and tells in the event behind it what the outcome rule has no
 -- case for.

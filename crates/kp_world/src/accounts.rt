@@ -5,6 +5,7 @@ ghost use Rattle.kp_world.specs.Events.{WorldEvent};
 ghost use Rattle.kp_world.specs.Events as event;
 ghost use Rattle.kp_world.specs.Accounts.{AreAccountedFor, AreInOrder, ArePlaced, IsNeverSent, IsToldOnce, IsUsedByUntold};
 ghost use Rattle.kp_world.specs.Causes.{TellsByRule};
+ghost use Rattle.kp_world.specs.Facts.{facts};
 ghost use Rattle.kp_world.specs.Run.{Steps, Run, IsReached};
 ghost use Rattle.kp_world.specs.World.{World, Opening};
 
@@ -12,26 +13,26 @@ ghost use Rattle.kp_world.specs.World.{World, Opening};
 /// neither told Unsent nor still wait.
 pub fn what_was_accepted_is_accounted_for()
     ensures { (o : Opening) (es : List WorldEvent) (w : World) (s p : ℕ)
-        → IsReached o es w → p < o.partitions → AreAccountedFor s p w }
+        → IsReached o es w → p < o.partitions → AreAccountedFor s p (facts w) }
 {}
 
 /// They are handed over in the order of their numbers, each once.
 pub fn items_are_handed_over_in_order_and_once()
     ensures { (o : Opening) (es : List WorldEvent) (w : World) (s p : ℕ)
-        → IsReached o es w → p < o.partitions → AreInOrder s p w }
+        → IsReached o es w → p < o.partitions → AreInOrder s p (facts w) }
 {}
 
 /// An item's number is its place among those that its sender had accepted for its partition; so numbers tell them
 /// apart.
 pub fn items_are_numbered_by_place()
     ensures { (o : Opening) (es : List WorldEvent) (w : World) (s p : ℕ)
-        → IsReached o es w → ArePlaced s p w }
+        → IsReached o es w → ArePlaced s p (facts w) }
 {}
 
 /// No item that was told Unsent was ever handed over.
 pub fn unsent_is_never_sent()
     ensures { (o : Opening) (es : List WorldEvent) (w : World) (p : ℕ)
-        → IsReached o es w → p < o.partitions → IsNeverSent p w }
+        → IsReached o es w → p < o.partitions → IsNeverSent p (facts w) }
 {}
 
 /// No event after a close accepts.
@@ -43,14 +44,14 @@ pub fn nothing_is_accepted_after_close()
 /// Each item is told of at most once.
 pub fn each_item_is_told_once()
     ensures { (o : Opening) (es : List WorldEvent) (w : World)
-        → IsReached o es w → IsToldOnce w }
+        → IsReached o es w → IsToldOnce (facts w) }
 {}
 
 /// The memory that is used is what the items take that were taken and are not told; those that were turned away were
 /// told at once.
 pub fn memory_is_of_what_is_not_told()
     ensures { (o : Opening) (es : List WorldEvent) (w : World)
-        → IsReached o es w → IsUsedByUntold w }
+        → IsReached o es w → IsUsedByUntold (facts w) }
 {}
 
 /// An event tells what the one call on the core that it makes tells, and each of it is a case of the outcome rule.
