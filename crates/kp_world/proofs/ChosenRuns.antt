@@ -6,7 +6,7 @@ use Rattle.std.specs.List.{AllByRecursion, list_any}
 use Rattle.std.proofs.lemmas.Bool.{true≢false, eq-eqb, eqb-true, leb-true, and_parts}
 use Rattle.std.proofs.lemmas.Int.{ints}
 use Rattle.kp_log.specs.BrokerStep.{Answered, BrokerStep}
-use Rattle.kp_log.specs.History.{History, stored_of, of_id, with_batch}
+use Rattle.kp_log.specs.History.{Sent, History, stored_of, of_id, with_batch}
 use Rattle.kp_log.specs.Log.{KEPT, count_of}
 use Rattle.kp_rules.specs.Next.{Sending}
 use Rattle.kp_rules.specs.Records.{Demand, Produce, InitProducerId}
@@ -69,6 +69,14 @@ MayChoose (Forgotten place) w (Produce (x ∷ [])) =
 MayChoose GiveId w (InitProducerId p) = (list_any (λ d. d == next_id w.ids) w.ids ≡ false) × AllByRecursion (λ h. HasNone h.records (next_id w.ids)) w.logs
 MayChoose choice w d = ⊥
 
+-- the batch begins at the count of its id's records, and is appended
+pub appends : (h : History) (b : Sent) → Holds (count_of (pos b.id) h.records == b.sequence) → BrokerStep h b (record { code = pos 0; base = pos (length h.records) }) (with_batch b h)
+appends h b e = record {
+  change = inr (inl (is_equal _ _ e), refl);
+  stands = λ none. record { before = h.records; after = []; split = ap (λ z. h.records ++ z) (sym (append-nil (stored_of b))); offset = refl; place = is_equal _ _ e };
+  is_old = λ old. absurd (omega (arith, ints, old));
+}
+
 part_delivers : (w : World) (x : Sending) (answer : Answered) (log : History) → BrokerStep (log_of w x) (sent_of x.batch) answer log → Delivers w (Produce (x ∷ [])) (part_came w x answer log)
 unfolding Delivers PartsDeliver
 part_delivers w x answer log h = (_, (_, record { partition = refl; log = log; step = h; after_is = refl }, refl), refl, refl)
@@ -88,11 +96,7 @@ is_fresh (d ∷ ids) id e = at_test (d == id) refl e (λ e'. is_fresh ids id e')
 
 is_honest : (c : Choice) (w : World) (d : Demand Sending) → MayChoose c w d → Delivers w d (chosen c w d)
 unfolding Delivers
-is_honest Append w (Produce (x ∷ [])) e = part_delivers w x _ _ (record {
-  change = inr (inl (is_equal _ _ e), refl);
-  stands = λ none. record { before = (log_of w x).records; after = []; split = ap (λ z. (log_of w x).records ++ z) (sym (append-nil (stored_of (sent_of x.batch)))); offset = refl; place = is_equal _ _ e };
-  is_old = λ old. absurd (omega (arith, ints, old));
-})
+is_honest Append w (Produce (x ∷ [])) e = part_delivers w x _ _ (appends (log_of w x) (sent_of x.batch) e)
 is_honest AppendLate w (Produce (x ∷ [])) e =
     part_delivers w x _ _ (record { change = inr (inr (is_equal _ _ e), refl); stands = λ none. absurd (omega (arith, ints, none)); is_old = λ old. absurd (omega (arith, ints, old)) })
 is_honest (Repeat offset) w (Produce (x ∷ [])) e = part_delivers w x _ _ (record {
@@ -165,7 +169,7 @@ AreHonest producer cs (event.Deliver k ∷ es) w = MayCome (first_of cs) w (slic
 AreHonest producer cs (event.Other p records ∷ es) w = AreOthers w.ids records × AreHonest producer cs es (next producer (first_of cs) (event.Other p records) w)
 AreHonest producer cs (e ∷ es) w = AreHonest producer cs es (next producer (first_of cs) e w)
 
-goes_on : (o : Option World) (w : World) (later : Bool) → is_some o && later ≡ true → (o ≡ Some (unwrap_or o w)) × (later ≡ true)
+pub goes_on : (o : Option World) (w : World) (later : Bool) → is_some o && later ≡ true → (o ≡ Some (unwrap_or o w)) × (later ≡ true)
 goes_on (Some v) w later e = (refl, e)
 goes_on None w later e = absurd cc
 

@@ -1,5 +1,5 @@
 -- What holds of the world after each kind of event holds after any step.
-use Rattle.std.proofs.Common.{◌≡◌, ℕ, ◌<◌, Bool, true, false, List, [], ◌∷◌, length, Some, None, refl, sym, subst}
+use Rattle.std.proofs.Common.{◌≡◌, ℕ, ◌<◌, Bool, true, false, List, [], ◌∷◌, ◌++◌, length, Some, None, refl, sym, subst}
 use Rattle.std.specs.Prelude.{Result, Ok, Err, Option, if◌then◌else◌, ◌&&◌, slice_get}
 use Rattle.std.proofs.lemmas.Bool.{and_parts, ltb-true}
 use Rattle.kp_batch.specs.declared.record.Record.{Record}
@@ -132,6 +132,15 @@ at_step P w c event.End v e = at_client P w c.client event.End v e
 at_step P w c event.Flush v e = at_client P w c.client event.Flush v e
 
 -- ---- a run
+
+pub run_one : (w : World) (e : WorldEvent) (v : World) → Steps w e v → Run w (e ∷ []) v
+unfolding Run
+run_one w e v s = (v, s, refl)
+
+pub run_append : (es fs : List WorldEvent) (u v w : World) → Run u es v → Run v fs w → Run u (es ++ fs) w
+unfolding Run
+run_append [] fs u v w r s = subst (λ (x : World). Run x fs w) r s
+run_append (e ∷ es) fs u v w r s = (r.0, r.1, run_append es fs r.0 v w r.2 s)
 
 pub at_run : (P : World → Type 0) → ((w : World) → P w → (e : WorldEvent) (v : World) → Steps w e v → P v)
     → (es : List WorldEvent) (w v : World) → Run w es v → P w → P v

@@ -45,6 +45,7 @@ pub mod TruthLemmas
 pub mod StandingLemmas
 pub mod ReachingLemmas
 pub mod ChosenRuns
+pub mod Widths
 pub mod BrokenLaws
 pub mod FreshIdLemmas
 pub mod RuledLemmas

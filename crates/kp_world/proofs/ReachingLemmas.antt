@@ -31,7 +31,7 @@ may_begin c e = record {
   known_correlation = omega arith;
 }
 
-default_passes : checked default_config ≡ Ok tt
+pub default_passes : checked default_config ≡ Ok tt
 unfolding checked is_outside
 default_passes = refl
 

@@ -1,4 +1,4 @@
-//! What may happen in a world.
+//! The events of a schedule.
 
 use kp_wire::Blob;
 
@@ -13,7 +13,7 @@ pub enum Treatment {
     Late(i16),
 }
 
-/// What may happen in a world. Senders, partitions, packets and replies are told by their numbers, from 0.
+/// What may happen in a schedule. Senders, partitions, packets and replies are told by their numbers, from 0.
 #[derive(Debug, Drop)]
 pub enum Event {
     /// A sender has a record without a key accepted.
