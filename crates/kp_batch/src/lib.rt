@@ -19,6 +19,3 @@ pub use reading::read_batch;
 pub use record::{Header, Record, Timestamp};
 pub use size::{SIZE_LIMIT, batch_size, charge, record_size, size_with};
 pub use writing::write_batch;
-
-#[cfg(test)]
-mod tests;

@@ -25,6 +25,3 @@ pub use producer_id::{InitProducerIdRequest, InitProducerIdResponse};
 pub use request::{Request, RequestBody, read_request, write_request};
 pub use response::{Response, ResponseBody, read_response, write_response};
 pub use splitter::Splitter;
-
-#[cfg(test)]
-mod tests;

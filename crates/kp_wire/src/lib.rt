@@ -45,6 +45,3 @@ pub use varint::{
     put_varint, put_varlong, read_varint, read_varlong, take_varint, take_varlong, varint_len,
     varlong_len,
 };
-
-#[cfg(test)]
-mod tests;

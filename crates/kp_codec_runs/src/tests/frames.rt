@@ -3,7 +3,13 @@ mod reading;
 mod splitter;
 mod writing;
 
-use super::*;
+use kp_frames::{
+    Api, Broker, FrameFault, InitProducerIdRequest, InitProducerIdResponse, MetadataRequest,
+    MetadataResponse, PartitionMetadata, PartitionProduceData, PartitionProduceResponse,
+    ProduceRequest, ProduceResponse, Request, RequestBody, Response, ResponseBody, Splitter,
+    TopicMetadata, TopicProduceData, TopicProduceResponse, read_request, read_response,
+    write_request, write_response,
+};
 use kp_wire::{Blob, Seq, Text, WireFault};
 use std::alloc::{AllocError, Global};
 use std::fmt::Debug;

@@ -2,7 +2,17 @@ mod fields;
 mod hash;
 mod string;
 
-use super::*;
+use kp_wire::{
+    Blob, ReadError, ReadField, Seq, Text, WireFault, WriteError, WriteField, add_sizes, crc32c,
+    end_before, murmur2, partition_of_key, put_all, put_array, put_bool, put_i8, put_i16, put_i32,
+    put_i64, put_nullable, put_nullable_array, put_nullable_text, put_records, put_string,
+    put_text, put_u32, put_varint, put_varlong, read_array, read_bool, read_bytes, read_i8,
+    read_i16, read_i32, read_i64, read_many, read_nullable, read_nullable_array,
+    read_nullable_text, read_records, read_string, read_text, read_u32, read_utf8, read_varint,
+    read_varlong, size_of_array, size_of_bool, size_of_i16, size_of_i32, size_of_i64,
+    size_of_nullable_array, size_of_nullable_text, size_of_records, size_of_text, take_nullable,
+    take_string, take_varint, take_varlong, varint_len, varlong_len,
+};
 use std::alloc::Global;
 use std::test::Fail;
 

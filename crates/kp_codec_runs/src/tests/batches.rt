@@ -6,7 +6,10 @@ mod numbers;
 mod timestamps;
 mod writing;
 
-use super::*;
+use kp_batch::{
+    AsRecord, BatchFault, BatchHead, Header, Record, SIZE_LIMIT, Timestamp, batch_size, charge,
+    read_batch, record_size, write_batch,
+};
 use kp_wire::{Blob, Seq, Text, WireFault, crc32c};
 use std::alloc::{AllocError, Global};
 use std::process::Abort;

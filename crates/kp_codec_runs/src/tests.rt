@@ -1,0 +1,3 @@
+mod batches;
+mod frames;
+mod wire;
