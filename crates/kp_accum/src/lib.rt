@@ -18,6 +18,3 @@ pub use flags::Flags;
 pub use item::Item;
 pub use pending::Pending;
 pub use queue::Queue;
-
-#[cfg(test)]
-mod tests;

@@ -2,7 +2,6 @@ pub mod DeskLemmas
 pub mod DeskKeeping
 pub mod AuditLemmas
 pub mod FramingLemmas
-pub mod FramingFacts
 pub mod PartitionRoomLemmas
 pub mod SendsLemmas
 pub mod IdleLemmas

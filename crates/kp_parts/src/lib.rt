@@ -17,6 +17,3 @@ pub use moments::{is_over, moment, sooner};
 pub use open::Open;
 pub use partition::Partition;
 pub use sending::Sending;
-
-#[cfg(test)]
-mod tests;

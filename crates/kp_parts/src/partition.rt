@@ -92,6 +92,3 @@ impl Partition {
         })
     }
 }
-
-#[cfg(test)]
-mod tests;

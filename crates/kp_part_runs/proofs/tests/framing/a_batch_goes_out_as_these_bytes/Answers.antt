@@ -5,8 +5,8 @@ use Rattle.std.specs.Result.{result_ok}
 use Rattle.kp_accum.specs.declared.item.Item.{Item}
 use Rattle.kp_accum.specs.Queue.{Pending, begun_by}
 use Rattle.kp_rules.proofs.Scenes.{item}
-use Rattle.kp_parts.proofs.FramingFacts.{one_batch_fits}
-use Rattle.kp_parts.proofs.tests.framing.a_batch_goes_out_as_these_bytes.Goals as goal
+use Rattle.kp_part_runs.proofs.FramingFacts.{one_batch_fits}
+use Rattle.kp_part_runs.proofs.tests.framing.a_batch_goes_out_as_these_bytes.Goals as goal
 
 pub produce_frame-requires : goal.produce_frame-requires
 produce_frame-requires g c =

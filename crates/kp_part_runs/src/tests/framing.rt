@@ -1,11 +1,9 @@
 ghost use Rattle.std.specs.Prelude.{◌≡◌, [], ◌∷◌, None, Some, IfOk, codes};
 ghost use Rattle.kp_accum.specs.Queue.{begun_by};
 
-use crate::framing::{id_frame, produce_frame};
-use crate::handed::HandedBatch;
-use crate::sending::{Sending, batch_bytes, batch_head};
 use kp_accum::{Config, Item, Queue};
 use kp_batch::{Record, SIZE_LIMIT, Timestamp};
+use kp_parts::{HandedBatch, Sending, id_frame, produce_frame};
 use kp_rules::Names;
 use kp_wire::{Blob, Seq, Text};
 use std::alloc::Global;
@@ -104,12 +102,16 @@ fn queue_of(alloc: Global, config: &Config, item: Item) -> Result<Queue, Fail>
 
 #[test]
 fn a_batch_is_written_as_these_bytes(rt: HostRuntime) -> Result<(), Fail> {
-    let item = item(rt.alloc())?;
-    if item.charge() > SIZE_LIMIT {
-        return Err(Fail::new("an item that is too large"));
-    }
-    let bytes = batch_bytes(rt.alloc(), batch_head(1000, 0), &[item])?;
-    assert_eq!(rt; bytes.as_slice(), BATCH.as_slice());
+    let config = Config::default();
+    let queue = queue_of(rt.alloc(), &config, item(rt.alloc())?)?;
+    let front = queue.front().ok_or("a batch")?;
+    let sending = Sending {
+        partition: 0,
+        batch: HandedBatch::new(0, 1000, 0, front),
+    };
+    let data = sending.partition_data(rt.alloc())?;
+    assert_eq!(rt; data.partition, 0);
+    assert_eq!(rt; data.records.as_slice(), BATCH.as_slice());
     Ok(())
 }
 

@@ -1,7 +1,6 @@
-use crate::handed::HandedBatch;
-use crate::partition::Partition;
 use kp_accum::{Config, Flags, Item};
 use kp_batch::{Record, SIZE_LIMIT, Timestamp};
+use kp_parts::{HandedBatch, Partition};
 use kp_rules::Attempt;
 use kp_wire::{Blob, Seq};
 use std::alloc::Global;

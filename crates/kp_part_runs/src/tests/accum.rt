@@ -1,4 +1,4 @@
-use super::*;
+use kp_accum::{Budget, Config, ConfigFault, Item};
 use kp_batch::{AsRecord, Record, Timestamp, charge};
 use kp_wire::{Blob, Seq};
 use std::test::Fail;

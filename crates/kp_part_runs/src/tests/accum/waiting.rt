@@ -1,4 +1,4 @@
-use crate::*;
+use kp_accum::{Accum, AppendFault, Config, Flags, Item, Pending, Queue};
 use kp_batch::{Record, Timestamp};
 use kp_wire::{Blob, Seq};
 use std::alloc::Global;

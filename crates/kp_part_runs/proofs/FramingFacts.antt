@@ -1,21 +1,22 @@
--- A request for a batch of one record fits a frame.
+-- A batch of one record can be written, and a request for it fits a frame.
 use Rattle.std.proofs.Common.{◌≡◌, ◌≤◌, ℕ, List, [], ◌∷◌, length, map, sum_by, refl, arith}
 use Rattle.std.specs.Prelude.{codes}
 use Rattle.std.specs.Str.{IsUtf8}
 use lib.Utf8.{encode}
 use Rattle.std.proofs.lemmas.List.Sums.{sum_by-cons}
 use Rattle.kp_batch.specs.declared.record.Record.{Record}
+use Rattle.kp_batch.specs.declared.size.TheConstants.{SIZE_LIMIT}
 use Rattle.kp_batch.specs.Spelling.{size_of_batch, HasSpelling}
 use Rattle.kp_accum.specs.declared.config.Config.{Config}
 use Rattle.kp_accum.specs.declared.item.Item.{Item}
 use Rattle.kp_accum.specs.Config.{default_config}
-use Rattle.kp_accum.specs.Queue.{body_of}
+use Rattle.kp_accum.specs.Queue.{body_of, size_of}
 use Rattle.kp_frames.specs.declared.produce.PartitionProduceData.{PartitionProduceData}
 use Rattle.kp_rules.specs.declared.names.Names.{Names}
 use Rattle.kp_rules.specs.Framing.{head_of, batch_of, data_of, message_of, FitsPacket}
 use Rattle.kp_rules.specs.Next.{Sending}
 use Rattle.kp_rules.specs.Records.{HandedBatch}
-use Rattle.kp_parts.specs.Written.{produce_packet}
+use Rattle.kp_parts.specs.Written.{IsWritable, produce_packet}
 use Rattle.kp_rules.proofs.BatchFitLemmas.{batch_fits, length_spelled, head_fits}
 use Rattle.kp_rules.proofs.Evaluation.{evaluated}
 use Rattle.kp_rules.proofs.RequestFitLemmas.{produce_fits}
@@ -68,3 +69,16 @@ pub one_batch_fits : (c : Config) (n : Names) (b : HandedBatch) → c ≡ defaul
 one_batch_fits c n b c_is n_is number id sequence items =
     let same : b ≡ (sending_of one).batch = same_batch b.number b.id b.sequence b.items number id sequence items in
     rw (c_is, n_is, same) fits
+
+has_size : size_of one ≤ SIZE_LIMIT
+unfolding size_of
+has_size = omega (arith, size_is)
+
+writable : IsWritable (sending_of one)
+writable = record { partition = omega arith; id = omega arith; sequence = omega arith; some = omega arith; size = has_size }
+
+pub one_batch_is_writable : (b : HandedBatch) → b.number ≡ 0 → b.id ≡ 1000 → b.sequence ≡ 0 → b.items ≡ item 0 0 97 ∷ []
+    → IsWritable (record { partition = 0; batch = b })
+one_batch_is_writable b number id sequence items =
+    let same : b ≡ (sending_of one).batch = same_batch b.number b.id b.sequence b.items number id sequence items in
+    rw same writable

@@ -1,0 +1,4 @@
+mod accum;
+mod desk;
+mod framing;
+mod partition;
