@@ -1,2 +1,3 @@
 mod EngineLemmas
 mod ReachesLemmas
+mod NumberedLemmas

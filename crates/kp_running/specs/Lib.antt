@@ -1,3 +1,4 @@
+pub mod Numbered
 pub mod Bells
 pub mod Engines
 pub mod Pace

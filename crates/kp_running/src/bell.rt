@@ -66,17 +66,30 @@ impl Bell {
 /// sender a report. One thread at a time may wait for it.
 #[derive(Drop)]
 pub struct SenderBell {
+    /// Whose it is.
+    number: usize,
     /// The thread waits, or is about to.
     asked: AtomicBool,
     parker: Parker,
 }
 
 impl SenderBell {
-    pub fn new() -> SenderBell {
+    /// The bell of this sender.
+    pub fn new(number: usize) -> SenderBell
+        ensures { result.number ≡ number }
+    {
         SenderBell {
+            number,
             asked: AtomicBool::new(false),
             parker: Parker::new(),
         }
+    }
+
+    /// Which sender's it is.
+    pub fn number(&self) -> usize
+        ensures { result ≡ self.now.number }
+    {
+        self.number
     }
 
     /// Ends the wait of the thread that has asked. It waits for nobody; where none has asked it only looks.

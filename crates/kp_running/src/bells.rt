@@ -1,7 +1,7 @@
 //! The bells of a producer.
 
 ghost use Rattle.std.specs.Prelude.{◌≡◌, ◌<◌, Some, IfOk, length, slice_get};
-ghost use Rattle.kp_running.specs.Bells.{engine_bell, sender_bells};
+ghost use Rattle.kp_running.specs.Numbered.{AreNumbered};
 
 use crate::bell::{Bell, SenderBell};
 use crate::turning::Turning;
@@ -12,15 +12,19 @@ use std::alloc::{AllocError, Global};
 pub struct Bells {
     engine: Bell,
     senders: Vec<SenderBell>,
+    ghost numbered: { AreNumbered senders.items },
 }
 
 impl Bells {
+    ghost use Rattle.kp_running.specs.Bells.{engine_bell, sender_bells};
+
+    #[tactic(auto, using(crate::proofs::NumberedLemmas::none_numbered, crate::proofs::NumberedLemmas::numbered_then))]
     pub fn new(alloc: Global, senders: usize) -> Result<Bells, AllocError>
         ensures { IfOk result (λ bells. length (sender_bells bells) ≡ senders) }
     {
         let mut bells = Vec::with_capacity(alloc, senders)?;
-        for _ in 0..senders {
-            bells.push_reserved(SenderBell::new());
+        for sender in 0..senders {
+            bells.push_reserved(SenderBell::new(sender));
         }
         Ok(Bells {
             engine: Bell::new(alloc)?,
@@ -45,7 +49,8 @@ impl Bells {
     /// A sender's bell.
     pub fn of(&self, sender: u32) -> &SenderBell
         requires { sender < length (sender_bells self.now) }
-        ensures { slice_get (sender_bells self.now) sender ≡ Some result.now }
+        ensures place { slice_get (sender_bells self.now) sender ≡ Some result.now }
+        ensures its { result.now.number ≡ sender }
     {
         &self.senders[sender as usize]
     }
