@@ -1,0 +1,177 @@
+//! A million bytes of noise in place of answers.
+
+use crate::tests::run::Setting;
+use crate::tests::steps::Step::{Answer, Core, Polls, Say, Send, Told};
+use crate::tests::steps::{IO, Scene, played};
+use kp_accum::Config;
+use kp_connection::script::Step::{End, Move};
+use kp_engine::{Cause, Stop};
+use kp_frames::FrameFault;
+use std::alloc::Global;
+use std::process::Abort;
+use std::random::RandomSource;
+use std::test::Fail;
+
+/// The connection is given up for the size of no frame.
+const TOO_LARGE: Stop = Stop::NeedStream(Cause::BadReply(FrameFault::TooLarge));
+
+/// It is given up for an answer without a correlation id.
+const SHORT: Stop = Stop::NeedStream(Cause::BadReply(FrameFault::Short));
+
+/// Bytes that look like noise, and are the same at each run: the first of each number of a linear congruential generator
+/// (Knuth's MMIX).
+#[derive(Clone, Copy)]
+struct Noise {
+    state: u64,
+}
+
+impl Noise {
+    fn new() -> Noise {
+        Noise { state: 1 }
+    }
+
+    fn byte(&mut self) -> u8 {
+        self.state = self
+            .state
+            .wrapping_mul(6_364_136_223_846_793_005)
+            .wrapping_add(1_442_695_040_888_963_407);
+        let [first, ..] = self.state.to_be_bytes();
+        first
+    }
+
+    /// A number of two bytes, less than this one.
+    fn below(&mut self, limit: u32) -> u32 {
+        let number = u32::from(self.byte()) * 256 + u32::from(self.byte());
+        number.checked_rem(limit).unwrap_or(0)
+    }
+
+    /// So many bytes, behind these.
+    fn bytes(&mut self, alloc: Global, begin: &[u8], count: u32) -> Result<Vec<u8>, Fail> {
+        let mut bytes = begin.to_vec(alloc)?;
+        for _ in 0..count {
+            bytes.push(self.byte())?;
+        }
+        Ok(bytes)
+    }
+
+    /// A frame of so many bytes, behind these.
+    fn frame(&mut self, alloc: Global, begin: &[u8], count: u32) -> Result<Vec<u8>, Fail> {
+        let content = self.bytes(alloc, begin, count)?;
+        let size = u32::try_from(content.len()).ok().ok_or("a size")?;
+        let mut frame = size.to_be_bytes().to_vec(alloc)?;
+        frame.extend_from_slice(&content)?;
+        Ok(frame)
+    }
+}
+
+/// An engine with one record. A request and a batch wait for 24 days, and the clock goes on by the time that a batch waits
+/// before it is sent again.
+fn one<R: Abort + RandomSource + AllocGlobal>(rt: &R) -> Result<Scene, Fail> {
+    let setting = Setting {
+        config: Config {
+            request_timeout_ms: 2_147_483_647,
+            delivery_timeout_ms: 2_147_483_647,
+            ..Config::default()
+        },
+        step: 100,
+        ..Setting::new()
+    };
+    played(rt, setting, &[Send(0, "a")])
+}
+
+/// Nothing was told, and the answer to the request with this correlation id still counts.
+fn is_answered(rt: &impl Abort, scene: &mut Scene, correlation: u32) -> Result<(), Fail> {
+    let steps = [
+        Told(0, ""),
+        Answer(correlation, 0),
+        Polls(1),
+        Told(0, "0/0/0 delivered 0"),
+    ];
+    scene.play(rt, &steps)
+}
+
+/// What the connection is given up for that gives these bytes, and ends. The engine goes on over another one.
+fn stop_of(scene: &mut Scene, bytes: Vec<u8>) -> Result<Stop, Fail> {
+    scene.stage.play(bytes, &[Move(usize::MAX), End], &[])?;
+    let stop = scene.run.poll().ok_or("the connection goes on")?;
+    if scene.give()? {
+        Ok(stop)
+    } else {
+        Err("no other connection is needed".into())
+    }
+}
+
+/// A thousand connections give a thousand bytes each, and end. Four of these pieces begin with the size of a frame, and
+/// none of these frames is whole.
+#[test]
+fn noise_is_a_frame_that_is_too_large_or_is_not_whole_at_the_end(
+    rt: HostRuntime,
+) -> Result<(), Fail> {
+    let mut scene = one(&rt)?;
+    let mut noise = Noise::new();
+    let mut ends = 0u32;
+    for _ in 0..1000 {
+        let piece = noise.bytes(rt.alloc(), &[], 1000)?;
+        let stop = stop_of(&mut scene, piece)?;
+        if stop == IO {
+            ends = ends.wrapping_add(1);
+        } else {
+            assert_eq!(rt; stop, TOO_LARGE);
+        }
+    }
+    assert_eq!(rt; ends, 4);
+    is_answered(&rt, &mut scene, 1002)
+}
+
+/// This frame leaves the core as it is.
+fn is_passed_over(rt: &impl Abort, scene: &mut Scene, frame: Vec<u8>) -> Result<(), Fail> {
+    let core = scene.run.core()?;
+    scene.stage.say(frame)?;
+    scene.play(rt, &[Polls(1), Core(core.as_str())])
+}
+
+/// Of 988 frames with contents of 0 to 2000 bytes, four have no correlation id, and no other's is that of the request:
+/// these leave the core as it is.
+#[test]
+fn noise_in_frames_is_to_no_request_and_changes_nothing(rt: HostRuntime) -> Result<(), Fail> {
+    let mut scene = one(&rt)?;
+    let mut noise = Noise::new();
+    let mut correlation = 2u32;
+    for _ in 0..988 {
+        scene.play(&rt, &[Say(""), Polls(1)])?;
+        let count = noise.below(2001);
+        let frame = noise.frame(rt.alloc(), &[], count)?;
+        if count >= 4 {
+            is_passed_over(&rt, &mut scene, frame)?;
+        } else {
+            assert_eq!(rt; stop_of(&mut scene, frame)?, SHORT);
+            correlation = correlation.wrapping_add(1);
+        }
+    }
+    assert_eq!(rt; correlation, 6);
+    scene.play(&rt, &[Say(""), Polls(1)])?;
+    is_answered(&rt, &mut scene, correlation)
+}
+
+/// Whether the content of an answer may be refused for it.
+fn is_named(stop: Stop) -> bool {
+    matches!(
+        stop,
+        Stop::NeedStream(Cause::BadReply(
+            FrameFault::Short | FrameFault::Trailing | FrameFault::Wire(_) | FrameFault::Mismatch,
+        ),)
+    )
+}
+
+/// Behind the correlation id of the request in flight.
+#[test]
+fn noise_under_a_requests_id_is_refused(rt: HostRuntime) -> Result<(), Fail> {
+    let mut scene = one(&rt)?;
+    let mut noise = Noise::new();
+    for correlation in 2..1002u32 {
+        let count = noise.below(1997);
+        let frame = noise.frame(rt.alloc(), &correlation.to_be_bytes(), count)?;
+        assert!(rt; is_named(stop_of(&mut scene, frame)?));
+    }
+    is_answered(&rt, &mut scene, 1002)
+}
