@@ -38,20 +38,19 @@ fn finish(run: &mut Run<Link>, loopback: &Loopback, most: usize) -> Result<bool,
     Err("not all is done".into())
 }
 
-/// Three records go out over a connection that is cut so and moves so many bytes at a call, and then over one that is not
-/// cut: whether it was needed.
-fn goes_on<R: Abort + RandomSource + AllocGlobal>(
-    rt: &R,
+/// Three records go out, and each is told of, and stands in the log once: whether another connection was needed.
+fn delivers(
+    rt: &impl Abort,
+    run: &mut Run<Link>,
+    loopback: &Loopback,
     cut: Cut,
     most: usize,
 ) -> Result<bool, Fail> {
-    let loopback = Loopback::new(rt.alloc())?;
-    let mut run = Run::open(rt, setting(), loopback.connect(cut, most)?)?;
     for value in ["a", "b", "c"] {
         run.send(0, value)?;
     }
     run.shut();
-    let again = finish(&mut run, &loopback, most)?;
+    let again = finish(run, loopback, most)?;
     assert_eq!(rt;
         run.told(0)?.as_str(),
         "0/0/0 delivered 0; 0/0/1 delivered 1; 0/0/2 delivered 2",
@@ -59,6 +58,17 @@ fn goes_on<R: Abort + RandomSource + AllocGlobal>(
     );
     assert_eq!(rt; loopback.log()?.as_slice(), b"abc".as_slice(), "at {cut:?}");
     Ok(again)
+}
+
+/// The same over a connection that is cut so and moves so many bytes at a call, and then over one that is not cut.
+fn goes_on<R: Abort + RandomSource + AllocGlobal>(
+    rt: &R,
+    cut: Cut,
+    most: usize,
+) -> Result<bool, Fail> {
+    let loopback = Loopback::new(rt.alloc())?;
+    let mut run = Run::open(rt, setting(), loopback.connect(cut, most)?)?;
+    delivers(rt, &mut run, &loopback, cut, most)
 }
 
 /// The connection ends after each number of bytes up to a few more than there are: a request has 112, and an answer 45.

@@ -1,8 +1,8 @@
 //! Where there is no room: in a sender's ring for reports, or in the buffer for records.
 
 use crate::tests::run::Setting;
-use crate::tests::steps::Step::{Answer, Flush, Gives, Polls, Send, Shut, Stops, Told, Turn};
-use crate::tests::steps::{Scene, plays};
+use crate::tests::steps::Step::{Answer, End, Flush, Gives, Polls, Send, Shut, Stops, Told, Turn};
+use crate::tests::steps::{held_after, plays};
 use kp_accum::Config;
 use kp_engine::Stop;
 use std::test::Fail;
@@ -151,7 +151,6 @@ fn what_is_left_at_the_end_is_told_or_given_back(rt: HostRuntime) -> Result<(), 
         capacity: 1,
         ..narrow(100, 0, 1)
     };
-    let mut scene = Scene::open(&rt, setting)?;
     let steps = [
         Answer(2, 0),
         Send(0, "a"),
@@ -163,14 +162,10 @@ fn what_is_left_at_the_end_is_told_or_given_back(rt: HostRuntime) -> Result<(), 
         Polls(1),
         Send(0, "d"),
         Turn("full 0/0/3; tick 0; idle at 0"),
+        End(1),
+        End(0),
     ];
-    scene.play(&rt, &steps)?;
-    assert_eq!(rt; scene.run.end(), 1);
-    assert_eq!(rt; scene.run.end(), 0);
-    let Scene { run, .. } = scene;
-    assert_eq!(rt;
-        run.held()?.as_str(),
-        "item 0/0/3; report 0/0/1 delivered 1; "
-    );
+    let held = held_after(&rt, setting, &steps)?;
+    assert_eq!(rt; held.as_str(), "item 0/0/3; report 0/0/1 delivered 1; ");
     Ok(())
 }

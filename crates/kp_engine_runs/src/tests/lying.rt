@@ -3,7 +3,7 @@
 use crate::tests::BATCH;
 use crate::tests::run::Setting;
 use crate::tests::steps::Step::{Answer, Give, Gives, Play, Request, Say, Send, Stops, Told, Turn};
-use crate::tests::steps::{IO, MISMATCH, Step, goes_on, played};
+use crate::tests::steps::{IO, MISMATCH, Step, core_after, goes_on};
 use kp_connection::script::Step::End;
 use std::process::Abort;
 use std::random::RandomSource;
@@ -23,20 +23,10 @@ const BEGUN: [Step<'static>; 2] = [
     Turn("append 0/0/0; tick 0; request 2 at 0; idle at 0"),
 ];
 
-/// The core, as it shows itself once these steps were taken behind the request.
-fn core_after<R: Abort + RandomSource + AllocGlobal>(
-    rt: &R,
-    steps: &[Step<'_>],
-) -> Result<String, Fail> {
-    let mut scene = played(rt, setting(), &BEGUN)?;
-    scene.play(rt, steps)?;
-    scene.run.core()
-}
-
 /// The core is as it is where the connection ends in place of this answer.
 fn settles_nothing<R: Abort + RandomSource + AllocGlobal>(rt: &R, lie: &str) -> Result<(), Fail> {
-    let lied_to = core_after(rt, &[Say(lie), Gives(MISMATCH)])?;
-    let ended = core_after(rt, &[Play("", &[End], &[]), Gives(IO)])?;
+    let lied_to = core_after(rt, setting(), &BEGUN, &[Say(lie), Gives(MISMATCH)])?;
+    let ended = core_after(rt, setting(), &BEGUN, &[Play("", &[End], &[]), Gives(IO)])?;
     assert_eq!(rt; lied_to.as_str(), ended.as_str());
     Ok(())
 }

@@ -1,15 +1,14 @@
 //! A million bytes of noise in place of answers.
 
 use crate::tests::run::Setting;
-use crate::tests::steps::Step::{Answer, Core, Polls, Say, Send, Told};
-use crate::tests::steps::{IO, Scene, played};
+use crate::tests::steps::Step::{Answer, Core, Polls, Say, Told};
+use crate::tests::steps::{IO, Scene};
 use kp_accum::Config;
 use kp_connection::script::Step::{End, Move};
 use kp_engine::{Cause, Stop};
 use kp_frames::FrameFault;
 use std::alloc::Global;
 use std::process::Abort;
-use std::random::RandomSource;
 use std::test::Fail;
 
 /// The connection is given up for the size of no frame.
@@ -64,10 +63,9 @@ impl Noise {
     }
 }
 
-/// An engine with one record. A request and a batch wait for 24 days, and the clock goes on by the time that a batch waits
-/// before it is sent again.
-fn one<R: Abort + RandomSource + AllocGlobal>(rt: &R) -> Result<Scene, Fail> {
-    let setting = Setting {
+/// A request and a batch wait for 24 days, and the clock goes on by the time that a batch waits before it is sent again.
+fn patient() -> Setting {
+    Setting {
         config: Config {
             request_timeout_ms: 2_147_483_647,
             delivery_timeout_ms: 2_147_483_647,
@@ -75,8 +73,7 @@ fn one<R: Abort + RandomSource + AllocGlobal>(rt: &R) -> Result<Scene, Fail> {
         },
         step: 100,
         ..Setting::new()
-    };
-    played(rt, setting, &[Send(0, "a")])
+    }
 }
 
 /// Nothing was told, and the answer to the request with this correlation id still counts.
@@ -103,24 +100,29 @@ fn stop_of(scene: &mut Scene, bytes: Vec<u8>) -> Result<Stop, Fail> {
 
 /// A thousand connections give a thousand bytes each, and end. Four of these pieces begin with the size of a frame, and
 /// none of these frames is whole.
+fn hears_noise(rt: &impl Abort, scene: &mut Scene) -> Result<(), Fail> {
+    scene.run.send(0, "a")?;
+    let mut noise = Noise::new();
+    let mut ends = 0u32;
+    for _ in 0..1000 {
+        let piece = noise.bytes(scene.alloc, &[], 1000)?;
+        let stop = stop_of(scene, piece)?;
+        if stop == IO {
+            ends = ends.wrapping_add(1);
+        } else {
+            assert!(rt; stop == TOO_LARGE);
+        }
+    }
+    assert_eq!(rt; ends, 4);
+    is_answered(rt, scene, 1002)
+}
+
 #[test]
 fn noise_is_a_frame_that_is_too_large_or_is_not_whole_at_the_end(
     rt: HostRuntime,
 ) -> Result<(), Fail> {
-    let mut scene = one(&rt)?;
-    let mut noise = Noise::new();
-    let mut ends = 0u32;
-    for _ in 0..1000 {
-        let piece = noise.bytes(rt.alloc(), &[], 1000)?;
-        let stop = stop_of(&mut scene, piece)?;
-        if stop == IO {
-            ends = ends.wrapping_add(1);
-        } else {
-            assert_eq!(rt; stop, TOO_LARGE);
-        }
-    }
-    assert_eq!(rt; ends, 4);
-    is_answered(&rt, &mut scene, 1002)
+    let mut scene = Scene::open(&rt, patient())?;
+    hears_noise(&rt, &mut scene)
 }
 
 /// This frame leaves the core as it is.
@@ -132,25 +134,30 @@ fn is_passed_over(rt: &impl Abort, scene: &mut Scene, frame: Vec<u8>) -> Result<
 
 /// Of 988 frames with contents of 0 to 2000 bytes, four have no correlation id, and no other's is that of the request:
 /// these leave the core as it is.
-#[test]
-fn noise_in_frames_is_to_no_request_and_changes_nothing(rt: HostRuntime) -> Result<(), Fail> {
-    let mut scene = one(&rt)?;
+fn hears_frames(rt: &impl Abort, scene: &mut Scene) -> Result<(), Fail> {
+    scene.run.send(0, "a")?;
     let mut noise = Noise::new();
     let mut correlation = 2u32;
     for _ in 0..988 {
-        scene.play(&rt, &[Say(""), Polls(1)])?;
+        scene.play(rt, &[Say(""), Polls(1)])?;
         let count = noise.below(2001);
-        let frame = noise.frame(rt.alloc(), &[], count)?;
+        let frame = noise.frame(scene.alloc, &[], count)?;
         if count >= 4 {
-            is_passed_over(&rt, &mut scene, frame)?;
+            is_passed_over(rt, scene, frame)?;
         } else {
-            assert_eq!(rt; stop_of(&mut scene, frame)?, SHORT);
+            assert!(rt; stop_of(scene, frame)? == SHORT);
             correlation = correlation.wrapping_add(1);
         }
     }
     assert_eq!(rt; correlation, 6);
-    scene.play(&rt, &[Say(""), Polls(1)])?;
-    is_answered(&rt, &mut scene, correlation)
+    scene.play(rt, &[Say(""), Polls(1)])?;
+    is_answered(rt, scene, correlation)
+}
+
+#[test]
+fn noise_in_frames_is_to_no_request_and_changes_nothing(rt: HostRuntime) -> Result<(), Fail> {
+    let mut scene = Scene::open(&rt, patient())?;
+    hears_frames(&rt, &mut scene)
 }
 
 /// Whether the content of an answer may be refused for it.
@@ -164,14 +171,19 @@ fn is_named(stop: Stop) -> bool {
 }
 
 /// Behind the correlation id of the request in flight.
-#[test]
-fn noise_under_a_requests_id_is_refused(rt: HostRuntime) -> Result<(), Fail> {
-    let mut scene = one(&rt)?;
+fn hears_answers(rt: &impl Abort, scene: &mut Scene) -> Result<(), Fail> {
+    scene.run.send(0, "a")?;
     let mut noise = Noise::new();
     for correlation in 2..1002u32 {
         let count = noise.below(1997);
-        let frame = noise.frame(rt.alloc(), &correlation.to_be_bytes(), count)?;
-        assert!(rt; is_named(stop_of(&mut scene, frame)?));
+        let frame = noise.frame(scene.alloc, &correlation.to_be_bytes(), count)?;
+        assert!(rt; is_named(stop_of(scene, frame)?));
     }
-    is_answered(&rt, &mut scene, 1002)
+    is_answered(rt, scene, 1002)
+}
+
+#[test]
+fn noise_under_a_requests_id_is_refused(rt: HostRuntime) -> Result<(), Fail> {
+    let mut scene = Scene::open(&rt, patient())?;
+    hears_answers(&rt, &mut scene)
 }

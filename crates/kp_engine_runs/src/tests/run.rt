@@ -248,6 +248,14 @@ impl<S: Stream> Run<S> {
         }
     }
 
+    /// This sender sends so many records.
+    pub fn send_many(&mut self, sender: usize, count: u32) -> Result<(), Fail> {
+        for _ in 0..count {
+            self.send(sender, "a")?;
+        }
+        Ok(())
+    }
+
     /// This sender asks for a flush.
     pub fn flush(&mut self, sender: usize) -> Result<(), Fail> {
         Ok(self.sender(sender)?.flush()?)
@@ -284,7 +292,7 @@ impl<S: Stream> Run<S> {
     }
 
     /// What the engine held back: "item 0/0/3; report 0/0/1 delivered 1".
-    pub fn held(self) -> Result<String, Fail> {
+    pub fn into_held(self) -> Result<String, Fail> {
         let Run { engine, alloc, .. } = self;
         held_text(alloc, &engine.into_parts().held)
     }

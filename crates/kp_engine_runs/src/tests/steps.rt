@@ -22,6 +22,8 @@ pub const IO: Stop = Stop::NeedStream(Cause::Io);
 pub enum Step<'a> {
     /// This sender sends a record with this value.
     Send(usize, &'a str),
+    /// This sender sends so many records.
+    SendMany(usize, u32),
     /// This sender asks for a flush.
     Flush(usize),
     /// No sender sends any more.
@@ -35,6 +37,8 @@ pub enum Step<'a> {
     Strange(usize, &'a str, &'a [Call]),
     /// It gives these bytes. Its reads go through the first calls, again and again, its writes through the others.
     Play(&'a str, &'a [Call], &'a [Call]),
+    /// All that is left is given up, and so many items are told of.
+    End(usize),
     /// The engine is given another stream, where it needs one: whether it does.
     Give(bool),
     /// A poll is pending, and makes these calls.
@@ -121,6 +125,7 @@ impl Scene {
     fn hand_over(&mut self, step: Step<'_>) -> Result<(), Fail> {
         match step {
             Step::Send(sender, value) => self.run.send(sender, value),
+            Step::SendMany(sender, count) => self.run.send_many(sender, count),
             Step::Flush(sender) => self.run.flush(sender),
             Step::Shut => {
                 self.run.shut();
@@ -193,6 +198,7 @@ impl Scene {
     /// What is to be seen of the engine.
     fn look(&mut self, rt: &impl Abort, place: usize, step: Step<'_>) -> Result<(), Fail> {
         match step {
+            Step::End(count) => is_count(rt, place, Some(self.run.end()), Some(count)),
             Step::Give(needed) => assert_eq!(rt; self.give()?, needed, "at step {place}"),
             Step::Moved(moves) => is_text(rt, place, self.run.moves()?.as_str(), moves),
             Step::Woken => assert!(rt; self.run.is_woken(), "at step {place}"),
@@ -228,6 +234,12 @@ impl Scene {
         Ok(())
     }
 
+    /// What the engine held back.
+    fn into_held(self) -> Result<String, Fail> {
+        let Scene { run, .. } = self;
+        run.into_held()
+    }
+
     /// Takes the steps.
     pub fn play(&mut self, rt: &impl Abort, steps: &[Step<'_>]) -> Result<(), Fail> {
         for (place, step) in steps.iter().enumerate() {
@@ -239,17 +251,28 @@ impl Scene {
         }
         Ok(())
     }
-}
 
-/// A new engine that has taken these steps.
-pub fn played<R: Abort + RandomSource + AllocGlobal>(
-    rt: &R,
-    setting: Setting,
-    steps: &[Step<'_>],
-) -> Result<Scene, Fail> {
-    let mut scene = Scene::open(rt, setting)?;
-    scene.play(rt, steps)?;
-    Ok(scene)
+    /// Takes these steps, and then the others.
+    fn play_both(
+        &mut self,
+        rt: &impl Abort,
+        begun: &[Step<'_>],
+        steps: &[Step<'_>],
+    ) -> Result<(), Fail> {
+        self.play(rt, begun)?;
+        self.play(rt, steps)
+    }
+
+    /// Takes these steps, and then the others: the core, as it shows itself then.
+    fn show(
+        &mut self,
+        rt: &impl Abort,
+        begun: &[Step<'_>],
+        steps: &[Step<'_>],
+    ) -> Result<String, Fail> {
+        self.play_both(rt, begun, steps)?;
+        self.run.core()
+    }
 }
 
 /// Takes the steps, from a new engine on.
@@ -258,8 +281,8 @@ pub fn plays<R: Abort + RandomSource + AllocGlobal>(
     setting: Setting,
     steps: &[Step<'_>],
 ) -> Result<(), Fail> {
-    played(rt, setting, steps)?;
-    Ok(())
+    let mut scene = Scene::open(rt, setting)?;
+    scene.play(rt, steps)
 }
 
 /// Takes these steps, from a new engine on, and then the others.
@@ -269,6 +292,28 @@ pub fn goes_on<R: Abort + RandomSource + AllocGlobal>(
     begun: &[Step<'_>],
     steps: &[Step<'_>],
 ) -> Result<(), Fail> {
-    let mut scene = played(rt, setting, begun)?;
-    scene.play(rt, steps)
+    let mut scene = Scene::open(rt, setting)?;
+    scene.play_both(rt, begun, steps)
+}
+
+/// The core, as it shows itself after these steps and the others.
+pub fn core_after<R: Abort + RandomSource + AllocGlobal>(
+    rt: &R,
+    setting: Setting,
+    begun: &[Step<'_>],
+    steps: &[Step<'_>],
+) -> Result<String, Fail> {
+    let mut scene = Scene::open(rt, setting)?;
+    scene.show(rt, begun, steps)
+}
+
+/// What the engine held back after these steps.
+pub fn held_after<R: Abort + RandomSource + AllocGlobal>(
+    rt: &R,
+    setting: Setting,
+    steps: &[Step<'_>],
+) -> Result<String, Fail> {
+    let mut scene = Scene::open(rt, setting)?;
+    scene.play(rt, steps)?;
+    scene.into_held()
 }

@@ -3,9 +3,10 @@
 use crate::tests::BATCH;
 use crate::tests::run::Setting;
 use crate::tests::steps::Step::{
-    Answer, Kept, Moves, Play, Polls, Request, Send, Shut, Stopped, Stops, Told, Turn, WrittenLen,
+    Answer, Kept, Moves, Play, Polls, Request, Send, SendMany, Shut, Stopped, Stops, Told, Turn,
+    WrittenLen,
 };
-use crate::tests::steps::{Scene, plays};
+use crate::tests::steps::plays;
 use kp_accum::Config;
 use kp_connection::script::Step::{Move, Wait};
 use kp_engine::Stop;
@@ -122,16 +123,13 @@ fn a_turn_takes_64_items_of_a_sender(rt: HostRuntime) -> Result<(), Fail> {
         capacity: 100,
         ..Setting::new()
     };
-    let mut scene = Scene::open(&rt, setting)?;
-    for _ in 0..70 {
-        scene.play(&rt, &[Send(0, "a")])?;
-    }
     let steps = [
+        SendMany(0, 70),
         Polls(1),
         Kept(Some(67)),
         Polls(1),
         Kept(Some(8)),
         Turn("tick 0; idle at 0"),
     ];
-    scene.play(&rt, &steps)
+    plays(&rt, setting, &steps)
 }
