@@ -35,12 +35,18 @@ const STORED: &str = "00000001 0001 74 00000001 00000000 0000";
 /// What it says behind the offset: no time, and the client is not held back.
 const NO_TIME: &str = "ffffffffffffffff 00000000";
 
-/// The bytes that these digits spell, without the blanks between them.
-fn bytes_of(alloc: Global, digits: &str) -> Result<Vec<u8>, Fail> {
+/// The digits without the blanks between them.
+fn joined(alloc: Global, digits: &str) -> Result<String, Fail> {
     let mut text = String::new(alloc);
     for part in digits.split_whitespace() {
         text.push_str(part)?;
     }
+    Ok(text)
+}
+
+/// The bytes that these digits spell.
+fn bytes_of(alloc: Global, digits: &str) -> Result<Vec<u8>, Fail> {
+    let text = joined(alloc, digits)?;
     Ok(decode(alloc, text.as_str())?)
 }
 

@@ -1,10 +1,10 @@
-//! A connection that is cut anywhere: each record is told of with its offset, and stands in the log once. The engine is
-//! polled as a future.
+//! A connection that is cut anywhere: each record is told of with its offset, and stands in the log once.
 
 use crate::tests::loopback::{Cut, Link, Loopback};
 use crate::tests::run::{Run, Setting};
+use crate::tests::steps::{IO, are_bytes, is_text};
 use kp_accum::Config;
-use kp_engine::{Cause, Stop};
+use kp_engine::Stop;
 use std::process::Abort;
 use std::random::RandomSource;
 use std::test::Fail;
@@ -22,41 +22,64 @@ fn setting() -> Setting {
     }
 }
 
-/// Polls until all is done, over one more connection where the first fails or ends: whether it did.
-fn finish(run: &mut Run<Link>, loopback: &Loopback, most: usize) -> Result<bool, Fail> {
-    let mut again = false;
+/// Polls until a poll is ready: what it gives.
+fn stop_of(run: &mut Run<Link>) -> Result<Stop, Fail> {
     for _ in 0..10_000 {
-        match run.poll_as_future() {
-            None => {}
-            Some(Stop::Done) => return Ok(again),
-            Some(Stop::NeedStream(Cause::Io)) if !again => {
-                again = run.give(loopback.connect(Cut::Never, most)?);
-            }
-            Some(_) => return Err("it has stopped for another cause, or again".into()),
+        if let Some(stop) = run.poll() {
+            return Ok(stop);
         }
     }
-    Err("not all is done".into())
+    Err("it goes on and on".into())
 }
 
-/// Three records go out, and each is told of, and stands in the log once: whether another connection was needed.
-fn delivers(
-    rt: &impl Abort,
-    run: &mut Run<Link>,
-    loopback: &Loopback,
-    cut: Cut,
-    most: usize,
-) -> Result<bool, Fail> {
+/// Goes on until all is done, over one more connection where the first fails or ends: whether it did.
+fn finish(run: &mut Run<Link>, loopback: &Loopback, most: usize) -> Result<bool, Fail> {
+    if stop_of(run)? == Stop::Done {
+        return Ok(false);
+    }
+    if run.stopped() == Some(IO) && run.give(loopback.connect(Cut::Never, most)?) {
+        if stop_of(run)? == Stop::Done {
+            return Ok(true);
+        }
+    }
+    Err("it has stopped for another cause, or again".into())
+}
+
+/// The first sender sends three records, and no more are sent.
+fn begin(run: &mut Run<Link>) -> Result<(), Fail> {
     for value in ["a", "b", "c"] {
         run.send(0, value)?;
     }
     run.shut();
+    Ok(())
+}
+
+/// Each of them is told of with its offset, and stands in the log once.
+fn is_delivered(
+    rt: &impl Abort,
+    run: &mut Run<Link>,
+    loopback: &Loopback,
+    place: usize,
+) -> Result<(), Fail> {
+    let told = run.told(0)?;
+    let wanted = "0/0/0 delivered 0; 0/0/1 delivered 1; 0/0/2 delivered 2";
+    is_text(rt, place, told.as_str(), wanted);
+    let log = loopback.log()?;
+    are_bytes(rt, place, log.as_slice(), b"abc".as_slice());
+    Ok(())
+}
+
+/// The records go out, over one more connection where the first fails or ends: whether it did.
+fn delivers(
+    rt: &impl Abort,
+    run: &mut Run<Link>,
+    loopback: &Loopback,
+    place: usize,
+    most: usize,
+) -> Result<bool, Fail> {
+    begin(run)?;
     let again = finish(run, loopback, most)?;
-    assert_eq!(rt;
-        run.told(0)?.as_str(),
-        "0/0/0 delivered 0; 0/0/1 delivered 1; 0/0/2 delivered 2",
-        "at {cut:?}"
-    );
-    assert_eq!(rt; loopback.log()?.as_slice(), b"abc".as_slice(), "at {cut:?}");
+    is_delivered(rt, run, loopback, place)?;
     Ok(again)
 }
 
@@ -68,7 +91,7 @@ fn goes_on<R: Abort + RandomSource + AllocGlobal>(
 ) -> Result<bool, Fail> {
     let loopback = Loopback::new(rt.alloc())?;
     let mut run = Run::open(rt, setting(), loopback.connect(cut, most)?)?;
-    delivers(rt, &mut run, &loopback, cut, most)
+    delivers(rt, &mut run, &loopback, cut.place(), most)
 }
 
 /// The connection ends after each number of bytes up to a few more than there are: a request has 112, and an answer 45.

@@ -13,15 +13,25 @@ use std::rc::Rc;
 use std::test::Fail;
 
 /// Where a connection is cut. Reads and writes are counted from 1.
-#[derive(Clone, Copy, Debug, PartialEq, Eq)]
+#[derive(Clone, Copy, PartialEq, Eq)]
 pub enum Cut {
     Never,
     /// It ends after so many bytes, in both directions together.
     End(usize),
     /// This read fails.
-    Read(u32),
+    Read(usize),
     /// This write fails.
-    Write(u32),
+    Write(usize),
+}
+
+impl Cut {
+    /// The number of the byte, the read or the write; 0 for none.
+    pub fn place(self) -> usize {
+        match self {
+            Cut::Never => 0,
+            Cut::End(place) | Cut::Read(place) | Cut::Write(place) => place,
+        }
+    }
 }
 
 /// A broker of topic "t" with one partition, and the connection to it.
@@ -36,8 +46,8 @@ struct Town {
     requests: Splitter,
     /// What was answered, and not read yet.
     replies: Vec<u8>,
-    reads: u32,
-    writes: u32,
+    reads: usize,
+    writes: usize,
     /// How many bytes have moved.
     moved: usize,
 }

@@ -164,17 +164,8 @@ impl<S: Stream> Run<S> {
         })
     }
 
-    /// One poll: None where it is pending.
+    /// One poll of the engine as a future: None where it is pending.
     pub fn poll(&mut self) -> Option<Stop> {
-        let engine = &mut self.engine;
-        match self.task.enter(|cx| engine.poll_turn(cx)) {
-            Poll::Pending => None,
-            Poll::Ready(stop) => Some(stop),
-        }
-    }
-
-    /// One poll of the engine as a future.
-    pub fn poll_as_future(&mut self) -> Option<Stop> {
         match self.task.poll(&mut self.engine) {
             Poll::Pending => None,
             Poll::Ready(stop) => Some(stop),

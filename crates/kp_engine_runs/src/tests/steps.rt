@@ -89,24 +89,24 @@ fn strange(alloc: Global, count: usize, behind: &str) -> Result<Vec<u8>, Fail> {
     bytes_of(alloc, digits.as_str())
 }
 
-/// A text of the step at this place.
-fn is_text(rt: &impl Abort, place: usize, found: &str, wanted: &str) {
-    assert_eq!(rt; found, wanted, "at step {place}");
+/// A text at this place, as that of a step in a schedule.
+pub fn is_text(rt: &impl Abort, place: usize, found: &str, wanted: &str) {
+    assert_eq!(rt; found, wanted, "at {place}");
 }
 
 /// The same of bytes.
-fn are_bytes(rt: &impl Abort, place: usize, found: &[u8], wanted: &[u8]) {
-    assert_eq!(rt; found, wanted, "at step {place}");
+pub fn are_bytes(rt: &impl Abort, place: usize, found: &[u8], wanted: &[u8]) {
+    assert_eq!(rt; found, wanted, "at {place}");
 }
 
 /// The same of what a poll gave.
 fn is_stop(rt: &impl Abort, place: usize, found: Option<Stop>, wanted: Option<Stop>) {
-    assert_eq!(rt; found, wanted, "at step {place}");
+    assert_eq!(rt; found, wanted, "at {place}");
 }
 
 /// The same of a number.
 fn is_count(rt: &impl Abort, place: usize, found: Option<usize>, wanted: Option<usize>) {
-    assert_eq!(rt; found, wanted, "at step {place}");
+    assert_eq!(rt; found, wanted, "at {place}");
 }
 
 impl Scene {
@@ -199,9 +199,9 @@ impl Scene {
     fn look(&mut self, rt: &impl Abort, place: usize, step: Step<'_>) -> Result<(), Fail> {
         match step {
             Step::End(count) => is_count(rt, place, Some(self.run.end()), Some(count)),
-            Step::Give(needed) => assert_eq!(rt; self.give()?, needed, "at step {place}"),
+            Step::Give(needed) => assert_eq!(rt; self.give()?, needed, "at {place}"),
             Step::Moved(moves) => is_text(rt, place, self.run.moves()?.as_str(), moves),
-            Step::Woken => assert!(rt; self.run.is_woken(), "at step {place}"),
+            Step::Woken => assert!(rt; self.run.is_woken(), "at {place}"),
             Step::Kept(count) => is_count(rt, place, self.run.call_count(), count),
             Step::Core(core) => is_text(rt, place, self.run.core()?.as_str(), core),
             Step::Stopped(stop) => is_stop(rt, place, self.run.stopped(), stop),
