@@ -1,8 +1,8 @@
 -- What contracts see of a sender's handle.
-use Rattle.std.specs.Prelude.{◌≡◌, ◌≢◌, ℕ, [], ◌∷◌, ◌++◌, Option, Some, None, Result, Ok, Err}
+use Rattle.std.specs.Prelude.{true, ◌≡◌, ◌≢◌, ℕ, [], ◌∷◌, ◌++◌, Option, Some, None, Result, Ok, Err}
 use Rattle.kp_batch.specs.declared.record.Record.{Record}
 use Rattle.kp_lanes.specs.Entries.{count_of}
-use Rattle.kp_lanes.specs.Sender.{accepted, entered, got, goes_to, sender_number, turn, turn_after, Accepts, Refuses, SameSender}
+use Rattle.kp_lanes.specs.Sender.{accepted, entered, got, goes_to, sender_number, turn, turn_after, Accepts, Refuses, SameSender, sender_view, seen_reports}
 use Rattle.kp_lanes.specs.declared.fault.SendFault.{SendFault}
 use Rattle.kp_lanes.specs.declared.fault.SendFault.TheVariants.{Closed}
 use Rattle.kp_lanes.specs.declared.sender.Sender.{Sender}
@@ -34,11 +34,13 @@ pub record LostNothing (old new : Producer) : Type 0 where
   pub entries : entered (lane_of new) ≡ entered (lane_of old)
   pub turns : turn (lane_of new) ≡ turn (lane_of old)
 
--- The record was refused and came back, and nothing has changed.
+-- The record was refused and came back, and nothing has changed but that the gate may be known to be shut: it is, where
+-- this is why.
 pub record HasRefused (old : Producer) (target : Target) (body : Record) (fault : SendFault) (back : Record) (new : Producer) : Type 0 where
   pub same : back ≡ body
   pub lost_nothing : LostNothing old new
   pub why : fault ≢ Closed → Refuses (lane_of old) (goes_to (lane_of old) target body) body fault
+  pub closed : fault ≡ Closed → (sender_view (lane_of new)).knows_shut ≡ true
 
 abbrev pub Answers : Producer → Target → Record → Result Ticket (SendFault × Record) → Producer → Type 0
 Answers old target body (Ok ticket) new = HasSent old target body ticket new
@@ -58,7 +60,7 @@ pub record SendsLater (old : Producer) (target : Target) (body : Record) (answer
   pub lost_nothing : LostNothing old last
   pub sends : Sends last target body answer new
 
--- the next report was received, or there was none to be seen
+-- The next report was received, or this end of the ring sees none.
 abbrev pub Hears : Producer → Option Report → Producer → Type 0
 Hears old (Some report) new = got (lane_of new) ≡ got (lane_of old) ++ report ∷ []
-Hears old None new = got (lane_of new) ≡ got (lane_of old)
+Hears old None new = (got (lane_of new) ≡ got (lane_of old)) × (seen_reports (lane_of new) ≡ [])

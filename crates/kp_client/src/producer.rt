@@ -32,9 +32,10 @@ pub struct Producer {
 }
 
 impl Producer {
-    ghost use Rattle.std.specs.Prelude.{◌≡◌, ◌-◌, IfErr};
+    ghost use Rattle.std.specs.Prelude.{◌≡◌, ◌-◌, ◌++◌, ◌∷◌, [], true, IfErr, OnOk, OnErr};
+    ghost use Rattle.kp_lanes.specs.declared.entry.Entry.TheVariants.{Mark};
     ghost use Rattle.kp_lanes.specs.declared.fault.FlushFault.TheVariants as flushing;
-    ghost use Rattle.kp_lanes.specs.Sender.{accepted, all_accepted, all_got, finished_id, finished_number, got, known_free_of, sender_id};
+    ghost use Rattle.kp_lanes.specs.Sender.{accepted, all_accepted, all_got, entered, finished_id, finished_number, got, known_free_of, sender_id, sender_view};
     ghost use Rattle.kp_client.specs.Producer.{lane_of, Hears, SameProducer, SendsLater, Sends};
 
     pub(crate) fn new(sender: Sender, shared: Arc<Shared, Global>) -> Producer
@@ -130,7 +131,10 @@ impl Producer {
         ensures same { SameProducer self.old self.new }
         ensures items { accepted (lane_of self.new) ≡ accepted (lane_of self.old) }
         ensures heard { got (lane_of self.new) ≡ got (lane_of self.old) }
+        ensures marked { OnOk result (entered (lane_of self.new) ≡ entered (lane_of self.old) ++ Mark ∷ []) }
+        ensures lost_nothing { OnErr result (entered (lane_of self.new) ≡ entered (lane_of self.old)) }
         ensures full { IfErr result (λ fault. fault ≡ flushing.LaneFull → known_free_of (lane_of self.old) ≡ 0) }
+        ensures closed { IfErr result (λ fault. fault ≡ flushing.Closed → (sender_view (lane_of self.new)).knows_shut ≡ true) }
     {
         let flushed = self.sender.flush();
         if flushed.is_ok() {
