@@ -48,7 +48,7 @@ impl Producer {
         self.closer.shut();
     }
 
-    #[tactic(auto, using(crate::proofs::LaneLemmas::of_poll))]
+    #[tactic(auto, using(kp_engine::proofs::LaneLemmas::of_poll))]
     pub(crate) fn poll(&mut self, cx: &mut Context<'_>) -> Poll<Stop> {
         self.engine.poll_turn(cx)
     }
