@@ -1,4 +1,4 @@
--- The text of a log, record by record, and the text of values that were packed.
+-- The text of values that were packed.
 use Rattle.std.proofs.Common.{◌≡◌, ℕ, ◌+◌, ◌<◌, ◌≤◌, List, [], ◌∷◌, ◌++◌, length, get_or, drop, pos, ℤ, refl, ap, sym, ◌∙◌, arith, add-one, lit≤, Result, Ok, Err, MatchResult, Some, slice_get}
 use Rattle.std.specs.Option.{option_map}
 use Rattle.std.proofs.lemmas.Option.{get_or_from_slice_get, slice_get-map}
@@ -13,18 +13,10 @@ use Rattle.kp_cli.specs.declared.fault.PackFault.{PackFault}
 use Rattle.kp_cli.specs.declared.fault.PackFault.TheVariants.{TooLarge}
 use Rattle.kp_cli.specs.declared.offering.Offered.{Offered}
 use Rattle.kp_cli.specs.Offered.{StoredOnce}
-use Rattle.kp_cli.specs.Packed.{batch_line, log_line, log_lines, packed_text, records_of}
-use Rattle.kp_cli.specs.Report.{answered, report_text, value_of, values_of}
-
--- ---- a log's lines
-
-pub log_lines-drop : (partition : ℕ) (values : List (List ℕ)) (k : ℕ) → k < length values
-    → log_lines partition k (drop k values)
-    ≡ log_line partition k (get_or values k []) ++ log_lines partition (k + 1) (drop (k + 1) values)
-log_lines-drop partition values k within = rw (add-one, drop-cons values k []) refl
-
-pub values_of-at : (records : List Stored) (k : ℕ) (s : Stored) → Some s ≡ slice_get records k → get_or (values_of records) k [] ≡ value_of s
-values_of-at records k s is = get_or_from_slice_get (values_of records) k (value_of s) [] (slice_get-map value_of records k ∙ ap (option_map value_of) (sym is))
+use Rattle.kp_cli.specs.Packed.{packed_text, records_of}
+use Rattle.kp_cli.specs.Report.{answered, report_text}
+use Rattle.kp_text.specs.Lines.{batch_line, log_lines}
+use Rattle.kp_text.specs.Logs.{values_of}
 
 -- ---- the size
 

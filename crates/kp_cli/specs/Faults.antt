@@ -2,7 +2,7 @@
 use Rattle.std.specs.Prelude.{ℕ, List, [], ◌++◌, codes}
 use Rattle.kp_cli.specs.declared.fault.Fault.{Fault}
 use Rattle.kp_cli.specs.declared.fault.Fault.TheVariants.{CannotRead, OutOfMemory, TooLarge, NotText, CannotWrite}
-use Rattle.kp_cli.specs.Packed.{newline}
+use Rattle.kp_text.specs.Lines.{newline}
 
 -- an output that takes no more is told to nobody
 abbrev pub fault_line : Fault → List ℕ

@@ -1,9 +1,8 @@
 -- What is printed of values that were packed into one batch.
-use Rattle.std.specs.Prelude.{ℕ, suc, List, [], ◌∷◌, ◌++◌, length, map, ℤ, pos, Some, None, codes, decimal}
-use Rattle.std.specs.Fmt.{signed_decimal}
+use Rattle.std.specs.Prelude.{ℕ, List, [], ◌∷◌, ◌++◌, length, map, pos, Some, None}
 use Rattle.kp_batch.specs.declared.record.Record.{Record}
 use Rattle.kp_batch.specs.Spelling.{size_of_batch}
-use Rattle.kp_wire.specs.Printed.{printed}
+use Rattle.kp_text.specs.Lines.{answer_line, batch_line, log_lines}
 
 -- a value's record, at the moment 0
 abbrev pub record_of : List ℕ → Record
@@ -11,27 +10,6 @@ record_of value = record { timestamp = 0; key = None; value = Some value; header
 
 abbrev pub records_of : List (List ℕ) → List Record
 records_of values = map record_of values
-
--- ---- lines of text
-
-abbrev pub newline : List ℕ
-newline = 10 ∷ []
-
-abbrev pub batch_line : ℕ → ℕ → List ℕ
-batch_line size count = codes "batch " ++ decimal size ++ codes " records " ++ decimal count ++ newline
-
-abbrev pub answer_line : ℤ → ℤ → List ℕ
-answer_line code base = codes "answer " ++ signed_decimal code ++ codes " " ++ signed_decimal base ++ newline
-
--- a value at its offset in a partition's log
-abbrev pub log_line : ℕ → ℕ → List ℕ → List ℕ
-log_line partition offset value =
-    codes "log " ++ decimal partition ++ codes " " ++ decimal offset ++ codes " " ++ printed value ++ newline
-
--- the values of a partition's log from this offset on
-abbrev pub log_lines : ℕ → ℕ → List (List ℕ) → List ℕ
-log_lines partition offset [] = []
-log_lines partition offset (value ∷ values) = log_line partition offset value ++ log_lines partition (suc offset) values
 
 -- ---- the whole text
 

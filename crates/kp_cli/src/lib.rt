@@ -6,13 +6,11 @@ mod fault;
 mod lines;
 mod offering;
 mod packing;
-mod printing;
 mod program;
 mod reporting;
 mod streams;
 
 pub use program::{DONE, FAULT, USAGE, kprod_with, refuse_words};
-pub use reporting::put_log;
 
 #[cfg(test)]
 mod tests;

@@ -8,9 +8,9 @@ ghost use Rattle.kp_cli.specs.Packed.{packed_text, records_of};
 use crate::fault::PackFault;
 use crate::lines::lines_of;
 use crate::offering::Offered;
-use crate::printing::put_batch_line;
 use crate::reporting::report;
 use kp_batch::{Record, SIZE_LIMIT, batch_size};
+use kp_text::put_batch_line;
 use std::alloc::{AllocError, Global};
 
 /// A size that a batch may have.

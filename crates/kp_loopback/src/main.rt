@@ -11,7 +11,7 @@ mod settings;
 
 use fault::Fault;
 use kp_broker::Broker;
-use kp_cli::put_log;
+use kp_text::put_log;
 use serving::{serve_all, wait_for_end};
 use settings::Settings;
 use std::io::{self, Write};

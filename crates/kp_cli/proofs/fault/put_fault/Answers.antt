@@ -1,6 +1,6 @@
 use Rattle.std.proofs.Common.{◌++◌, codes}
 use Rattle.std.proofs.lemmas.Result.{on_ok_weaker}
-use Rattle.kp_cli.specs.Packed.{newline}
+use Rattle.kp_text.specs.Lines.{newline}
 use Rattle.std.proofs.KnownBytes.{Appends-trans}
 use Rattle.kp_cli.proofs.fault.put_fault.Goals as goal
 

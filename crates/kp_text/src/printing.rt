@@ -2,7 +2,7 @@
 
 ghost use Rattle.std.specs.Prelude.{◌≡◌, ◌<◌, ◌≤◌, ◌/◌, ◌++◌, IfOk, OnOk, length, take, slice_index, false};
 ghost use Rattle.std.specs.Fmt.{digit_glyph};
-ghost use Rattle.kp_cli.specs.Packed.{answer_line, batch_line, log_line};
+ghost use Rattle.kp_text.specs.Lines.{answer_line, batch_line, log_line, newline};
 ghost use Rattle.kp_wire.specs.Printed.{escaped, is_plain, printed};
 
 use itoa::{Buffer, Integer};
@@ -80,7 +80,22 @@ fn put_number<I: Integer>(out: &mut Vec<u8>, n: I) -> Result<(), AllocError>
     out.extend_from_slice(buffer.format(n).as_bytes())
 }
 
+/// A number behind its name.
+pub fn put_named<I: Integer>(out: &mut Vec<u8>, name: &[u8], n: I) -> Result<(), AllocError>
+    ensures { OnOk result (out.new.items ≡ out.old.items ++ (name.now ++ I.text n)) }
+{
+    out.extend_from_slice(name)?;
+    put_number(out, n)
+}
+
 // ---- lines
+
+/// Ends a line.
+pub fn end_line(out: &mut Vec<u8>) -> Result<(), AllocError>
+    ensures { OnOk result (out.new.items ≡ out.old.items ++ newline) }
+{
+    out.extend_from_slice(b"\n")
+}
 
 /// A batch's size and how many records it has.
 pub fn put_batch_line(out: &mut Vec<u8>, size: u64, count: u64) -> Result<(), AllocError>

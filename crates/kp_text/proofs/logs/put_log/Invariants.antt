@@ -1,7 +1,7 @@
 use Rattle.std.proofs.Common.{◌≡◌, ◌++◌, drop}
-use Rattle.kp_cli.specs.Packed.{log_lines}
-use Rattle.kp_cli.specs.Report.{values_of}
-use Rattle.kp_cli.proofs.reporting.put_log.Given as goal
+use Rattle.kp_text.specs.Lines.{log_lines}
+use Rattle.kp_text.specs.Logs.{values_of}
+use Rattle.kp_text.proofs.logs.put_log.Given as goal
 
 abbrev pub invariant-loop-offset : goal.invariant-loop-offset
 invariant-loop-offset l =

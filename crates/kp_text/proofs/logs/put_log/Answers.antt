@@ -1,9 +1,9 @@
 use Rattle.std.proofs.Common.{◌≡◌, ◌<◌, ◌+◌, ◌++◌, ◌∙◌, ℕ, List, [], Some, ap, sym, length, get_or, drop, append_assoc, slice_get, arith}
 use Rattle.std.proofs.lemmas.List.{length-map}
-use Rattle.kp_cli.specs.Packed.{log_line, log_lines}
-use Rattle.kp_cli.specs.Report.{values_of}
-use Rattle.kp_cli.proofs.PackedLemmas.{log_lines-drop, values_of-at}
-use Rattle.kp_cli.proofs.reporting.put_log.Goals as goal
+use Rattle.kp_text.specs.Lines.{log_line, log_lines}
+use Rattle.kp_text.specs.Logs.{values_of}
+use Rattle.kp_text.proofs.LogLemmas.{log_lines-drop, values_of-at}
+use Rattle.kp_text.proofs.logs.put_log.Goals as goal
 
 pub loop-offset-preserved : goal.loop-offset-preserved
 loop-offset-preserved c =

@@ -1,0 +1,2 @@
+mod LogLemmas
+mod TextLemmas
