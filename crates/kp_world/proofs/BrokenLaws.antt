@@ -15,8 +15,8 @@ use Rattle.kp_accum.specs.declared.config.Config.{Config}
 use Rattle.kp_accum.specs.declared.item.Item.{Item}
 use Rattle.kp_accum.specs.Queue.{body_of}
 use Rattle.kp_batch.specs.declared.record.Record.{Record}
-use Rattle.kp_log.specs.History.{stored_of, own, is_under}
-use Rattle.kp_log.specs.Log.{stored_as, NO_ID}
+use Rattle.kp_log.specs.History.{own, is_under}
+use Rattle.kp_log.specs.Log.{NO_ID}
 use Rattle.kp_log.specs.declared.stored.Stored.{Stored}
 use Rattle.kp_rules.specs.declared.attempt.Attempt.{Attempt}
 use Rattle.kp_rules.specs.declared.attempt.Attempt.TheVariants.{InFlight, Waiting}
@@ -31,8 +31,7 @@ use Rattle.kp_world.specs.Facts.{Facts, facts}
 use Rattle.kp_world.specs.declared.event.Event.{Event}
 use Rattle.kp_world.specs.Accounts.{items_handed, is_among, is_same, unsent_among, IsNeverSent}
 use Rattle.kp_world.specs.Delivering.{log_at}
-use Rattle.kp_world.specs.LogLaws.{partition_of, own_records, as_stored, IsPrefix, EachDeliveryHasItsOffset, ToldOffsetsStand, StandsAt}
-use Rattle.kp_world.specs.Message.{sent_of}
+use Rattle.kp_world.specs.LogLaws.{partition_of, own_records, IsPrefix, EachDeliveryHasItsOffset, ToldOffsetsStand, StandsAt}
 use Rattle.kp_world.specs.Causes.{call_of, MayBeTold, TellsByRule}
 use Rattle.kp_world.specs.OtherRules.{Breaks, TellsAgainstRule}
 use Rattle.kp_world.specs.Run.{Producer}
@@ -41,7 +40,8 @@ use Rattle.kp_log.proofs.PlaceLemmas.{In-from_contains}
 use Rattle.kp_world.specs.Events.{WorldEvent, events_of}
 use Rattle.kp_world.specs.Events as event
 use Rattle.kp_world.proofs.LeavingLemmas.{awaits_is}
-use Rattle.kp_world.proofs.ListLemmas.{all_at}
+use Rattle.kp_world.proofs.HandedLemmas.{bodies_as_stored}
+use Rattle.kp_world.proofs.ListLemmas.{all_at, got_at}
 use Rattle.kp_world.proofs.ToldLemmas.{same_itself}
 use Rattle.kp_world.proofs.ReachingLemmas.{may_begin}
 use Rattle.kp_world.proofs.ChosenRuns.{Choice, are_there, AreHonest, end_of, run_of}
@@ -144,15 +144,10 @@ is_of_none None = false
 abbrev is_anothers : Facts → Item → ℕ → Bool
 is_anothers f i k = is_of_none (slice_get (log_at i.partition f.logs).records k)
 
-element : {A : Type 0} (xs ys : List A) (x : A) (k : ℕ) → k ≡ length xs → slice_get (xs ++ x ∷ ys) k ≡ Some x
-element [] ys x k e = ap (slice_get (x ∷ ys)) e
-element (y ∷ xs) ys x zero e = absurd (omega (arith, e))
-element (y ∷ xs) ys x (suc k) e = element xs ys x k (omega (arith, e))
-
 own_is_there : (f : Facts) (i : Item) (k : ℕ) → StandsAt f i (pos k) → is_anothers f i k ≡ false
 own_is_there f i k s =
     let before : k ≡ length s.before = cc in
-    ap is_of_none (ap (λ rs. slice_get rs k) s.record_is ∙ element s.before s.after _ k before)
+    ap is_of_none (ap (λ rs. slice_get rs k) s.record_is ∙ got_at s.before s.after _ k before)
 
 pub offset_is_anothers : (f : Facts) → has_told (λ t. at_offset (is_anothers f t.item) t.outcome) f ≡ true → ToldOffsetsStand f → ⊥
 offset_is_anothers f e law = offset_stands_not f (is_anothers f) (own_is_there f) e law
@@ -165,18 +160,6 @@ value_of r = unwrap_or r.value []
 abbrev is_unlike : List Record → List Record → Bool
 is_unlike (x ∷ xs) (y ∷ ys) = not (bytes_eq (value_of x) (value_of y))
 is_unlike xs ys = false
-
-bodies_stored : (id : ℤ) (rs : List Record) → map (λ s. s.body) (stored_as id rs) ≡ rs
-bodies_stored id [] = refl
-bodies_stored id (r ∷ rs) = ap (λ z. r ∷ z) (bodies_stored id rs)
-
-bodies_as_stored : (bs : List HandedBatch) → map (λ s. s.body) (as_stored bs) ≡ map body_of (flat_map (λ b. b.items) bs)
-bodies_as_stored [] = refl
-bodies_as_stored (b ∷ bs) =
-    map-append (λ (s : Stored). s.body) (stored_of (sent_of b)) (as_stored bs)
-    ∙ ap (λ z. z ++ map (λ s. s.body) (as_stored bs)) (bodies_stored (pos b.id) (map body_of b.items))
-    ∙ ap (λ z. map body_of b.items ++ z) (bodies_as_stored bs)
-    ∙ sym (map-append body_of b.items (flat_map (λ b. b.items) bs))
 
 like_itself : (xs ys : List Record) → is_unlike xs (xs ++ ys) ≡ false
 like_itself [] ys = refl

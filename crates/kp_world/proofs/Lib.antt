@@ -48,6 +48,7 @@ pub mod ChosenRuns
 pub mod Widths
 pub mod BrokenLaws
 pub mod FreshIdLemmas
+pub mod HandedLemmas
 pub mod RuledLemmas
 pub mod DrawnMemory
 pub mod DrawnLinger

@@ -1,5 +1,5 @@
 -- Lists: what holds of all elements, and which elements there are.
-use Rattle.std.proofs.Common.{◌≡◌, ◌⊎◌, ℕ, suc, zero, Bool, true, List, [], ◌∷◌, ◌++◌, map, get_or, replicate, Some, refl, sym, ap, ◌∙◌, subst, inl, inr, ⊎_elim}
+use Rattle.std.proofs.Common.{◌≡◌, ◌⊎◌, ℕ, suc, zero, Bool, true, List, [], ◌∷◌, ◌++◌, length, map, get_or, replicate, Some, refl, sym, ap, ◌∙◌, subst, inl, inr, ⊎_elim, arith}
 use Rattle.std.specs.Prelude.{find, filter, slice_get, slice_index_or}
 use Rattle.std.specs.List.{AllByRecursion}
 use Rattle.std.proofs.lemmas.List.{map-append}
@@ -40,6 +40,12 @@ pub in_at : {A : Type 0} (xs : List A) (j : ℕ) (x : A) → slice_get xs j ≡ 
 in_at [] j x e = absurd cc
 in_at (y ∷ xs) zero x e = let same : y ≡ x = cc in subst (λ z. In z (y ∷ xs)) same (In-head y xs)
 in_at (y ∷ xs) (suc j) x e = In-tail x y xs (in_at xs j x e)
+
+-- the element behind so many
+pub got_at : {A : Type 0} (xs ys : List A) (x : A) (k : ℕ) → k ≡ length xs → slice_get (xs ++ x ∷ ys) k ≡ Some x
+got_at [] ys x k e = ap (slice_get (x ∷ ys)) e
+got_at (y ∷ xs) ys x zero e = absurd (omega (arith, e))
+got_at (y ∷ xs) ys x (suc k) e = got_at xs ys x k (omega (arith, e))
 
 pub found_in : {A : Type 0} (test : A → Bool) (xs : List A) (x : A) → find test xs ≡ Some x → In x xs × (test x ≡ true)
 found_in test xs x e = let f = found test xs x e in (In-from_contains xs x f.0, f.1)
