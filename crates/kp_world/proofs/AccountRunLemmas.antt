@@ -92,7 +92,7 @@ single k (o ∷ os) rises one = at_test (awaits k o) refl (single k os rises.1 (
     at_test false is rest = omega (arith, rest)
 
 -- a reply that was given answers one batch of a partition
-is_single : (n : ℕ) (w : World) (r : Reply) → IsLawful n w → In r w.replies → IsSingle w.core r.response
+pub is_single : (n : ℕ) (w : World) (r : Reply) → IsLawful n w → In r w.replies → IsSingle w.core r.response
 is_single n w r g given p k o a x named =
     let h = heard n w r p o a g given x in
     let steady = (g.agree p h.within).steady in

@@ -48,11 +48,11 @@ items_told told = map (λ t. t.item) told
 abbrev told_as : Outcome → Item → Told
 told_as outcome i = record { item = i; outcome = outcome }
 
-told_all_items : (outcome : Outcome) (items : List Item) → items_told (told_all outcome items) ≡ items
+pub told_all_items : (outcome : Outcome) (items : List Item) → items_told (told_all outcome items) ≡ items
 told_all_items outcome [] = refl
 told_all_items outcome (i ∷ items) = ap (λ r. i ∷ r) (told_all_items outcome items)
 
-told_offsets_items : (g : ℕ → Outcome) (n : ℕ) (items : List Item) → items_told (map (λ (x : ℕ × Item). told_as (g x.0) x.1) (enumerate_from n items)) ≡ items
+pub told_offsets_items : (g : ℕ → Outcome) (n : ℕ) (items : List Item) → items_told (map (λ (x : ℕ × Item). told_as (g x.0) x.1) (enumerate_from n items)) ≡ items
 told_offsets_items g n [] = refl
 told_offsets_items g n (i ∷ items) = ap (λ r. i ∷ r) (told_offsets_items g (n + 1) items)
 
@@ -164,7 +164,7 @@ tells_marked t =
 
 -- ---- giving up
 
-given_up_items : (why : Reason) (t : Partition) → items_told (give_up why t).told ≡ items_open t.open_batches ++ items_queued t.queue
+pub given_up_items : (why : Reason) (t : Partition) → items_told (give_up why t).told ≡ items_open t.open_batches ++ items_queued t.queue
 unfolding give_up
 given_up_items why t =
     map-append (λ (x : Told). x.item) (told_all Unknown (items_open t.open_batches)) (told_all (Unsent why) (items_queued t.queue))

@@ -297,10 +297,10 @@ lawful_id_reply {most = most} n now p s logs handed packets replies ids q r x co
 
 -- ---- any reply
 
-abbrev asks : Demand ℕ → Bool
+abbrev pub asks : Demand ℕ → Bool
 asks d = elim d [ demand.Produce ps ↦ false | demand.InitProducerId p ↦ true ]
 
-asks_by : (d : Demand ℕ) (p : ℕ) → d ≡ demand.InitProducerId p → asks d ≡ true
+pub asks_by : (d : Demand ℕ) (p : ℕ) → d ≡ demand.InitProducerId p → asks d ≡ true
 asks_by d p e = ap asks e
 
 pub lawful_reply : {most : ℕ} (n now : ℕ) (s : Core) (logs : List History) (handed : List (List HandedBatch)) (packets : List Packet) (replies : List Reply) (ids : List ℕ) (r : Reply)

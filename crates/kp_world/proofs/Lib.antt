@@ -49,6 +49,11 @@ pub mod Widths
 pub mod BrokenLaws
 pub mod FreshIdLemmas
 pub mod HandedLemmas
+pub mod FaringLemmas
+pub mod FaredLemmas
+pub mod KeptLemmas
+pub mod AuditedLemmas
+pub mod KeptLaws
 pub mod RuledLemmas
 pub mod DrawnMemory
 pub mod DrawnLinger

@@ -30,7 +30,7 @@ use Rattle.kp_world.proofs.ListLemmas.{all_at, all_in, one_more}
 
 -- ---- records under these ids
 
-any_known : (id : ℕ) (ids : List ℕ) → In id ids → list_any (int_eq (pos id)) (map pos ids) ≡ true
+pub any_known : (id : ℕ) (ids : List ℕ) → In id ids → list_any (int_eq (pos id)) (map pos ids) ≡ true
 any_known id [] i = absurd (In-nil id i)
 any_known id (x ∷ ids) i = ⊎_elim (λ (same : id ≡ x). subst (λ (n : ℕ). int_eq (pos id) (pos n) || list_any (int_eq (pos id)) (map pos ids) ≡ true) same (ap (λ (b : Bool). b || list_any (int_eq (pos id)) (map pos ids)) (int_eq_same (pos id)))) (λ (j : In id ids). at_test (int_eq (pos id) (pos x)) (any_known id ids j)) (In-cons id x ids i)
   where
@@ -97,10 +97,10 @@ records_under id bs = count_of (pos id) (records_of (sents bs))
 abbrev pub size : HandedBatch → ℕ
 size b = length (sent_of b).bodies
 
-under-append : (id : ℕ) (xs ys : List HandedBatch) → records_under id (xs ++ ys) ≡ records_under id xs + records_under id ys
+pub under-append : (id : ℕ) (xs ys : List HandedBatch) → records_under id (xs ++ ys) ≡ records_under id xs + records_under id ys
 under-append id xs ys = ap (λ z. count_of (pos id) (records_of z)) (map-append sent_of xs ys) ∙ ap (count_of (pos id)) (flat_map-append stored_of (sents xs) (sents ys)) ∙ count_of-append (pos id) (records_of (sents xs)) (records_of (sents ys))
 
-under_more : (id : ℕ) (xs ys : List HandedBatch) (b : HandedBatch) → b.id ≡ id → records_under id (xs ++ b ∷ ys) ≡ records_under id xs + (size b + records_under id ys)
+pub under_more : (id : ℕ) (xs ys : List HandedBatch) (b : HandedBatch) → b.id ≡ id → records_under id (xs ++ b ∷ ys) ≡ records_under id xs + (size b + records_under id ys)
 under_more id xs ys b same =
     let first : count_of (pos id) (stored_of (sent_of b)) ≡ size b = ap (λ (n : ℕ). count_of (pos n) (stored_of (sent_of b))) (sym same) ∙ count_of_own (pos b.id) (sent_of b).bodies in
     let later : records_under id (b ∷ ys) ≡ count_of (pos id) (stored_of (sent_of b)) + records_under id ys = count_of-append (pos id) (stored_of (sent_of b)) (records_of (sents ys)) in
@@ -129,7 +129,7 @@ drawn_for : (ids : List ℕ) (t : Partition) (handed : List HandedBatch) (h : Hi
 drawn_for ids t handed h s b i = s.drawn_all b.id (s.under b i)
 
 -- the count of an id's records in the log
-counted : (ids : List ℕ) (t : Partition) (handed : List HandedBatch) (h : History) → Sound ids t handed h → (cut : Cut t handed h) → (id : ℕ) → In id ids → count_of (pos id) h.records ≡ records_under id cut.landed
+pub counted : (ids : List ℕ) (t : Partition) (handed : List HandedBatch) (h : History) → Sound ids t handed h → (cut : Cut t handed h) → (id : ℕ) → In id ids → count_of (pos id) h.records ≡ records_under id cut.landed
 counted ids t handed h s cut id i =
     s.came.counted id i ∙ ap (λ z. count_of (pos id) (records_of z)) cut.appended
 
@@ -302,7 +302,7 @@ grown_appended ids t handed h s cut b later e i = record {
 
 -- ---- a batch is handed over
 
-confirmed : (n : ℕ) (a : Bool) → (n == 0) || a ≡ true → (n ≡ 0) ⊎ (a ≡ true)
+pub confirmed : (n : ℕ) (a : Bool) → (n == 0) || a ≡ true → (n ≡ 0) ⊎ (a ≡ true)
 confirmed n true e = inr refl
 confirmed n false e = at_test (n == 0) refl e
   where

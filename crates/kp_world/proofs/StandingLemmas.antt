@@ -37,7 +37,7 @@ use Rattle.kp_world.proofs.TruthLemmas.{truthful_reached}
 -- ---- places among an id's records
 
 -- a record of the id counts
-counts_first : (id : ℤ) (s : Stored) (ys : List Stored) → s.producer_id ≡ id → count_of id (s ∷ ys) ≡ 0 → ⊥
+pub counts_first : (id : ℤ) (s : Stored) (ys : List Stored) → s.producer_id ≡ id → count_of id (s ∷ ys) ≡ 0 → ⊥
 counts_first id s ys h n =
     let is = ap (λ (z : ℤ). int_eq z id) h ∙ int_eq_same id in
     let more : suc (count_of id ys) ≡ 0 = sym (ap (λ (b : Bool). cond b (suc (count_of id ys)) (count_of id ys)) is) ∙ n in

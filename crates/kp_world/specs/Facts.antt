@@ -13,6 +13,7 @@ pub record Facts : Type 0 where
   pub handed : List (List HandedBatch)  -- by partition, all batches that were handed over, in order
   pub packets : List Packet  -- all that ever went out
   pub logs : List History  -- by partition
+  pub ids : List ℕ  -- all producer ids that were ever drawn
   pub told : List Told  -- all that was told, in order
 
 -- ---- of a world
@@ -28,5 +29,6 @@ facts w = record {
   handed = w.handed;
   packets = w.packets;
   logs = w.logs;
+  ids = w.ids;
   told = told_in w.past;
 }

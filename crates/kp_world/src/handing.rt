@@ -1,9 +1,9 @@
 //! Laws of every run, whatever the network does and for any honest broker: what was handed over for a partition.
 
-ghost use Rattle.std.specs.Prelude.{ℕ, ◌<◌, ◌∷◌, List};
+ghost use Rattle.std.specs.Prelude.{ℕ, ◌<◌, List};
 ghost use Rattle.kp_world.specs.Events.{WorldEvent};
 ghost use Rattle.kp_world.specs.Facts.{facts};
-ghost use Rattle.kp_world.specs.Handed.{GrowsByFront, GrowsAtEnd, AreHandedOver, GoesOutTheSame, AreItems};
+ghost use Rattle.kp_world.specs.Handed.{GrowsByFront, GrowsAtEnd, AreHandedOver, GoesOutTheSame, AreItems, IsAudited, FirstWasDelivered};
 ghost use Rattle.kp_world.specs.Run.{Steps, Run, IsReached};
 ghost use Rattle.kp_world.specs.World.{World, Opening};
 
@@ -32,4 +32,16 @@ pub fn packets_have_what_was_handed_over()
 pub fn own_records_are_the_items_handed_over()
     ensures { (o : Opening) (es : List WorldEvent) (w : World)
         → IsReached o es w → (p : ℕ) → p < o.partitions → AreItems p (facts w) }
+{}
+
+/// A partition's audit is what was handed over for it, told in runs; where audits are not kept, it has none.
+pub fn an_audit_is_the_runs_of_what_was_handed_over()
+    ensures { (o : Opening) (es : List WorldEvent) (w : World)
+        → IsReached o es w → (p : ℕ) → p < o.partitions → IsAudited o.audits p (facts w) }
+{}
+
+/// A second batch is handed over under a producer id only once each item of the first was told Delivered.
+pub fn the_first_batch_under_an_id_was_delivered_before_a_second()
+    ensures { (o : Opening) (es : List WorldEvent) (w : World)
+        → IsReached o es w → (p : ℕ) → p < o.partitions → FirstWasDelivered p (facts w) }
 {}

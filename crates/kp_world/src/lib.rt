@@ -5,6 +5,7 @@ pub mod accounts;
 pub mod broker_laws;
 mod event;
 pub mod handing;
+pub mod ids;
 pub mod laws;
 pub mod needed;
 pub mod reaching;
