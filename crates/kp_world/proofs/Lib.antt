@@ -54,6 +54,7 @@ pub mod FaredLemmas
 pub mod KeptLemmas
 pub mod AuditedLemmas
 pub mod KeptLaws
+pub mod FlushedLemmas
 pub mod RuledLemmas
 pub mod DrawnMemory
 pub mod DrawnLinger

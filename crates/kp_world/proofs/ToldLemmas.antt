@@ -18,7 +18,7 @@ use Rattle.kp_rules.proofs.ListLemmas.{all_say, all_take, all_weaker}
 
 -- ---- counting an item
 
-abbrev count_of : Item → Item → ℕ
+abbrev pub count_of : Item → Item → ℕ
 count_of i j = if is_same i j then 1 else 0
 
 pub same_itself : (i : Item) → is_same i i ≡ true
@@ -27,7 +27,7 @@ same_itself i =
     ∙ ap (λ (b : Bool). b && (i.number == i.number)) (eq-eqb i.partition i.partition refl)
     ∙ eq-eqb i.number i.number refl
 
-weighs_itself : (xs : List Item) → AllByRecursion (λ i. 1 ≤ weigh (count_of i) xs) xs
+pub weighs_itself : (xs : List Item) → AllByRecursion (λ i. 1 ≤ weigh (count_of i) xs) xs
 weighs_itself [] = tt
 weighs_itself (x ∷ xs) = (
   (let one : count_of x x ≡ 1 = ap (λ (b : Bool). if b then 1 else 0) (same_itself x) in omega (arith, one)),

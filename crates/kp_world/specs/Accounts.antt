@@ -103,3 +103,9 @@ items_taken f = flat_map (λ s. taken_from s f) (range_with_len 0 (length f.acce
 abbrev pub IsUsedByUntold : Facts → Type 0
 IsUsedByUntold f =
     used f.core ≡ sum_by charge_of (filter (λ i. not (is_among i (told_items f))) (items_taken f))
+
+-- ---- a flush
+
+-- All that was taken before is told now.
+abbrev pub IsToldBy : Facts → Facts → Type 0
+IsToldBy now before = AllByRecursion (λ i. is_among i (told_items now) ≡ true) (items_taken before)

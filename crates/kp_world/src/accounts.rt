@@ -1,9 +1,10 @@
 //! Laws of every run, for any honest broker: what was accepted is accounted for.
 
-ghost use Rattle.std.specs.Prelude.{◌≡◌, ◌<◌, ◌∷◌, ℕ, List};
+ghost use Rattle.std.specs.Prelude.{◌≡◌, ◌<◌, ◌∷◌, ℕ, true, List};
+ghost use Rattle.kp_rules.specs.Flush.{is_flushed};
 ghost use Rattle.kp_world.specs.Events.{WorldEvent};
 ghost use Rattle.kp_world.specs.Events as event;
-ghost use Rattle.kp_world.specs.Accounts.{AreAccountedFor, AreInOrder, ArePlaced, IsNeverSent, IsToldOnce, IsUsedByUntold};
+ghost use Rattle.kp_world.specs.Accounts.{AreAccountedFor, AreInOrder, ArePlaced, IsNeverSent, IsToldBy, IsToldOnce, IsUsedByUntold};
 ghost use Rattle.kp_world.specs.Causes.{TellsByRule};
 ghost use Rattle.kp_world.specs.Facts.{facts};
 ghost use Rattle.kp_world.specs.Run.{Steps, Run, IsReached};
@@ -45,6 +46,13 @@ pub fn nothing_is_accepted_after_close()
 pub fn each_item_is_told_once()
     ensures { (o : Opening) (es : List WorldEvent) (w : World)
         → IsReached o es w → IsToldOnce (facts w) }
+{}
+
+/// Where the flush is complete, each item that was taken before it is told.
+pub fn a_complete_flush_told_all_before_it()
+    ensures { (o : Opening) (es : List WorldEvent) (w : World) (later : List WorldEvent) (v : World)
+        → IsReached o es w → Run w (event.Flush ∷ later) v → is_flushed v.core ≡ true
+        → IsToldBy (facts v) (facts w) }
 {}
 
 /// The memory that is used is what the items take that were taken and are not told; those that were turned away were
