@@ -152,18 +152,18 @@ own_is_there f i k s =
 pub offset_is_anothers : (f : Facts) → has_told (λ t. at_offset (is_anothers f t.item) t.outcome) f ≡ true → ToldOffsetsStand f → ⊥
 offset_is_anothers f e law = offset_stands_not f (is_anothers f) (own_is_there f) e law
 
--- a log that begins with another record than what was handed over
+-- a log that has another record where one stands in what was handed over
 
 abbrev value_of : Record → List ℕ
 value_of r = unwrap_or r.value []
 
 abbrev is_unlike : List Record → List Record → Bool
-is_unlike (x ∷ xs) (y ∷ ys) = not (bytes_eq (value_of x) (value_of y))
+is_unlike (x ∷ xs) (y ∷ ys) = not (bytes_eq (value_of x) (value_of y)) || is_unlike xs ys
 is_unlike xs ys = false
 
 like_itself : (xs ys : List Record) → is_unlike xs (xs ++ ys) ≡ false
 like_itself [] ys = refl
-like_itself (x ∷ xs) ys = ap not ((bytes_eq-Decides (value_of x) (value_of x)).1 refl)
+like_itself (x ∷ xs) ys = ap (λ (b : Bool). not b || is_unlike xs (xs ++ ys)) ((bytes_eq-Decides (value_of x) (value_of x)).1 refl) ∙ like_itself xs ys
 
 pub log_is_unlike : (f : Facts) → is_unlike (map (λ s. s.body) (own_records 0 f)) (map body_of (items_handed 0 f)) ≡ true → IsPrefix 0 f → ⊥
 log_is_unlike f e law =

@@ -28,6 +28,7 @@ pub data Choice : Type 0 where
   AppendLate : Choice  -- it appends it where its id has no records, and answers that the request timed out
   Repeat : (offset : ℕ) → Choice  -- the batch stands at this offset
   Forgotten : (place : ℕ) → Choice  -- it was appended at this place among all, and five later ones of its id were
+  Refuse : Choice  -- it refuses the batch for good, as too large
   GiveId : Choice  -- it gives the next id
 
 abbrev log_of : World → Sending → History
@@ -41,6 +42,7 @@ chosen Append w (Produce (x ∷ [])) = part_came w x (record { code = pos 0; bas
 chosen AppendLate w (Produce (x ∷ [])) = part_came w x (record { code = pos 7; base = negsuc 0 }) (with_batch (sent_of x.batch) (log_of w x))
 chosen (Repeat offset) w (Produce (x ∷ [])) = part_came w x (record { code = pos 0; base = pos offset }) (log_of w x)
 chosen (Forgotten place) w (Produce (x ∷ [])) = part_came w x (record { code = pos 46; base = negsuc 0 }) (log_of w x)
+chosen Refuse w (Produce (x ∷ [])) = part_came w x (record { code = pos 10; base = negsuc 0 }) (log_of w x)
 chosen choice w d = id_delivered Judged w
 
 -- a test that passes, as a type that is computed and has no value to write out
@@ -66,6 +68,7 @@ MayChoose (Repeat offset) w (Produce (x ∷ [])) =
 MayChoose (Forgotten place) w (Produce (x ∷ [])) =
     (slice_get (log_of w x).batches place ≡ Some (sent_of x.batch))
     × (nat_le KEPT (length (of_id x.batch.id (drop (suc place) (log_of w x).batches))) ≡ true)
+MayChoose Refuse w (Produce (x ∷ [])) = Unit {0}
 MayChoose GiveId w (InitProducerId p) = (list_any (λ d. d == next_id w.ids) w.ids ≡ false) × AllByRecursion (λ h. HasNone h.records (next_id w.ids)) w.logs
 MayChoose choice w d = ⊥
 
@@ -109,6 +112,8 @@ is_honest (Forgotten place) w (Produce (x ∷ [])) e = part_delivers w x _ _ (re
   stands = λ none. absurd (omega (arith, ints, none));
   is_old = λ old. record { earlier = _; later = _; split = split_at (log_of w x).batches place (sent_of x.batch) e.0; more = leb-true KEPT (length (of_id x.batch.id (drop (suc place) (log_of w x).batches))) e.1 };
 })
+is_honest Refuse w (Produce (x ∷ [])) e =
+    part_delivers w x _ _ (record { change = inl refl; stands = λ none. absurd (omega (arith, ints, none)); is_old = λ old. absurd (omega (arith, ints, old)) })
 is_honest GiveId w (InitProducerId p) e = (inr (next_id w.ids, (is_fresh w.ids (next_id w.ids) e.0, e.1), refl, inr refl), refl)
 is_honest GiveId w (Produce xs) e = absurd e
 is_honest Append w (Produce []) e = absurd e
@@ -123,6 +128,9 @@ is_honest (Repeat offset) w (InitProducerId p) e = absurd e
 is_honest (Forgotten place) w (Produce []) e = absurd e
 is_honest (Forgotten place) w (Produce (x ∷ y ∷ xs)) e = absurd e
 is_honest (Forgotten place) w (InitProducerId p) e = absurd e
+is_honest Refuse w (Produce []) e = absurd e
+is_honest Refuse w (Produce (x ∷ y ∷ xs)) e = absurd e
+is_honest Refuse w (InitProducerId p) e = absurd e
 
 -- ---- a run, event by event, with these choices
 

@@ -3,32 +3,41 @@ use Rattle.std.specs.Prelude.{ℕ, ◌+◌, ◌==◌, find, ℤ, pos, Bool, not,
 use Rattle.std.specs.List.{enumerate_from, list_any}
 use Rattle.kp_accum.specs.declared.config.Config.{Config}
 use Rattle.kp_accum.specs.Config.{default_config}
+use Rattle.kp_accum.specs.declared.item.Item.{Item}
+use Rattle.kp_accum.specs.Queue.{Pending}
 use Rattle.kp_accum.specs.Ready.{is_ready}
+use Rattle.kp_frames.specs.declared.fault.FrameFault.TheVariants.{Mismatch}
 use Rattle.kp_frames.specs.declared.produce.PartitionProduceResponse.{PartitionProduceResponse}
 use Rattle.kp_frames.specs.declared.produce.TopicProduceResponse.{TopicProduceResponse}
 use Rattle.kp_frames.specs.declared.response.Response.{Response}
 use Rattle.kp_frames.specs.declared.response.ResponseBody.{ResponseBody}
 use Rattle.kp_frames.specs.declared.response.ResponseBody.TheVariants as body
-use Rattle.kp_rules.specs.declared.outcome.Outcome.TheVariants.{Unsent}
+use Rattle.kp_rules.specs.declared.fault.CoreFault.TheVariants.{ReplyFault, Ended}
+use Rattle.kp_rules.specs.declared.meaning.Meaning.{Meaning}
+use Rattle.kp_rules.specs.declared.meaning.Meaning.TheVariants.{Reject}
+use Rattle.kp_rules.specs.declared.outcome.Outcome.TheVariants.{Rejected, Unsent}
 use Rattle.kp_rules.specs.declared.outcome.Reason.TheVariants.{Expired}
-use Rattle.kp_rules.specs.Attempts.{awaiting}
+use Rattle.kp_rules.specs.Attempts.{awaiting, is_waiting, lowest_waiting}
 use Rattle.kp_rules.specs.HandingOver.{again_in}
-use Rattle.kp_rules.specs.MaySend.{HandOverRule, is_confirmed, is_in_span, is_within_limit, sends_by}
+use Rattle.kp_rules.specs.MaySend.{HandOverRule, is_confirmed, is_in_span, is_rested, is_within_limit, sends_by}
+use Rattle.kp_rules.specs.Mismatch.{answers_batches, entries_for}
 use Rattle.kp_rules.specs.Next.{Sending, batches_by, demand_with}
 use Rattle.kp_rules.specs.Partitions.{items_open, partition_at, changed_at}
-use Rattle.kp_rules.specs.Records.{Demand, Produce, InitProducerId, Partition, Request, Core, Open}
-use Rattle.kp_rules.specs.Replies.{awaited}
+use Rattle.kp_rules.specs.Records.{Demand, Produce, InitProducerId, Partition, Request, Core, Effect, Open}
+use Rattle.kp_rules.specs.Replies.{Replies, awaited, refuse_as, unknown, known, settle}
 use Rattle.kp_rules.specs.Requesting.{Packet, Requested, request_for, partitions_in}
-use Rattle.kp_rules.specs.Telling.{told_all}
+use Rattle.kp_rules.specs.Settling.{without_attempt, meaning_of, settle_by, left_alone}
+use Rattle.kp_rules.specs.Telling.{told_all, at_these}
 use Rattle.kp_rules.specs.Tick.{TickRule, is_open_late, expire_front, tick_by}
 use Rattle.kp_world.specs.declared.event.Event.{Event}
 use Rattle.kp_world.specs.declared.event.Event.TheVariants as schedule
 use Rattle.kp_world.specs.Events.{WorldEvent, events_of}
 use Rattle.kp_world.specs.Events as event
-use Rattle.kp_world.specs.declared.event.Treatment.TheVariants.{Judged}
+use Rattle.kp_world.specs.declared.event.Treatment.TheVariants.{Judged, Refused}
 use Rattle.kp_world.specs.Causes.{TellsByRule}
-use Rattle.kp_world.specs.Client.{sending, replying, ticked_to, client}
+use Rattle.kp_world.specs.Client.{sending, reply_line, replying, ticked_to, client}
 use Rattle.kp_world.specs.Facts.{Facts, facts}
+use Rattle.kp_world.specs.Noting.{noted}
 use Rattle.kp_world.specs.Reaching.{feed}
 use Rattle.kp_world.specs.Run.{Producer, StepsBy, RunBy, MayBegin}
 use Rattle.kp_world.specs.World.{Reply, World, opening, scheduled}
@@ -65,6 +74,36 @@ abbrev pub without_waiting : HandOverRule
 without_waiting c flags now t front =
     is_ready c flags now t.queue && is_in_span c t.next_number t.open_batches
     && is_within_limit c t front
+
+-- ---- a batch that goes out again
+
+-- It does this to each partition before a request.
+abbrev pub changing_first : (Config → ℕ → Partition → Partition) → Producer
+changing_first change event.Send w =
+    let changed = map (change w.core.config w.moment) w.core.partitions in
+    client event.Send (record w { core = record w.core { partitions = changed } })
+changing_first change e w = client e w
+
+-- the lowest batch that waits, with these items too
+abbrev pub recut_by : List Item → List Open → List Open
+recut_by items [] = []
+recut_by items (o ∷ others) =
+    if is_waiting o
+    then (record o { batch = record o.batch { items = o.batch.items ++ items } }) ∷ others
+    else o ∷ recut_by items others
+
+abbrev pub with_front : List Pending → Partition → Partition
+with_front [] t = t
+with_front (front ∷ behind) t =
+    record t { queue = behind; open_batches = recut_by front.items t.open_batches }
+
+-- A batch that goes out again takes the records of the front of the queue with it, under its old base
+-- sequence.
+abbrev pub recut : Config → ℕ → Partition → Partition
+recut c now t = elim (lowest_waiting t) [
+  | None ↦ t
+  | Some lowest ↦ if is_rested c now lowest then with_front t.queue t else t
+]
 
 -- ---- how a reply is heard
 
@@ -146,6 +185,54 @@ hearing_all j None w = None
 abbrev pub settling_dropped : Producer
 settling_dropped (event.Reply j) w = hearing_all j (slice_get w.replies j) w
 settling_dropped e w = client e w
+
+-- ---- what an answer does
+
+abbrev pub SettleRule : Type 0
+SettleRule = (now request : ℕ) → Partition → PartitionProduceResponse → Effect
+
+-- Each batch of a request is settled by this rule.
+abbrev pub settled_by : SettleRule → ℕ → Core → ℕ → Demand ℕ → ResponseBody → Replies
+settled_by rule now s k (Produce ps) (body.Produce response) =
+    if answers_batches k ps s response
+    then known (at_these ps (λ p t. elim (entries_for p response) [
+      | [] ↦ left_alone t
+      | entry ∷ others ↦ rule now k t entry
+    ]) s)
+    else refuse_as (ReplyFault Mismatch) s
+settled_by rule now s k demand x = settle now s k demand x
+
+abbrev pub response_by : SettleRule → ℕ → Response → Core → Replies
+response_by rule now response s =
+    if s.ended then refuse_as Ended s
+    else elim (awaited response.correlation s) [
+      | None ↦ unknown s
+      | Some r ↦ settled_by rule now s r.correlation r.demand response.body
+    ]
+
+abbrev pub replied_by : SettleRule → ℕ → Option Reply → World → Option World
+replied_by rule j None w = None
+replied_by rule j (Some r) w =
+    let step = response_by rule w.moment r.response w.core in
+    Some (noted step.after (reply_line j step.answer) step.told w)
+
+abbrev pub settling_by : SettleRule → Producer
+settling_by rule (event.Reply j) w = replied_by rule j (slice_get w.replies j) w
+settling_by rule e w = client e w
+
+abbrev pub settled_alone : ℕ → ℕ → Partition → PartitionProduceResponse → Open → Meaning → Effect
+settled_alone now k t entry o Reject = record {
+  after = without_attempt k t;
+  told = told_all (Rejected entry.error_code) o.batch.items;
+}
+settled_alone now k t entry o meaning = settle_by now k t o entry meaning
+
+-- A batch that is refused for good is told so, and its partition goes on.
+abbrev pub without_fence : SettleRule
+without_fence now k t entry = elim (awaiting k t) [
+  | None ↦ left_alone t
+  | Some o ↦ settled_alone now k t entry o (meaning_of entry.error_code)
+]
 
 -- ---- what the time does
 
@@ -248,3 +335,17 @@ stored_and_late = feed 97 ++ schedule.Send ∷ schedule.Deliver 0 Judged ∷ sch
 -- The third record, which is as the first was, goes out under the id that was given.
 abbrev pub goes_on_under_an_id : List Event
 goes_on_under_an_id = feed 97 ++ feed 98 ++ feed 97 ++ stored 0 ++ stored 1 ++ stored 2 ++ stored 3
+
+-- Behind the first batch the second and the third are lost; a fourth record is appended, and the
+-- second goes out again.
+abbrev pub second_goes_again : List Event
+second_goes_again =
+    feed 97 ++ feed 98 ++ feed 99 ++ stored 0 ++ schedule.Send ∷ schedule.Send ∷ schedule.Drop
+    ∷ feed 100 ++ schedule.Now 100 ∷ schedule.Send ∷ schedule.Deliver 3 Judged ∷ []
+
+-- The first batch is stored, the second is refused for good, and the third goes out under the id that
+-- was given.
+abbrev pub second_is_refused : List Event
+second_is_refused =
+    feed 97 ++ feed 98 ++ feed 99 ++ stored 0
+    ++ schedule.Send ∷ schedule.Deliver 1 (Refused (pos 10)) ∷ schedule.Reply 1 ∷ stored 2 ++ stored 3

@@ -5,9 +5,9 @@ use Rattle.kp_log.specs.History.{own}
 use Rattle.kp_world.specs.Events.{Reply}
 use Rattle.kp_world.specs.Accounts.{IsNeverSent}
 use Rattle.kp_world.specs.LogLaws.{EachDeliveryHasItsOffset, IsPrefix, ToldOffsetsStand}
-use Rattle.kp_world.specs.OtherRules.{Breaks, TellsAgainstRule, settling_dropped, stored_and_dropped, sending_by, with_window, counts_open, one_wider, without_waiting, hearing_as, at_sequences, to_oldest, ticking_by, open_expires, keeping_ids, one_each, two_an_id, six_on_their_way, second_comes_first, stored_behind_another, answered_again, stored_and_late, goes_on_under_an_id}
+use Rattle.kp_world.specs.OtherRules.{Breaks, TellsAgainstRule, settling_dropped, stored_and_dropped, sending_by, with_window, counts_open, one_wider, without_waiting, changing_first, recut, second_goes_again, settling_by, without_fence, second_is_refused, hearing_as, at_sequences, to_oldest, ticking_by, open_expires, keeping_ids, one_each, two_an_id, six_on_their_way, second_comes_first, stored_behind_another, answered_again, stored_and_late, goes_on_under_an_id}
 use Rattle.kp_world.proofs.Evaluation.{evaluated}
-use Rattle.kp_world.proofs.ChosenRuns.{Choice, Append, AppendLate, Repeat, Forgotten, GiveId}
+use Rattle.kp_world.proofs.ChosenRuns.{Choice, Append, AppendLate, Repeat, Forgotten, Refuse, GiveId}
 use Rattle.kp_world.proofs.BrokenLaws.{breaks, breaks_outcome_rule, told_against_rule, offset_is_missing, log_is_unlike, offset_is_anothers, offset_is_early, unsent_is_sent}
 use Rattle.kp_world.proofs.needed.each_rule_is_needed.Goals as goal
 
@@ -38,6 +38,16 @@ second_first : Breaks (sending_by without_waiting) one_each second_comes_first (
 unfolding evaluated own
 second_first = breaks (sending_by without_waiting) (AppendLate ∷ []) one_each second_comes_first (IsPrefix 0) one_each_passes refl (tt, tt) _ log_is_unlike refl
 
+recut_again : Breaks (changing_first recut) one_each second_goes_again (IsPrefix 0)
+unfolding evaluated own
+recut_again = breaks (changing_first recut) (Append ∷ Append ∷ []) one_each second_goes_again (IsPrefix 0) one_each_passes refl (tt, (tt, tt)) _ log_is_unlike refl
+
+goes_on : Breaks (settling_by without_fence) two_an_id second_is_refused (IsPrefix 0)
+unfolding evaluated own
+goes_on =
+    breaks (settling_by without_fence) (Append ∷ Refuse ∷ GiveId ∷ Append ∷ []) two_an_id second_is_refused (IsPrefix 0) two_an_id_passes refl
+    (tt, (tt, ((refl, (refl, tt)), (tt, tt)))) _ log_is_unlike refl
+
 sequence_told : Breaks (hearing_as at_sequences) one_each stored_behind_another ToldOffsetsStand
 unfolding evaluated
 sequence_told = breaks (hearing_as at_sequences) (Append ∷ []) one_each stored_behind_another ToldOffsetsStand one_each_passes refl ((refl, tt), (tt, tt)) _ offset_is_anothers refl
@@ -66,9 +76,11 @@ returns c = record {
   window_of_open_batches = open_batches_counted;
   window_of_six = window_of_six;
   second_before_first = second_first;
+  retry_is_recut = recut_again;
   sequence_told = sequence_told;
   stale_settles = stale_settles;
   dropped_settles = dropped_settles;
+  rejection_fences_not = goes_on;
   open_expires = expires;
   old_id_kept = id_kept;
 }
