@@ -1,0 +1,11 @@
+pub mod AgainLemmas
+pub mod InFlightLemmas
+pub mod FetchingLemmas
+pub mod EventLemmas
+pub mod MatchLemmas
+pub mod CallingLemmas
+pub mod MeetingLemmas
+pub mod AnsweringLemmas
+pub mod HearingLemmas
+pub mod MoveLemmas
+pub mod SomeMoves

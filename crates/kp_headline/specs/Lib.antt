@@ -1,0 +1,5 @@
+pub mod Outside
+pub mod Moves
+pub mod Assumptions
+pub mod Matching
+pub mod Exhibits
