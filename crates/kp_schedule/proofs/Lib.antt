@@ -1,0 +1,11 @@
+pub mod LineLemmas
+pub mod WordLemmas
+pub mod DecimalLemmas
+pub mod CodeLemmas
+pub mod SettingLemmas
+pub mod EventLemmas
+pub mod AsciiLemmas
+pub mod SayLemmas
+pub mod ReadLemmas
+pub mod OneLemmas
+pub mod ScheduleLemmas
