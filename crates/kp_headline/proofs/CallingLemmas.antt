@@ -55,7 +55,6 @@ tick_moved a w t now answer m step = record {
         (facts_at now (tick_step now w.core).after _ (tick_step now w.core).told w)
         (ap (tick_step now) (core_is a w m) ∙ tick_behind a.outside.fetched now a.core) step.1;
     shut = m.shut;
-    ids = m.ids;
     said = m.said;
     answered = m.answered;
     again = m.again;
@@ -77,7 +76,6 @@ disconnect_moved a w t now m step = record {
         (facts_at now (disconnect_step now w.core) [] [] w)
         (ap quiet (ap (disconnect_step now) (core_is a w m) ∙ disconnect_behind a.outside.fetched now a.core)) step;
     shut = m.shut;
-    ids = m.ids;
     said = m.said;
     answered = m.answered;
     again = m.again;
@@ -96,7 +94,6 @@ end_moved a w t reports m step = record {
         (facts_noted (end_step w.core).after [] (end_step w.core).told w)
         (ap end_step (core_is a w m) ∙ end_behind a.outside.fetched a.core) step.1;
     shut = m.shut;
-    ids = m.ids;
     said = m.said;
     answered = m.answered;
     again = m.again;
@@ -104,24 +101,28 @@ end_moved a w t reports m step = record {
   };
 }
 
-pub flush_moved : (a : State) (w : World) (t : Core) → Matches a w → Step a.core call.Flush t → Leads a w call.Flush t
-unfolding Steps client noted
-flush_moved a w t m step = record {
-  events = event.Flush ∷ [];
-  world = noted (flush_step w.core) (flush_line w.core ∷ []) [] w;
-  run = run_one w event.Flush (noted (flush_step w.core) (flush_line w.core ∷ []) [] w) refl;
-  matches = record {
-    same = same_by (λ f. f) a w (noted (flush_step w.core) (flush_line w.core ∷ []) [] w) (quiet (flush_step w.core)) (quiet (flush_step a.core)) t m
-        (facts_noted (flush_step w.core) (flush_line w.core ∷ []) [] w)
-        (ap quiet (ap flush_step (core_is a w m) ∙ flush_behind a.outside.fetched a.core)) step;
-    shut = m.shut;
-    ids = m.ids;
-    said = m.said;
-    answered = m.answered;
-    again = m.again;
-    in_flight = in_flight_still a w (flush_step a.core) t m (shrinks_flushed a.core) step;
-  };
+abbrev pub flushed : World → World
+flushed w = noted (flush_step w.core) (flush_line w.core ∷ []) [] w
+
+pub flush_runs : (w : World) → Run w (event.Flush ∷ []) (flushed w)
+unfolding Steps client
+flush_runs w = run_one w event.Flush (flushed w) refl
+
+pub flush_matches : (a : State) (w : World) (t : Core) → Matches a w → Step a.core call.Flush t → Matches (after (Calling call.Flush t) a) (flushed w)
+unfolding noted
+flush_matches a w t m step = record {
+  same = same_by (λ f. f) a w (flushed w) (quiet (flush_step w.core)) (quiet (flush_step a.core)) t m
+      (facts_noted (flush_step w.core) (flush_line w.core ∷ []) [] w)
+      (ap quiet (ap flush_step (core_is a w m) ∙ flush_behind a.outside.fetched a.core)) step;
+  shut = m.shut;
+  said = m.said;
+  answered = m.answered;
+  again = m.again;
+  in_flight = in_flight_still a w (flush_step a.core) t m (shrinks_flushed a.core) step;
 }
+
+pub flush_moved : (a : State) (w : World) (t : Core) → Matches a w → Step a.core call.Flush t → Leads a w call.Flush t
+flush_moved a w t m step = record { events = event.Flush ∷ []; world = flushed w; run = flush_runs w; matches = flush_matches a w t m step }
 
 -- ---- closing
 
@@ -136,7 +137,6 @@ close_moved a w t m step = record {
         (facts_noted (close_step w.core) [] [] (record w { is_shut = true }))
         (ap quiet (ap close_step (core_is a w m) ∙ close_behind a.outside.fetched a.core)) step;
     shut = refl;
-    ids = m.ids;
     said = m.said;
     answered = m.answered;
     again = m.again;
@@ -181,7 +181,6 @@ out_moved a w t now o m is leaves =
             (facts_noted (request_step now w.core).after _ [] (with_packet o (at_moment now w)) ∙ ap (λ (f : Facts). stepped (request_step now w.core).after [] (out_with o f)) (facts_kept [] (record w { moment = now })))
             (ap (λ (z : Requested). quiet z.after) behind) leaves;
         shut = m.shut;
-        ids = m.ids;
         said = parts_still a.outside.packets (a.outside.packets ++ o ∷ []) w.replies w.replies a.outside.said (got_front a.outside.packets (o ∷ [])) (λ r i. i) m.said;
         answered = given_still a.outside.packets (a.outside.packets ++ o ∷ []) w.replies w.replies a.outside.answered (contained_front a.outside.packets (o ∷ [])) (λ r i. i) m.answered;
         again = m.again;
@@ -245,7 +244,6 @@ append_moved a w t i (Ok done) m fed step = record {
     same = same_by (took i.sender) a w (taking_of i.sender (append_step i w.core).after (append_step i w.core).told (Ok done) w) (append_step i w.core) (append_step i a.core) t m
         (facts_noted (append_step i w.core).after [] (append_step i w.core).told (with_taken i.sender w)) (append_same a w i m) step.1;
     shut = m.shut;
-    ids = m.ids;
     said = m.said;
     answered = m.answered;
     again = m.again;
@@ -261,7 +259,6 @@ append_moved a w t i (Err append.BufferFull) m fed step = record {
     same = same_by (λ f. f) a w (taking_of i.sender (append_step i w.core).after (append_step i w.core).told (Err append.BufferFull) w) (append_step i w.core) (append_step i a.core) t m
         (facts_noted (append_step i w.core).after _ (append_step i w.core).told w) (append_same a w i m) step.1;
     shut = m.shut;
-    ids = m.ids;
     said = m.said;
     answered = m.answered;
     again = m.again;

@@ -3,7 +3,6 @@ use Rattle.std.proofs.Common.{◌≡◌, ℕ, List, [], ◌∷◌, ◌++◌, ref
 use Rattle.std.proofs.lemmas.List.{append-nil}
 use Rattle.std.proofs.lemmas.List.Concat.{flat_map-append}
 use Rattle.kp_frames.specs.declared.response.Response.{Response}
-use Rattle.kp_log.specs.History.{History}
 use Rattle.kp_rules.specs.Records.{Core, Told}
 use Rattle.kp_rules.specs.Requesting.{Packet}
 use Rattle.kp_world.specs.Client.{client}
@@ -52,9 +51,9 @@ facts_kept answer w = facts_noted w.core answer [] w ∙ ap (of_told w w.core) (
 pub facts_at : (now : ℕ) (core : Core) (answer : List Line) (told : List Told) (w : World) → facts (noted core answer told (at_moment now w)) ≡ stepped core told (facts w)
 facts_at now core answer told w = facts_noted core answer told (at_moment now w) ∙ ap (stepped core told) (facts_kept [] (record w { moment = now }))
 
-abbrev pub with_logs : List History → Facts → Facts
-with_logs logs f = record f { logs = logs }
+abbrev pub delivered_to : Delivery → Facts → Facts
+delivered_to d f = record f { logs = d.logs; ids = d.ids }
 
-pub facts_delivered : (o : Packet) (d : Delivery) (response : Response) (w : World) → facts (with_delivery o d response w) ≡ with_logs d.logs (facts w)
+pub facts_delivered : (o : Packet) (d : Delivery) (response : Response) (w : World) → facts (with_delivery o d response w) ≡ delivered_to d (facts w)
 unfolding with_delivery
 facts_delivered o d response w = facts_kept _ _

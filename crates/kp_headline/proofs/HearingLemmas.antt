@@ -210,7 +210,6 @@ to_batches a w t now content m x to hears leaves = record {
         ∙ ap (stepped (response_step now x.response w.core).after (response_step now x.response w.core).told) (facts_delivered x.packet (comes w.logs says.answers w) x.response w))
         (hears_so a w now content x.response m hears) leaves;
     shut = m.shut;
-    ids = m.ids;
     said = parts_still a.outside.packets a.outside.packets w.replies (w.replies ++ reply_of x.packet says.answers x.response ∷ []) a.outside.said (λ n o e. e) (contained_front w.replies (reply_of x.packet says.answers x.response ∷ [])) m.said;
     answered = given_still a.outside.packets a.outside.packets w.replies (w.replies ++ reply_of x.packet says.answers x.response ∷ []) a.outside.answered (λ o i. i) (contained_front w.replies (reply_of x.packet says.answers x.response ∷ [])) m.answered;
     again = m.again;
@@ -264,7 +263,6 @@ id_heard a w t now content m x leaves = record {
         (facts_at now (response_step now x.reply.response w.core).after _ (response_step now x.reply.response w.core).told w)
         (hears_so a w now content x.reply.response m hears) leaves;
     shut = m.shut;
-    ids = m.ids;
     said = m.said;
     answered = m.answered;
     again = m.again;

@@ -9,3 +9,6 @@ pub mod AnsweringLemmas
 pub mod HearingLemmas
 pub mod MoveLemmas
 pub mod SomeMoves
+pub mod LawLemmas
+pub mod ReportLemmas
+pub mod LifeLemmas

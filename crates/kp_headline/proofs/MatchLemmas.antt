@@ -99,7 +99,6 @@ stays a w fetched t m core remembers = record {
   matches = record {
     same = m.same ∙ ap (with_told a) (sym (append-nil a.outside.told)) ∙ ap (with_core a) (sym core);
     shut = m.shut;
-    ids = m.ids;
     said = m.said;
     answered = m.answered;
     again = m.again;

@@ -22,7 +22,7 @@ use Rattle.kp_world.specs.Run.{with_delivery, Arrives, Steps}
 use Rattle.kp_world.specs.World.{PartAnswer, Batches, Reply, World}
 use Rattle.kp_world.proofs.EventLemmas.{run_one}
 use Rattle.kp_world.proofs.ListLemmas.{in_at}
-use Rattle.kp_headline.specs.Assumptions.{IsHonest, KeepsIds}
+use Rattle.kp_headline.specs.Assumptions.{IsHonest, KeepsIdsApart}
 use Rattle.kp_headline.specs.Matching.{IsPartOf, IsGiven, MayAgain, Matches, CanFollow}
 use Rattle.kp_headline.specs.Moves.{Meeting, Drawing, Comes, Asks, after}
 use Rattle.kp_headline.specs.Outside.{State}
@@ -107,7 +107,6 @@ met a w k x answer log m c honest = record {
   matches = record {
     same = facts_delivered c.packet (comes (slice_set w.logs x.partition log) all.0 w) (silent c.packet) w ∙ ap (met_with x.partition log) m.same;
     shut = m.shut;
-    ids = m.ids;
     said = all_append (IsPartOf a.outside.packets (w.replies ++ reply_of c.packet all.0 (silent c.packet) ∷ [])) a.outside.said ((record { packet = k; part = x; answer = answer }) ∷ [])
         (parts_still a.outside.packets a.outside.packets w.replies (w.replies ++ reply_of c.packet all.0 (silent c.packet) ∷ []) a.outside.said (λ n o e. e) (contained_front w.replies (reply_of c.packet all.0 (silent c.packet) ∷ [])) m.said) (part, tt);
     answered = given_still a.outside.packets a.outside.packets w.replies (w.replies ++ reply_of c.packet all.0 (silent c.packet) ∷ []) a.outside.answered (λ o i. i) (contained_front w.replies (reply_of c.packet all.0 (silent c.packet) ∷ [])) m.answered;
@@ -146,7 +145,10 @@ met a w k x answer log m c honest = record {
 abbrev drawing : List ℕ → Reply → World → Delivery
 drawing ids reply w = record { logs = w.logs; ids = ids; content = reply.content }
 
-pub drawn : (a : State) (w : World) (k : ℕ) (ids : List ℕ) (reply : Reply) → Matches a w → Asks a k reply → KeepsIds a (Drawing k ids reply) → CanFollow w (after (Drawing k ids reply) a)
+abbrev drawn_with : List ℕ → Facts → Facts
+drawn_with ids f = record f { ids = ids }
+
+pub drawn : (a : State) (w : World) (k : ℕ) (ids : List ℕ) (reply : Reply) → Matches a w → Asks a k reply → KeepsIdsApart a (Drawing k ids reply) → CanFollow w (after (Drawing k ids reply) a)
 unfolding with_delivery noted Delivers
 drawn a w k ids reply m c honest = record {
   events = event.Deliver k ∷ [];
@@ -155,16 +157,14 @@ drawn a w k ids reply m c honest = record {
     packet = c.packet;
     went_out = went_out_there a w k c.packet m c.went_out;
     delivery = drawing ids reply w;
-    honest = subst (λ (d : Demand Sending). Delivers w d (drawing ids reply w)) (sym c.demand)
-        (subst (λ (is : List ℕ). IdDelivers w.logs is reply.content ids) (sym m.ids) (subst (λ (f : Facts). IdDelivers f.logs a.outside.ids reply.content ids) (sym m.same) honest), refl);
+    honest = subst (λ (d : Demand Sending). Delivers w d (drawing ids reply w)) (sym c.demand) (subst (λ (f : Facts). IdDelivers f.logs f.ids reply.content ids) (sym m.same) honest, refl);
     response = reply.response;
     answers = c.answers;
     after_is = refl;
   }));
   matches = record {
-    same = facts_delivered c.packet (drawing ids reply w) reply.response w ∙ m.same;
+    same = facts_delivered c.packet (drawing ids reply w) reply.response w ∙ ap (drawn_with ids) m.same;
     shut = m.shut;
-    ids = refl;
     said = parts_still a.outside.packets a.outside.packets w.replies (w.replies ++ answer ∷ []) a.outside.said (λ n o e. e) (contained_front w.replies (answer ∷ [])) m.said;
     answered = all_append (IsGiven a.outside.packets (w.replies ++ answer ∷ [])) a.outside.answered (reply ∷ [])
         (given_still a.outside.packets a.outside.packets w.replies (w.replies ++ answer ∷ []) a.outside.answered (λ o i. i) (contained_front w.replies (answer ∷ [])) m.answered) (given, tt);

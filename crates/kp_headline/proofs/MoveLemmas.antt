@@ -22,7 +22,7 @@ use Rattle.kp_world.specs.Noting.{noted, only_noted}
 use Rattle.kp_world.specs.Run.{with_others_at, Steps, MayBegin}
 use Rattle.kp_world.specs.World.{World, Opening, opening}
 use Rattle.kp_world.proofs.EventLemmas.{run_one, run_append}
-use Rattle.kp_headline.specs.Assumptions.{IsHonest, IsNotMadeUp, IsInTurn, KeepsIds, Assumed}
+use Rattle.kp_headline.specs.Assumptions.{IsHonest, IsNotMadeUp, IsInTurn, KeepsIdsApart, Assumed}
 use Rattle.kp_headline.specs.Matching.{IsOfPackets, Matches, CanFollow, IsMatched}
 use Rattle.kp_headline.specs.Moves.{Move, Accepting, Calling, Meeting, Drawing, Others, IsAccepted, IsMove, AreMoves, after, led}
 use Rattle.kp_headline.specs.Outside.{State, new_state, known}
@@ -75,7 +75,6 @@ accepted a w i m x = record {
   matches = record {
     same = facts_kept [] (with_accepted i w) ∙ ap (accepted_with i) m.same;
     shut = m.shut;
-    ids = m.ids;
     said = m.said;
     answered = m.answered;
     again = m.again;
@@ -111,13 +110,12 @@ others a w p records m within none = record {
   events = event.Other p records ∷ [];
   world = other_world p records w;
   run = run_one w (event.Other p records) (other_world p records w) (
-    subst (λ (ids : List ℕ). AreOthers ids records) (sym m.ids) none,
+    subst (λ (f : Facts). AreOthers f.ids records) (sym m.same) none,
     ap (λ (b : Bool). only_if b (other_world p records w)) (lt-ltb p (length w.logs) (subst (λ (f : Facts). p < length f.logs) (sym m.same) within)),
   );
   matches = record {
     same = facts_kept [] (record w { logs = logs_with_others p records w.logs }) ∙ ap (other_with p records) m.same;
     shut = m.shut;
-    ids = m.ids;
     said = m.said;
     answered = m.answered;
     again = all_again_later a.outside.logs (logs_with_others p records a.outside.logs) a.outside.said
@@ -128,7 +126,7 @@ others a w p records m within none = record {
 
 -- ---- moves
 
-moved : (a : State) (x : Move) (w : World) → Matches a w → IsMove a x → IsHonest a x → IsNotMadeUp a x → IsInTurn a x → KeepsIds a x → CanFollow w (after x a)
+moved : (a : State) (x : Move) (w : World) → Matches a w → IsMove a x → IsHonest a x → IsNotMadeUp a x → IsInTurn a x → KeepsIdsApart a x → CanFollow w (after x a)
 moved a (Accepting i) w m is honest fair fed ids = accepted a w i m is
 moved a (Calling c t) w m is honest fair fed ids = called a w c t m is fair fed
 moved a (Meeting k x answer log) w m is honest fair fed ids = met a w k x answer log m is honest
@@ -155,7 +153,6 @@ unfolding opening
 begin o = record {
   same = ap (λ (s : Core). let f : Facts = record (known (new_state o)) { core = s } in f) (sym (nothing_fetched (new_state o).core));
   shut = refl;
-  ids = refl;
   said = tt;
   answered = tt;
   again = tt;

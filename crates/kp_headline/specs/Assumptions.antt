@@ -82,10 +82,10 @@ IsInTurn a m = Unit {0}
 
 -- A fresh id is drawn or none, and answered is this id or an error; nobody else's records are under an id that was
 -- drawn for this producer.
-abbrev pub KeepsIds : State → Move → Type 0
-KeepsIds a (Drawing k ids reply) = IdDelivers a.outside.logs a.outside.ids reply.content ids
-KeepsIds a (Others p records) = AreOthers a.outside.ids records
-KeepsIds a m = Unit {0}
+abbrev pub KeepsIdsApart : State → Move → Type 0
+KeepsIdsApart a (Drawing k ids reply) = IdDelivers a.outside.logs a.outside.ids reply.content ids
+KeepsIdsApart a (Others p records) = AreOthers a.outside.ids records
+KeepsIdsApart a m = Unit {0}
 
 -- ---- all that is assumed of moves
 
@@ -93,4 +93,4 @@ pub record Assumed (a : State) (ms : List Move) : Type 0 where
   pub honest : Throughout IsHonest a ms
   pub not_made_up : Throughout IsNotMadeUp a ms
   pub in_turn : Throughout IsInTurn a ms
-  pub ids_once : Throughout KeepsIds a ms
+  pub ids_once : Throughout KeepsIdsApart a ms

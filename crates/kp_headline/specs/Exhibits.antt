@@ -18,7 +18,7 @@ use Rattle.kp_world.specs.Events.{record_at}
 use Rattle.kp_world.specs.LogLaws.{ToldOffsetsStand}
 use Rattle.kp_world.specs.Message.{sent_of}
 use Rattle.kp_world.specs.World.{scheduled, FIRST_ID}
-use Rattle.kp_headline.specs.Assumptions.{IsHonest, IsInTurn, KeepsIds, Assumed}
+use Rattle.kp_headline.specs.Assumptions.{IsHonest, IsInTurn, KeepsIdsApart, Assumed}
 use Rattle.kp_headline.specs.Moves.{Move, Accepting, Calling, Meeting, AreMoves, Throughout, after, led}
 use Rattle.kp_headline.specs.Outside.{State, new_state, known}
 
@@ -136,6 +136,6 @@ pub record Misleads (ms : List Move) (told : List Told) : Type 0 where
   pub moves : AreMoves begun ms
   pub honest : Throughout IsHonest begun ms
   pub in_turn : Throughout IsInTurn begun ms
-  pub ids_once : Throughout KeepsIds begun ms
+  pub ids_once : Throughout KeepsIdsApart begun ms
   pub told_in_all : (led begun ms).outside.told ≡ told
   pub is_wrong : ToldOffsetsStand (known (led begun ms)) → ⊥

@@ -3,3 +3,4 @@ pub mod Moves
 pub mod Assumptions
 pub mod Matching
 pub mod Exhibits
+pub mod Laws

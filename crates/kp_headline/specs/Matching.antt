@@ -69,7 +69,6 @@ pub record Remembers (s : Core) (packets : List Packet) : Type 0 where
 pub record Matches (a : State) (w : World) : Type 0 where
   pub same : facts w ≡ known a
   pub shut : w.is_shut ≡ a.outside.is_shut
-  pub ids : w.ids ≡ a.outside.ids
   pub said : AllByRecursion (IsPartOf a.outside.packets w.replies) a.outside.said
   pub answered : AllByRecursion (IsGiven a.outside.packets w.replies) a.outside.answered
   pub again : AllByRecursion (MayAgain a.outside.logs) a.outside.said

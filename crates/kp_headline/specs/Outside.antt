@@ -65,5 +65,6 @@ known a = record {
   handed = a.outside.handed;
   packets = a.outside.packets;
   logs = a.outside.logs;
+  ids = a.outside.ids;
   told = a.outside.told;
 }

@@ -3,4 +3,5 @@
 #![tactic(auto)]
 
 pub mod exhibits;
+pub mod laws;
 pub mod moving;
