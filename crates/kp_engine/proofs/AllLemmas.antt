@@ -9,13 +9,13 @@ use Rattle.kp_lanes.specs.declared.gate.view.View.{View}
 use Rattle.kp_lanes.specs.declared.intake.Intake.{Intake}
 use Rattle.kp_rules.specs.Calls.{Call, Close}
 use Rattle.kp_engine.specs.Agreement.{held_at}
-use Rattle.kp_engine.specs.Exchange.{AreIdle, IsIdle, IsQuiet, OnlyCore, Runs, SameClosed, SameSides, senders_of, side_of}
+use Rattle.kp_engine.specs.Exchange.{AreIdle, IsIdle, IsQuiet, OnlyCore, Runs, SameClosed, SameSides, TookEnough, senders_of, side_of}
 use Rattle.kp_engine.specs.Steps.{AppendsUntil, Closes, OnlySide, OnlySides, OnlyView, TakesAll, TakesAndCloses, TakesUntil, WholePart}
 use Rattle.kp_engine.specs.Turn.{Side, SenderPart, SenderParts, SenderPartUntil}
 use Rattle.kp_engine.specs.declared.exchange.Exchange.{Exchange}
 use Rattle.kp_engine.proofs.AgreementLemmas.{none_some}
 use Rattle.kp_engine.proofs.RunLemmas.{runs_none, runs_then}
-use Rattle.kp_engine.proofs.SideLemmas.{idle_still, runs_from, same_side}
+use Rattle.kp_engine.proofs.SideLemmas.{enough_same, idle_still, runs_from, same_side}
 
 pub parts_kept : (n : ℕ) (old new newer : ℕ → Side) (calls : List Call) → ((k : ℕ) → k < n → newer k ≡ new k) → SenderParts n old calls new → SenderParts n old calls newer
 parts_kept zero old new newer calls same parts = parts
@@ -34,6 +34,7 @@ pub record TakenTo (n : ℕ) (a b : Exchange) (idle : Bool) : Type 0 where
   pub later : (k : ℕ) → n ≤ k → side_of b k ≡ side_of a k
   pub runs : Runs a calls b
   pub only : OnlySides a b
+  pub enough : (k : ℕ) → k < n → TookEnough k (side_of a k) (side_of b k) b.intake
   pub found : IsTrue idle → (k : ℕ) → k < n → IsIdle k b
 
 pub sides_same : (a : Exchange) → OnlySides a a
@@ -54,6 +55,7 @@ nobody_taken a = record {
   later = λ k far. refl;
   runs = runs_none a a refl refl;
   only = sides_same a;
+  enough = λ k below. absurd (omega (arith, below));
   found = λ is k below. absurd (omega (arith, below));
 }
 
@@ -74,6 +76,11 @@ next_taken n a m b idle found all h w only both = record {
   later = λ k far. only.others k (λ e. omega (arith, e, far)) ∙ h.later k (omega (arith, far));
   runs = runs_then a m b h.calls w.calls h.runs w.runs;
   only = sides_then n a m b h.only only;
+  enough = λ k below. ⊎_elim
+      (λ (before : k < n). enough_same k (side_of a k) m b (only.others k (λ e. omega (arith, e, before))) only.lanes.lanes only.view (h.enough k before))
+      (λ (here : n ≤ k). let same : n ≡ k = omega (arith, here, below) in subst (λ (j : ℕ). TookEnough j (side_of a j) (side_of b j) b.intake) same
+      (subst (λ (s : Side). TookEnough n s (side_of b n) b.intake) (h.later n (omega arith)) w.enough))
+      (cases_lt k n);
   found = λ is k below. ⊎_elim
       (λ (before : k < n). idle_still k m b (only.others k (λ e. omega (arith, e, before))) only.lanes.lanes only.view (h.found (both is).0 k before))
       (λ (here : n ≤ k). let same : n ≡ k = omega (arith, here, below) in subst (λ (j : ℕ). IsIdle j b) same (w.idle (both is).1))
@@ -101,6 +108,7 @@ all_taken n a b idle whole h = record {
   parts = subst (λ (m : ℕ). SenderParts m (side_of a) h.calls (side_of b)) whole h.parts;
   later = λ k far. h.later k (omega (arith, far, whole));
   runs = h.runs;
+  enough = λ k below. h.enough k (omega (arith, below, whole));
   found = λ is k below. h.found is k (omega (arith, below, whole, h.only.lanes.senders));
 }
 
@@ -146,6 +154,10 @@ module _ (a q b : Exchange) (view : OnlyView a q) where
   senders_parts calls parts =
       parts_from (senders_of a) (side_of q) (side_of a) (side_of b) calls view.sides (subst (λ (n : ℕ). SenderParts n (side_of q) calls (side_of b)) view.lanes.senders parts)
 
+  enough_viewed : {idle : Bool} → TakesAll q b idle → (k : ℕ) → k < senders_of a → TookEnough k (side_of a k) (side_of b k) b.intake
+  enough_viewed h k below =
+      subst (λ (s : Side). TookEnough k s (side_of b k) b.intake) (view.sides k) (h.enough k (omega (arith, below, view.lanes.senders)))
+
   -- all is taken, and it isn't closed
   pub left_open : (idle : Bool) → TakesAll q b idle → OnlySides q b → TakesAndCloses a b idle
   left_open idle h only = record {
@@ -153,6 +165,7 @@ module _ (a q b : Exchange) (view : OnlyView a q) where
     closes = false;
     part = record { of_senders = h.calls; parts = senders_parts h.calls h.parts; made = sym (append-nil h.calls) };
     runs = runs_from a q b h.calls view.core view.kept h.runs;
+    enough = enough_viewed h;
     closed = only.closed ∙ view.closed ∙ or_false a.closed;
     only = λ is. absurd (false_true is);
     found = h.found;
@@ -173,6 +186,7 @@ module _ (a q b : Exchange) (view : OnlyView a q) where
           made = refl;
         };
         runs = runs_then a b c h.calls (Close ∷ []) (runs_from a q b h.calls view.core view.kept h.runs) closes.runs;
+        enough = λ k below. enough_same k (side_of a k) b c (sides k) (ap (λ (t : Intake). lanes_of t) closes.intake) (ap (λ (t : Intake). intake_view t) closes.intake) (enough_viewed h k below);
         closed = closes.closed ∙ ap (λ (o : Bool). o || true) (sym was_open);
         only = λ yes. (was_open, ap (λ (v : View). v.knows_quiet) (ap (λ (t : Intake). intake_view t) closes.intake ∙ only.view) ∙ quiet, still);
         found = λ yes. still;

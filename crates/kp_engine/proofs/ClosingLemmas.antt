@@ -1,19 +1,19 @@
 -- How often polls close the core.
-use Rattle.std.proofs.Common.{◌≡◌, ℕ, Bool, true, false, List, [], ◌∷◌, ◌++◌, map, refl, sym, ap, ◌∙◌, subst, inl, inr, append-nil, append_assoc}
+use Rattle.std.proofs.Common.{◌≡◌, ℕ, Bool, true, false, List, [], ◌∷◌, ◌++◌, map, refl, sym, ap, ◌∙◌, inl, inr, append-nil, append_assoc}
 use Rattle.std.specs.Prelude.{Option, Some, None, IsTrue, flat_map, ◌||◌}
 use Rattle.std.proofs.lemmas.Grind.{flat_map-append}
 use Rattle.futures.specs.declared.task.Poll.{Poll}
 use Rattle.futures.specs.declared.task.Poll.TheVariants.{Ready, Pending}
 use Rattle.kp_connection.specs.Wire.{Told, Wired}
 use Rattle.kp_frames.specs.declared.fault.FrameFault.{FrameFault}
-use Rattle.kp_rules.specs.Calls.{Call, Close, End, Step}
+use Rattle.kp_rules.specs.Calls.{Call, Close, End}
 use Rattle.kp_rules.specs.declared.outgoing.Outgoing.{Outgoing}
 use Rattle.kp_engine.specs.Closing.{ClosedBetween, ClosesOnce, Polled, calls_of_poll, calls_of_turn, closing}
-use Rattle.kp_engine.specs.Engine.{Cleared, Polls}
-use Rattle.kp_engine.specs.Exchange.{AreIdle, IsQuiet, OnlyCore, Runs, SameLanes, mail_of, senders_of, side_of}
-use Rattle.kp_engine.specs.Polls.{Closed, TalkUntil, Turn, TurnUntil, Turns, TurnsCut, TurnsOn, TurnsOut, is_cut}
+use Rattle.kp_engine.specs.Engine.{Polls}
+use Rattle.kp_engine.specs.Exchange.{mail_of, senders_of, side_of}
+use Rattle.kp_engine.specs.Polls.{Closed, TalkUntil, Turn, TurnUntil, Turns, is_cut}
 use Rattle.kp_engine.specs.Serving.{HasPlaces, Served}
-use Rattle.kp_engine.specs.Turn.{Heard, ItemsPart, RepliesPart, RequestsPart, TickPart, asks, hears, if_so}
+use Rattle.kp_engine.specs.Turn.{Heard, ItemsPart, RequestsPart, TickPart, hears, if_so}
 use Rattle.kp_engine.specs.declared.engine.Line.{Line}
 use Rattle.kp_engine.specs.declared.engine.Line.TheVariants.{Open, Stopped}
 use Rattle.kp_engine.specs.declared.exchange.Exchange.{Exchange}

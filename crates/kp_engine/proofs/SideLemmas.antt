@@ -1,14 +1,16 @@
 -- What stays of the senders' items and reports.
-use Rattle.std.proofs.Common.{◌≡◌, ℕ, ◌<◌, List, [], length, get_or, refl, sym, ap, ◌∙◌}
-use Rattle.std.specs.Prelude.{Option, None}
+use Rattle.std.proofs.Common.{◌≡◌, ℕ, ◌<◌, List, [], length, get_or, refl, sym, ap, ◌∙◌, subst, inl, inr}
+use Rattle.std.specs.Prelude.{Option, None, IsSome}
 use Rattle.std.proofs.lemmas.List.{get_or-set_same, get_or-set_other, length-set}
 use Rattle.kp_accum.specs.declared.item.Item.{Item}
+use Rattle.kp_lanes.specs.Entries.{items_of}
+use Rattle.kp_lanes.specs.declared.entry.Entry.{Entry}
 use Rattle.kp_lanes.specs.Intake.{lanes_of, intake_limits, intake_view, passed_of, asked_at_of, told_of}
 use Rattle.kp_lanes.specs.declared.intake.Intake.{Intake}
 use Rattle.kp_rules.specs.declared.outcome.Report.{Report}
 use Rattle.kp_rules.specs.Calls.{Call}
 use Rattle.kp_engine.specs.Agreement.{held_at}
-use Rattle.kp_engine.specs.Exchange.{IsIdle, OnlyCore, Runs, SameLanes, kept_calls, mail_of, senders_of, side_of}
+use Rattle.kp_engine.specs.Exchange.{IsIdle, OnlyCore, Runs, SameLanes, TookEnough, TookNone, kept_calls, mail_of, senders_of, side_of}
 use Rattle.kp_engine.specs.Turn.{Side}
 use Rattle.kp_engine.specs.Steps.{OnlyItem, OnlyLane, OnlySide}
 use Rattle.kp_engine.specs.declared.exchange.Exchange.{Exchange}
@@ -77,18 +79,37 @@ now_held i a b o near h = ap (λ (l : List (Option Item)). held_at l i) h.items 
 
 -- ---- an idle sender stays so
 
+pub none_still : (i : ℕ) (a b : Exchange) → (side_of b i).passed ≡ (side_of a i).passed → lanes_of b.intake ≡ lanes_of a.intake
+    → intake_view b.intake ≡ intake_view a.intake → TookNone i a.intake → TookNone i b.intake
+none_still i a b passed lanes view h = record {
+  before = h.before;
+  after = h.after;
+  nothing = h.nothing;
+  lanes = h.lanes ∙ sym lanes;
+  same_view = h.same_view ∙ sym view;
+  since = passed ∙ h.since;
+}
+
 pub idle_still : (i : ℕ) (a b : Exchange) → side_of b i ≡ side_of a i → lanes_of b.intake ≡ lanes_of a.intake → intake_view b.intake ≡ intake_view a.intake → IsIdle i a → IsIdle i b
 idle_still i a b side lanes view h = record {
-  found = record {
-    before = h.found.before;
-    after = h.found.after;
-    nothing = h.found.nothing;
-    lanes = h.found.lanes ∙ sym lanes;
-    same_view = h.found.same_view ∙ sym view;
-    since = ap (λ (s : Side). s.passed) side ∙ h.found.since;
-  };
+  found = none_still i a b (ap (λ (s : Side). s.passed) side) lanes view h.found;
   none_held = ap (λ (s : Side). s.held) side ∙ h.none_held;
 }
+
+-- ---- enough taken stays so
+
+pub enough_still : (i : ℕ) (old : Side) (a b : Exchange) → (side_of b i).passed ≡ (side_of a i).passed → (side_of b i).held ≡ (side_of a i).held
+    → lanes_of b.intake ≡ lanes_of a.intake → intake_view b.intake ≡ intake_view a.intake
+    → TookEnough i old (side_of a i) a.intake → TookEnough i old (side_of b i) b.intake
+enough_still i old a b passed held lanes view (inl h) = inl h
+enough_still i old a b passed held lanes view (inr (inl h)) = inr (inl (subst (λ (o : Option Item). IsSome o) (sym held) h))
+enough_still i old a b passed held lanes view (inr (inr (inl h))) = inr (inr (inl (ap (λ (l : List Entry). length (items_of l)) passed ∙ h)))
+enough_still i old a b passed held lanes view (inr (inr (inr h))) = inr (inr (inr (none_still i a b passed lanes view h)))
+
+-- where nothing of the sender's items has changed
+pub enough_same : (i : ℕ) (old : Side) (a b : Exchange) → side_of b i ≡ side_of a i → lanes_of b.intake ≡ lanes_of a.intake
+    → intake_view b.intake ≡ intake_view a.intake → TookEnough i old (side_of a i) a.intake → TookEnough i old (side_of b i) b.intake
+enough_same i old a b side lanes view h = enough_still i old a b (ap (λ (s : Side). s.passed) side) (ap (λ (s : Side). s.held) side) lanes view h
 
 -- ---- calls behind what changes neither the core nor what is kept
 

@@ -1,5 +1,5 @@
 -- A sender's items, appended one after the other.
-use Rattle.std.proofs.Common.{◌≡◌, ℕ, ◌+◌, ◌<◌, ◌≤◌, Bool, true, false, List, [], ◌∷◌, ◌++◌, length, get_or, refl, sym, ap, ◌∙◌, subst, append_assoc, append-nil, length-append, arith}
+use Rattle.std.proofs.Common.{◌≡◌, ℕ, ◌+◌, ◌<◌, ◌≤◌, Bool, true, false, List, [], ◌∷◌, ◌++◌, length, get_or, refl, sym, ap, ◌∙◌, subst, append_assoc, append-nil, inl, inr, length-append, arith}
 use Rattle.std.specs.Prelude.{Option, Some, None, Result, Ok, Err, IfSome, IsSome, is_some, drop, option_to_list, slice_set}
 use Rattle.std.specs.List.{AllByRecursion}
 use Rattle.std.proofs.lemmas.List.{length-map, map-append, get_or-set_same, get_or-set_other, set-get_or}
@@ -15,17 +15,20 @@ use Rattle.kp_lanes.specs.declared.intake.Intake.{Intake}
 use Rattle.kp_rules.specs.declared.outcome.Report.{Report}
 use Rattle.kp_rules.specs.Calls.{Call, Append, Flush}
 use Rattle.kp_engine.specs.Agreement.{held_at}
-use Rattle.kp_engine.specs.Exchange.{OnlyCore, Runs, senders_of, side_of}
+use Rattle.kp_engine.specs.Exchange.{OnlyCore, Runs, TookEnough, senders_of, side_of}
 use Rattle.kp_engine.specs.Steps.{AppendsFrom, AppendsHeld, AppendsOne, AppendsSome, AppendsUntil, Flushes, HeldAgain, HoldsNow, OnlyLane, OnlySide, TakesOne, WholePart, ended_by}
 use Rattle.kp_engine.specs.Turn.{Side, Takes, appends, fails, if_so, refuses}
 use Rattle.kp_engine.specs.declared.exchange.Exchange.{Exchange}
 use Rattle.kp_engine.proofs.RunLemmas.{runs_none, runs_still, runs_then}
 use Rattle.kp_engine.proofs.AgreementLemmas.{none_some}
-use Rattle.kp_engine.proofs.SideLemmas.{now_held, of_core, of_item, of_lane, runs_from, same_mail, same_side, side_same, side_then}
+use Rattle.kp_engine.proofs.SideLemmas.{enough_still, none_still, now_held, of_core, of_item, of_lane, runs_from, same_mail, same_side, side_same, side_then}
 
 pub if_some_is : {A : Type 0} (P : A → Type 0) (o : Option A) → ((x : A) → o ≡ Some x → P x) → IfSome o P
 if_some_is P None h = tt
 if_some_is P (Some x) h = h x refl
+
+pub some_is : (o : Option Item) (x : Item) → o ≡ Some x → IsSome o
+some_is o x is = ap (λ (p : Option Item). is_some p) is
 
 -- ---- the item that was held back
 
@@ -107,6 +110,7 @@ module _ (i : ℕ) (item : Item) (a m b : Exchange) (near : i < senders_of a) (w
     takes = takes_held h.1.appended h.1.in_order h.1.passed;
     asked = asked_now h.1.asked;
     runs = runs_from a m b _ now.core now.kept h.1.runs;
+    enough = inl (some_is (held_at a.items.items i) item was);
     idle = λ is. absurd (not_both (sym h.0 ∙ is));
   }
     where
@@ -127,11 +131,11 @@ module _ (i : ℕ) (item : Item) (a m b : Exchange) (near : i < senders_of a) (w
 
 -- ---- items that are taken
 
--- So many at most were taken, and all of them appended.
+-- So many were taken, and all of them appended.
 pub record TakenSoFar (i n : ℕ) (a b : Exchange) : Type 0 where
   pub items : List Item
   pub passed : items_of (passed_of b.intake i) ≡ items_of (passed_of a.intake i) ++ items
-  pub count : length items ≤ n
+  pub count : length items ≡ n
   pub theirs : AllByRecursion (λ x. x.sender ≡ i) items
   pub free : held_at b.items.items i ≡ None
   pub asked : asked_at_of b.intake i ≡ asked_at_of a.intake i
@@ -148,7 +152,7 @@ pub none_taken : (i : ℕ) (a : Exchange) → held_at a.items.items i ≡ None �
 none_taken i a free = record {
   items = [];
   passed = sym (append-nil (items_of (passed_of a.intake i)));
-  count = omega arith;
+  count = refl;
   theirs = tt;
   free = free;
   asked = refl;
@@ -169,7 +173,7 @@ module _ (i n : ℕ) (item : Item) (a m b c : Exchange) (h : TakenSoFar i n a m)
   runs_one_more : (xs : List Call) → Runs b xs c → Runs a (appends h.items ++ xs) c
   runs_one_more xs runs = runs_then a m c (appends h.items) xs h.runs (runs_from m b c xs lane.core lane.kept runs)
 
-  one_longer : length (h.items ++ item ∷ []) ≤ n + 1
+  one_longer : length (h.items ++ item ∷ []) ≡ n + 1
   one_longer = omega (arith, h.count, length-append h.items (item ∷ []))
 
   pub one_taken : AppendsOne i item b (Ok tt) c → TakenSoFar i (n + 1) a c
@@ -203,6 +207,7 @@ module _ (i n : ℕ) (item : Item) (a m b c : Exchange) (h : TakenSoFar i n a m)
         takes = takes_but_one was few refused.1.intake held;
         asked = asked_one refused.1.intake;
         runs = subst (λ (o : Option Item). Runs a (appends h.items ++ refuses o) c) (sym held) (runs_one_more (Append item (Err BufferFull) ∷ []) refused.0);
+        enough = inr (inl (some_is (held_at c.items.items i) item held));
         idle = λ is. absurd (false_true is);
       }
   last_taken OutOfMemory near was few refused =
@@ -239,19 +244,20 @@ found_none i n a m b h few was takes lane =
       asked = ap (λ (l : List ℕ). get_or l i 0) lane.asked ∙ h.asked;
       runs = subst (λ (o : Option Item). Runs a (appends h.items ++ refuses o) b) (sym free)
           (subst (λ (xs : List Call). Runs a xs b) (sym (append-nil (appends h.items))) (runs_still a m b (appends h.items) h.runs lane.core lane.kept));
+      enough = inr (inr (inr takes.1));
       idle = λ is. record { found = takes.1; none_held = free };
     }
 
 pub only_none : (i n : ℕ) (a m b : Exchange) → TakenSoFar i n a m → OnlyLane i m b → OnlySide i a b
 only_none i n a m b h lane = side_then i a m b h.only (of_lane i m b lane)
 
-pub enough_taken : (i n : ℕ) (a m : Exchange) → TakenSoFar i n a m → n ≤ 64 → held_at a.items.items i ≡ None → AppendsSome i a m false
-enough_taken i n a m h few was = record {
+pub enough_taken : (i n : ℕ) (a m : Exchange) → TakenSoFar i n a m → n ≡ 64 → held_at a.items.items i ≡ None → AppendsSome i a m false
+enough_taken i n a m h whole was = record {
   appended = h.items;
   takes = record {
     taken = h.items;
     were_taken = h.passed;
-    few = omega (arith, h.count, few);
+    few = omega (arith, h.count, whole);
     held_first = λ some. absurd (not_some (held_at a.items.items i) was some);
     in_order = (λ j. option_to_list (was j) ++ h.items) ∙ sym (append-nil h.items) ∙ (λ j. h.items ++ option_to_list (sym h.free j));
     theirs = h.theirs;
@@ -259,6 +265,7 @@ enough_taken i n a m h few was = record {
   asked = h.asked;
   runs = subst (λ (o : Option Item). Runs a (appends h.items ++ refuses o) m) (sym h.free)
       (subst (λ (xs : List Call). Runs a xs m) (sym (append-nil (appends h.items))) h.runs);
+  enough = inr (inr (inl (omega (arith, ap length h.passed, length-append (items_of (passed_of a.intake i)) h.items, h.count, whole))));
   idle = λ is. absurd (false_true is);
 }
 
@@ -271,10 +278,12 @@ same_emptied i a m was now = now.only.items ∙ ap (λ (o : Option Item). slice_
 pub core_emptied : (i : ℕ) (a m : Exchange) → held_at a.items.items i ≡ None → HoldsNow i a None m → OnlyCore a m
 core_emptied i a m was now = record { intake = now.only.intake; items = same_emptied i a m was now; reports = now.only.reports; closed = now.only.closed }
 
+side_still : (i : ℕ) (a m : Exchange) → OnlyCore a m → side_of m i ≡ side_of a i
+side_still i a m same =
+    same_side a m i (ap (λ (t : Intake). passed_of t i) same.intake) (ap (λ (t : Intake). asked_at_of t i) same.intake) (ap (λ (l : List (Option Item)). held_at l i) same.items)
+
 takes_from : (i : ℕ) (a m : Exchange) (appended : List Item) (s : Side) → OnlyCore a m → Takes i (side_of m i) appended s → Takes i (side_of a i) appended s
-takes_from i a m appended s same h =
-    subst (λ (r : Side). Takes i r appended s)
-    (same_side a m i (ap (λ (t : Intake). passed_of t i) same.intake) (ap (λ (t : Intake). asked_at_of t i) same.intake) (ap (λ (l : List (Option Item)). held_at l i) same.items)) h
+takes_from i a m appended s same h = subst (λ (r : Side). Takes i r appended s) (side_still i a m same) h
 
 pub from_none : (i : ℕ) (a m b : Exchange) (r : Result Bool _) → held_at a.items.items i ≡ None → HoldsNow i a None m → AppendsFrom i m r b → AppendsFrom i a r b
 from_none i a m b (Ok found) was now h =
@@ -283,6 +292,7 @@ from_none i a m b (Ok found) was now h =
       takes = takes_from i a m h.appended (side_of b i) same h.takes;
       asked = h.asked ∙ asked_core i a m same.intake;
       runs = runs_from a m b _ now.core now.kept h.runs;
+      enough = subst (λ (s : Side). TookEnough i s (side_of b i) b.intake) (side_still i a m same) h.enough;
       idle = h.idle;
     }
 from_none i a m b (Err refused) was now h =
@@ -349,15 +359,9 @@ whole_part i a m b found h f only = record {
     made = λ j. appends h.appended ++ refuses (sym f.held j) ++ if_so (has_mark (drop (h.asked j) (sym f.passed j))) Flush;
   };
   runs = runs_then a m b (appends h.appended ++ refuses (side_of m i).held) _ h.runs f.runs;
+  enough = enough_still i (side_of a i) m b f.passed f.held only.lanes.lanes only.view h.enough;
   idle = λ is. let before = h.idle is in record {
-    found = record {
-      before = before.found.before;
-      after = before.found.after;
-      nothing = before.found.nothing;
-      lanes = before.found.lanes ∙ sym only.lanes.lanes;
-      same_view = before.found.same_view ∙ sym only.view;
-      since = f.passed ∙ before.found.since;
-    };
+    found = none_still i m b f.passed only.lanes.lanes only.view before.found;
     none_held = f.held ∙ before.none_held;
   };
 }

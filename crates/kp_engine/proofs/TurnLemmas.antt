@@ -1,5 +1,5 @@
 -- A whole turn, of its parts.
-use Rattle.std.proofs.Common.{◌≡◌, ℕ, zero, suc, Bool, true, false, List, [], ◌∷◌, ◌++◌, length, Some, None, Ok, refl, ap, subst, ◌∙◌, inl, inr, append-nil, arith}
+use Rattle.std.proofs.Common.{◌≡◌, ◌<◌, ℕ, zero, suc, Bool, true, false, List, [], ◌∷◌, ◌++◌, length, Some, None, Ok, refl, ap, subst, ◌∙◌, inl, inr, append-nil, arith}
 use Rattle.std.specs.Prelude.{Option, IsTrue, ◌||◌}
 use Rattle.kp_connection.specs.Answers.{Answer}
 use Rattle.kp_connection.specs.Wire.{Told, Wired, Stops}
@@ -9,7 +9,7 @@ use Rattle.kp_rules.specs.Calls.{Call, Tick}
 use Rattle.kp_frames.specs.declared.fault.FrameFault.{FrameFault}
 use Rattle.kp_rules.specs.declared.outgoing.Outgoing.{Outgoing}
 use Rattle.kp_rules.specs.declared.ticked.Ticked.{Ticked}
-use Rattle.kp_engine.specs.Exchange.{AreIdle, IsQuiet, OnlyCore, Runs, SameClosed, SameLanes, SameMail, mail_of, senders_of, side_of}
+use Rattle.kp_engine.specs.Exchange.{AreIdle, IsQuiet, OnlyCore, Runs, SameClosed, SameLanes, SameMail, TookEnough, mail_of, senders_of, side_of}
 use Rattle.kp_engine.specs.Polls.{Closed, CutFor, FinishesAll, FinishesUntil, IsDone, TalksAll, TalksCut, TalksOn, TalksOut, TurnUntil, Turns, TurnsCut, TurnsOn, TurnsOut, stop_of}
 use Rattle.kp_engine.specs.Steps.{OnlyMails, TakesAndCloses, TakesUntil}
 use Rattle.kp_engine.specs.Talking.{contents_of, frames_of}
@@ -21,7 +21,7 @@ use Rattle.kp_engine.proofs.AgreementLemmas.{none_some}
 use Rattle.kp_engine.proofs.AllLemmas.{parts_kept}
 use Rattle.kp_engine.proofs.RunLemmas.{runs_then}
 use Rattle.kp_engine.proofs.TalkLemmas.{only_then}
-use Rattle.kp_engine.proofs.SideLemmas.{idle_still, of_core, same_lanes}
+use Rattle.kp_engine.proofs.SideLemmas.{enough_same, idle_still, of_core, same_lanes}
 
 -- ---- pointwise the same mail before
 
@@ -103,6 +103,10 @@ module _ (now : ℕ) (x a b c d : Exchange) (idle : Bool) (ticked : Ticked) (tak
   idle_talked h = idle_then a c (λ k. core_sides b c talk_only k ∙ core_sides a b tick_only k) (lanes_then a b c (core_lanes a b tick_only) (core_lanes b c talk_only))
       (ap intake_view talk_only.intake ∙ ap intake_view tick_only.intake) h
 
+  enough_all : (k : ℕ) → k < senders_of x → TookEnough k (side_of x k) (side_of d k) d.intake
+  enough_all k near = enough_same k (side_of x k) a d (sides k)
+      (lanes_then a b d (core_lanes a b tick_only) (lanes_then b c d (core_lanes b c talk_only) mails.lanes)).lanes view_all (takes.enough k near)
+
   closed_all : d.closed ≡ (x.closed || takes.closes)
   closed_all = mails.closed ∙ talk_only.closed ∙ tick_only.closed ∙ takes.closed
 
@@ -150,6 +154,7 @@ module _ (now : ℕ) (x a b c d : Exchange) (idle : Bool) (ticked : Ticked) (tak
         made = refl;
         late = (λ so. absurd (not_both ticked.reconnect on_time so), λ some. absurd (none_some some));
         nothing_tried = λ some. absurd (none_some some);
+        took = enough_all;
         closed = closed_all;
         only = only_all;
         moved = f.moved;
@@ -210,6 +215,7 @@ module _ (now : ℕ) (x a b c d : Exchange) (idle : Bool) (ticked : Ticked) (tak
             made = refl;
             late = (l.0, l.1);
             nothing_tried = l.2;
+            took = enough_all;
             closed = closed_all;
             only = only_all;
             moved = f.moved;

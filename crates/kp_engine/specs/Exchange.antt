@@ -1,6 +1,7 @@
 -- What contracts see of the core, the lanes and what is held between them.
 use Rattle.std.specs.Prelude.{◌≡◌, ◌⊎◌, ℕ, ◌+◌, ◌<◌, true, List, [], length, Option, None, IsSome}
 use Rattle.std.specs.List.{AllByRecursion}
+use Rattle.kp_lanes.specs.Entries.{items_of}
 use Rattle.kp_lanes.specs.Intake.{lanes_of, intake_limits, intake_view, passed_of, asked_at_of, told_of, room_of, seen_of, places_of}
 use Rattle.kp_lanes.specs.Port.{HasNothing}
 use Rattle.kp_lanes.specs.declared.intake.Intake.{Intake}
@@ -81,6 +82,11 @@ pub record IsIdle (i : ℕ) (x : Exchange) : Type 0 where
 
 abbrev pub AreIdle : Exchange → Type 0
 AreIdle x = (i : ℕ) → i < senders_of x → IsIdle i x
+
+-- The sender's lane was emptied, but where one of its items is held now or was before, or 64 were taken.
+abbrev pub TookEnough : ℕ → Side → Side → Intake → Type 0
+TookEnough i old new intake = IsSome old.held ⊎ (IsSome new.held
+    ⊎ ((length (items_of new.passed) ≡ length (items_of old.passed) + 64) ⊎ TookNone i intake))
 
 -- the gate was known to be shut, with nobody inside
 abbrev pub IsQuiet : Exchange → Type 0

@@ -14,7 +14,7 @@ use Rattle.kp_rules.specs.declared.outgoing.Outgoing.{Outgoing}
 use Rattle.kp_rules.specs.declared.ticked.Ticked.{Ticked}
 use Rattle.kp_rules.specs.Partitions.{all_untold}
 use Rattle.kp_engine.specs.Agreement.{waiting_of}
-use Rattle.kp_engine.specs.Exchange.{AreIdle, HasMoved, IsQuiet, Runs, SameClosed, SameLanes, SameMail, mail_of, senders_of, side_of}
+use Rattle.kp_engine.specs.Exchange.{AreIdle, HasMoved, IsQuiet, Runs, SameClosed, SameLanes, SameMail, TookEnough, mail_of, senders_of, side_of}
 use Rattle.kp_engine.specs.Talking.{CutBy, HeardAll, Talks, TalksUntil, contents_of, frames_of}
 use Rattle.kp_engine.specs.Turn.{Heard, ItemsPart, ItemsPartUntil, RepliesPart, RepliesPartUntil, ReportsPart, ReportsPartUntil, RequestsPart, RequestsPartUntil, TickPart}
 use Rattle.kp_engine.specs.declared.exchange.Exchange.{Exchange}
@@ -138,6 +138,8 @@ pub record Turn (now : ℕ) (x : Exchange) (sent : List Outgoing) (heard : List 
   pub made : calls ≡ items ++ tick ++ (asked ++ replied) ++ reports
   pub late : IsTrue ticked.reconnect ↔ (cut ≡ Some TimedOut)
   pub nothing_tried : cut ≡ Some TimedOut → asked ++ replied ≡ []
+  -- items are left in a lane only behind one that is held, or 64
+  pub took : (k : ℕ) → k < senders_of x → TookEnough k (side_of x k) (side_of y k) y.intake
   -- it closes at most once, and only where no sender could send any more before all was taken
   pub closed : y.closed ≡ (x.closed || closes)
   pub only : IsTrue closes → (x.closed ≡ false) × IsQuiet y × AreIdle y

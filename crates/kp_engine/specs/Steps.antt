@@ -10,7 +10,7 @@ use Rattle.kp_rules.specs.declared.outcome.Report.{Report}
 use Rattle.kp_rules.specs.Appending.{may_append}
 use Rattle.kp_rules.specs.Calls.{Call, Append, Close, Fetch, Flush}
 use Rattle.kp_engine.specs.Agreement.{waiting_of}
-use Rattle.kp_engine.specs.Exchange.{AreIdle, HasMoved, IsIdle, IsQuiet, OnlyCore, Runs, SameClosed, SameLanes, SameMail, SameSides, TookNone, WasFull, kept_calls, mail_of, senders_of, side_of}
+use Rattle.kp_engine.specs.Exchange.{AreIdle, HasMoved, IsIdle, IsQuiet, OnlyCore, Runs, SameClosed, SameLanes, SameMail, SameSides, TookEnough, TookNone, WasFull, kept_calls, mail_of, senders_of, side_of}
 use Rattle.kp_engine.specs.Turn.{ItemsPart, ItemsPartUntil, MailPart, MailParts, Takes, SenderPart, SenderParts, SenderPartUntil, appends, fails, if_so, refuses}
 use Rattle.kp_engine.specs.declared.exchange.Exchange.{Exchange}
 
@@ -81,6 +81,7 @@ pub record AppendsSome (i : ℕ) (old new : Exchange) (found_empty : Bool) : Typ
   pub takes : Takes i (side_of old i) appended (side_of new i)
   pub asked : (side_of new i).asked_at ≡ (side_of old i).asked_at
   pub runs : Runs old (appends appended ++ refuses (side_of new i).held) new
+  pub enough : TookEnough i (side_of old i) (side_of new i) new.intake
   pub idle : IsTrue found_empty → IsIdle i new
 
 -- the sender's part until memory was refused
@@ -130,6 +131,7 @@ pub record WholePart (i : ℕ) (old new : Exchange) (found_empty : Bool) : Type 
   pub calls : List Call
   pub part : SenderPart i (side_of old i) calls (side_of new i)
   pub runs : Runs old calls new
+  pub enough : TookEnough i (side_of old i) (side_of new i) new.intake
   pub idle : IsTrue found_empty → IsIdle i new
 
 abbrev pub TakesFrom : ℕ → Exchange → Result Bool AllocError → Exchange → Type 0
@@ -150,6 +152,7 @@ pub record TakesAll (old new : Exchange) (idle : Bool) : Type 0 where
   pub parts : SenderParts (senders_of old) (side_of old) calls (side_of new)
   pub later : (k : ℕ) → senders_of old ≤ k → side_of new k ≡ side_of old k
   pub runs : Runs old calls new
+  pub enough : (k : ℕ) → k < senders_of old → TookEnough k (side_of old k) (side_of new k) new.intake
   pub found : IsTrue idle → AreIdle new
 
 pub record TakesUntil (old new : Exchange) : Type 0 where
@@ -186,6 +189,7 @@ pub record TakesAndCloses (old new : Exchange) (idle : Bool) : Type 0 where
   pub closes : Bool
   pub part : ItemsPart (senders_of old) (side_of old) closes calls (side_of new)
   pub runs : Runs old calls new
+  pub enough : (k : ℕ) → k < senders_of old → TookEnough k (side_of old k) (side_of new k) new.intake
   pub closed : new.closed ≡ (old.closed || closes)
   -- it closes at most once, and only where no sender could send any more before all was taken
   pub only : IsTrue closes → (old.closed ≡ false) × IsQuiet new × AreIdle new

@@ -1,4 +1,4 @@
-use Rattle.std.proofs.Common.{◌<◌, ◌≤◌, ◌+◌, length, sym, ap, subst, arith}
+use Rattle.std.proofs.Common.{◌≡◌, ◌<◌, ◌≤◌, ◌+◌, length, sym, ap, subst, arith}
 use Rattle.kp_engine.specs.Exchange.{senders_of}
 use Rattle.kp_engine.specs.Steps.{AppendsFrom}
 use Rattle.kp_engine.proofs.TakingLemmas.{enough_taken, found_none, last_taken, none_taken, one_taken, only_last, only_none}
@@ -44,8 +44,8 @@ loop-preserved c =
 
 pub returns-clause-appends : goal.returns-clause-appends
 returns-clause-appends c =
-    let few : c.loop.counter ≤ 64 = omega arith in
-    enough_taken c.args.sender c.loop.counter c.args.self.now c.loop.self c.loop.invariant few c.requires.free
+    let whole : c.loop.counter ≡ 64 = omega arith in
+    enough_taken c.args.sender c.loop.counter c.args.self.now c.loop.self c.loop.invariant whole c.requires.free
 
 pub returns-clause-only : goal.returns-clause-only
 returns-clause-only c = c.loop.invariant.only
