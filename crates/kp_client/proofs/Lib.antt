@@ -1,5 +1,7 @@
 mod AccountLemmas
+mod DoneLemmas
 mod FittingLemmas
 mod OpeningLemmas
 mod ProducerLemmas
 mod ServiceLemmas
+mod StopLemmas

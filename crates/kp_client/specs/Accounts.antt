@@ -1,5 +1,5 @@
 -- What an engine's parts account for, with nothing left to choose: each record that was taken has one report, or is held.
-use Rattle.std.specs.Prelude.{◌≡◌, ℕ, ◌-◌, ◌<◌, List, ◌++◌, length, take}
+use Rattle.std.specs.Prelude.{◌≡◌, ℕ, ◌-◌, ◌<◌, List, [], ◌++◌, length, take}
 use Rattle.kp_accum.specs.declared.item.Item.{Item}
 use Rattle.kp_engine.specs.Agreement.{waiting_of}
 use Rattle.kp_engine.specs.Parts.{to_sender, HaveReports}
@@ -20,3 +20,9 @@ pub record SenderAccounted (i : ℕ) (parts : Parts) : Type 0 where
 
 pub record AllAccounted (parts : Parts) : Type 0 where
   pub each : (i : ℕ) → i < length (lanes_of parts.intake) → SenderAccounted i parts
+
+-- Nothing is held, and no report waits in the core: each was handed to its sender's ring.
+pub record HoldsNothing (parts : Parts) : Type 0 where
+  pub no_item : parts.held.items.items ≡ []
+  pub no_report : parts.held.reports.items ≡ []
+  pub none_waits : (i : ℕ) → i < length (lanes_of parts.intake) → waiting_of parts.core i ≡ []

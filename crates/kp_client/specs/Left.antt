@@ -10,10 +10,14 @@ use Rattle.kp_lanes.specs.Settling.{left_items, left_reports}
 use Rattle.kp_lanes.specs.declared.sender.Finished.{Finished}
 use Rattle.kp_rules.specs.declared.outcome.Report.{Report}
 use Rattle.kp_client.specs.declared.left.Ended.{Ended}
+use Rattle.kp_client.specs.declared.left.Ending.{Ending}
 use Rattle.kp_client.specs.declared.left.Left.{Left}
 
 abbrev pub parts_in : Ended → Parts
 parts_in ended = ended.parts
+
+abbrev pub ending_of : Ended → Ending
+ending_of ended = ended.ending
 
 -- the sender's records that come back: the one that was held, and those that were not taken
 abbrev pub items_left : Left → ℕ → List Item

@@ -1,20 +1,46 @@
 -- What contracts see of a producer that was opened.
-use Rattle.std.specs.Prelude.{◌≡◌, ℕ, All, length, map}
+use Rattle.std.specs.Prelude.{◌≡◌, ◌*◌, All, IfSome, length, map}
+use Rattle.std.specs.Duration.{as_nanos}
+use Rattle.std.specs.declared.net.socket_addr.SocketAddr.{SocketAddr}
+use Rattle.kp_connection.specs.declared.hello.Hello.{Hello}
 use Rattle.kp_lanes.specs.Closer.{closer_gate}
 use Rattle.kp_lanes.specs.Intake.{intake_gate, lanes_of, numbers_below}
 use Rattle.kp_lanes.specs.Sender.{sender_number, IsFresh, IsSenderOf}
+use Rattle.kp_rules.specs.Auditing.{opened}
+use Rattle.kp_rules.specs.Opening.{new_core}
+use Rattle.kp_rules.specs.Records.{Core}
 use Rattle.kp_client.specs.Closing.{lanes_closer}
+use Rattle.kp_client.specs.Policy.{none_made}
 use Rattle.kp_client.specs.Producer.{lane_of}
-use Rattle.kp_client.specs.Service.{intake_of}
-use Rattle.kp_client.specs.Settings.{record_limit}
+use Rattle.kp_client.specs.Service.{again_of, core_of, hello_of, intake_of, partitions_of, way_of}
+use Rattle.kp_client.specs.Settings.{limits_of}
+use Rattle.kp_client.specs.declared.connecting.Way.{Way}
 use Rattle.kp_client.specs.declared.opening.Opened.{Opened}
+use Rattle.kp_client.specs.declared.service.Service.{Service}
 use Rattle.kp_client.specs.declared.settings.Settings.{Settings}
 
+-- the core of a producer before its first call, as its settings and the broker's hello have it
+abbrev pub first_core : Settings → Hello → Core
+first_core s hello =
+    opened s.audits (new_core s.config s.names hello.partitions s.senders hello.producer_id hello.next_correlation)
+
+-- It goes to this address, and is as patient as the settings say.
+pub record IsWay (address : SocketAddr) (s : Settings) (way : Way) : Type 0 where
+  pub there : way.address ≡ address
+  pub patience : as_nanos way.patience ≡ s.config.request_timeout_ms * 1_000_000
+
+-- It begins as the settings have it. The topic has the number of partitions that was asked for, where one was.
+pub record Begins (address : SocketAddr) (s : Settings) (service : Service) : Type 0 where
+  pub asked : IfSome s.partitions (λ n. partitions_of service ≡ n)
+  pub core : core_of service ≡ first_core s (hello_of service)
+  pub way : IsWay address s (way_of service)
+  pub again : again_of service ≡ none_made s.policy s.config.retry_backoff_ms
+
 -- The handles are those of new senders, numbered from 0, at the service's lanes, and the closer shuts these lanes' gate.
-pub record IsOpen (s : Settings) (opened : Opened) : Type 0 where
-  pub partitions : ℕ
+pub record IsOpen (address : SocketAddr) (s : Settings) (opened : Opened) : Type 0 where
+  pub service : Begins address s opened.service
   pub numbers : map (λ p. sender_number (lane_of p)) opened.producers.items ≡ numbers_below s.senders
-  pub fresh : All (λ p. IsFresh s.capacity (record { partitions = partitions; max_record = record_limit s }) (lane_of p)) opened.producers.items
+  pub fresh : All (λ p. IsFresh s.capacity (limits_of (hello_of opened.service) s) (lane_of p)) opened.producers.items
   pub lanes : All (λ p. IsSenderOf (lanes_of (intake_of opened.service)) (lane_of p)) opened.producers.items
   pub senders : length (lanes_of (intake_of opened.service)) ≡ s.senders
   pub gate : closer_gate (lanes_closer opened.closer) ≡ intake_gate (intake_of opened.service)

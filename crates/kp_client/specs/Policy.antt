@@ -1,11 +1,20 @@
 -- How many new connections there may be, and the waits between them.
-use Rattle.std.specs.Prelude.{ℕ, ◌*◌, ◌==◌, min, if◌then◌else◌}
+use Rattle.std.specs.Prelude.{ℕ, ◌*◌, ◌==◌, max, min, if◌then◌else◌}
+use Rattle.kp_client.specs.declared.again.Again.{Again}
 use Rattle.kp_client.specs.declared.policy.Policy.{Policy}
 use Rattle.kp_client.specs.declared.policy.Policy.TheVariants.{InAll, InARow}
 
 abbrev pub limit_of : Policy → ℕ
 limit_of (InAll n) = n
 limit_of (InARow n) = n
+
+-- the longest wait, in milliseconds: a second, unless retry.backoff.ms is longer
+abbrev pub longest_wait : ℕ → ℕ
+longest_wait retry_backoff = max retry_backoff 1000
+
+-- none was made yet
+abbrev pub none_made : (policy : Policy) (retry_backoff : ℕ) → Again
+none_made policy retry_backoff = record { policy = policy; made = 0; wait = 0; longest = longest_wait retry_backoff }
 
 -- how many count as made once a reply came
 abbrev pub made_after_reply : Policy → ℕ → ℕ

@@ -1,8 +1,11 @@
 -- What contracts see of a service.
-use Rattle.std.specs.Prelude.{◌<◌, length}
+use Rattle.std.specs.Prelude.{ℕ, ◌<◌, length}
+use Rattle.kp_connection.specs.declared.hello.Hello.{Hello}
 use Rattle.kp_lanes.specs.Sender.{sender_number}
 use Rattle.kp_lanes.specs.declared.sender.Sender.{Sender}
 use Rattle.kp_running.specs.Bells.{sender_bells}
+use Rattle.kp_client.specs.declared.again.Again.{Again}
+use Rattle.kp_client.specs.declared.connecting.Way.{Way}
 use Rattle.kp_client.specs.declared.shared.Shared.{Shared}
 use Rattle.kp_lanes.specs.declared.intake.Intake.{Intake}
 use Rattle.kp_rules.specs.Records.{Core}
@@ -13,6 +16,20 @@ intake_of service = service.intake
 
 abbrev pub core_of : Service → Core
 core_of service = service.core
+
+abbrev pub hello_of : Service → Hello
+hello_of service = service.hello
+
+-- how many partitions the topic has
+abbrev pub partitions_of : Service → ℕ
+partitions_of service = (hello_of service).partitions
+
+abbrev pub way_of : Service → Way
+way_of service = service.way
+
+-- the new connections that it made
+abbrev pub again_of : Service → Again
+again_of service = service.again
 
 -- one of the bells is the sender's
 abbrev pub HasBell : Shared → Sender → Type 0

@@ -1,5 +1,6 @@
 -- What an engine that a service runs has served since it was made.
 use Rattle.std.specs.Prelude.{◌≡◌, List, Option, Some, None}
+use Rattle.kp_engine.specs.Engine.{stop_in}
 use Rattle.kp_engine.specs.Serving.{HasServed}
 use Rattle.kp_engine.specs.declared.engine.Engine.{Engine}
 use Rattle.kp_engine.specs.declared.engine.Line.TheVariants.{Stopped}
@@ -21,6 +22,10 @@ pub record Serves {S C : Type 0} (lanes : List LaneId) (engine : Engine S C) : T
 -- what the one has served, the other has, and more
 abbrev pub GoesOn : {S C : Type 0} → Engine S C → Engine S C → Type 0
 GoesOn old new = (lanes : List LaneId) → Serves lanes old → Serves lanes new
+
+-- its connection was not given up
+abbrev pub HasStream : {S C : Type 0} → Engine S C → Type 0
+HasStream engine = stop_in engine.line ≡ None
 
 -- it was given up for this, where something is told
 abbrev pub StoppedFor : {S C : Type 0} → Option Stop → Engine S C → Type 0

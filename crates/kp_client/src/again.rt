@@ -1,7 +1,7 @@
 //! When the next connection is made.
 
-ghost use Rattle.std.specs.Prelude.{◌≡◌, ◌≤◌, ◌<◌, ◌+◌, ◌*◌, min, None, Some, IfSome, IfNone};
-ghost use Rattle.kp_client.specs.Policy.{limit_of, made_after_reply, wait_after};
+ghost use Rattle.std.specs.Prelude.{◌≡◌, ◌≤◌, ◌<◌, ◌+◌, ◌*◌, max, min, None, Some, IfSome, IfNone};
+ghost use Rattle.kp_client.specs.Policy.{limit_of, made_after_reply, none_made, wait_after};
 
 use crate::policy::Policy;
 
@@ -25,8 +25,7 @@ pub(crate) struct Again {
 
 impl Again {
     pub(crate) fn new(policy: Policy, retry_backoff_ms: u64) -> Again
-        ensures none { (result.policy ≡ policy) × (result.made ≡ 0) × (result.wait ≡ 0) }
-        ensures longest { 1000 ≤ result.longest }
+        ensures { result ≡ none_made policy retry_backoff_ms }
     {
         Again {
             policy,

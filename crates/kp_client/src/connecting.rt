@@ -1,5 +1,9 @@
 //! Connections to a broker.
 
+ghost use Rattle.std.specs.Prelude.{◌≡◌, ◌≢◌, ◌≤◌, IfErr, IfNone, IfOk, IfSome};
+ghost use Rattle.kp_client.specs.Faults.{IsLater};
+ghost use Rattle.kp_client.specs.Policy.{limit_of};
+
 use crate::again::Again;
 use crate::fault::OpenFault;
 use kp_connection::{Handshake, HandshakeFault, Hello, Plain};
@@ -51,6 +55,8 @@ pub(crate) fn connect_first<R>(
 ) -> Option<Plain<TcpStream>>
 where
     R: Wait + Clock + RandomSource + AllocGlobal + Net,
+    ensures spent { IfNone result (limit_of again.old.policy ≤ again.new.made) }
+    ensures same { again.new.policy ≡ again.old.policy }
 {
     match connect(rt, runtime, way) {
         Ok(inner) => Some(Plain { inner }),
@@ -67,6 +73,8 @@ pub(crate) fn connect_again<R>(
 ) -> Option<Plain<TcpStream>>
 where
     R: Wait + Clock + RandomSource + AllocGlobal + Net,
+    ensures spent { IfNone result (limit_of again.old.policy ≤ again.new.made) }
+    ensures same { again.new.policy ≡ again.old.policy }
 {
     for _ in rt.forever() {
         let wait = again.next()?;
@@ -84,6 +92,7 @@ where
 pub(crate) fn greet<R>(rt: &R, way: Way, names: Names) -> Result<Hello, OpenFault>
 where
     R: Wait + Clock + RandomSource + AllocGlobal + Net,
+    ensures later { IfErr result IsLater }
 {
     let mut runtime = LocalRuntime::new(rt)?;
     let inner = connect(rt, &mut runtime, way)?;
@@ -97,7 +106,11 @@ where
 }
 
 /// A hello that names another number of partitions than was asked for is none.
-pub(crate) fn expect_partitions(hello: Hello, partitions: Option<u32>) -> Result<(), OpenFault> {
+pub(crate) fn expect_partitions(hello: Hello, partitions: Option<u32>) -> Result<(), OpenFault>
+    ensures asked { IfOk result (λ _. IfSome partitions (λ n. hello.partitions ≡ n)) }
+    ensures other { IfErr result (λ _. IfSome partitions (λ n. hello.partitions ≢ n)) }
+    ensures later { IfErr result IsLater }
+{
     match partitions {
         Some(expected) if expected != hello.partitions => {
             Err(OpenFault::Handshake(HandshakeFault::BadAnswer))

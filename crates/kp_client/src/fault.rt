@@ -1,5 +1,9 @@
 //! Why a producer is not opened, and why its service ends without what it held.
 
+ghost use Rattle.std.specs.Prelude.{◌≡◌};
+ghost use Rattle.kp_client.specs.Faults.{of_error, of_handshake, of_lanes, of_loop};
+ghost use Rattle.kp_client.specs.declared.fault.OpenFault.TheVariants as opening;
+
 use kp_accum::ConfigFault;
 use kp_connection::HandshakeFault;
 use std::alloc::{AllocError, AllocFailed};
@@ -38,18 +42,24 @@ pub enum ServiceFault {
 }
 
 impl From<AllocError> for OpenFault {
+    ghost from_gives = { λ _ e. e ≡ opening.OutOfMemory };
+
     fn from(_refused: AllocError) -> OpenFault {
         OpenFault::OutOfMemory
     }
 }
 
 impl<T: Drop> From<AllocFailed<T>> for OpenFault {
+    ghost from_gives = { λ _ e. e ≡ opening.OutOfMemory };
+
     fn from(_refused: AllocFailed<T>) -> OpenFault {
         OpenFault::OutOfMemory
     }
 }
 
 impl From<io::Error> for OpenFault {
+    ghost from_gives = { λ error e. e ≡ of_error error };
+
     fn from(error: io::Error) -> OpenFault {
         match error.kind() {
             io::ErrorKind::OutOfMemory => OpenFault::OutOfMemory,
@@ -59,6 +69,8 @@ impl From<io::Error> for OpenFault {
 }
 
 impl From<HandshakeFault> for OpenFault {
+    ghost from_gives = { λ fault e. e ≡ of_handshake fault };
+
     fn from(fault: HandshakeFault) -> OpenFault {
         match fault {
             HandshakeFault::OutOfMemory => OpenFault::OutOfMemory,
@@ -68,6 +80,8 @@ impl From<HandshakeFault> for OpenFault {
 }
 
 impl From<kp_lanes::OpenFault> for OpenFault {
+    ghost from_gives = { λ fault e. e ≡ of_lanes fault };
+
     fn from(fault: kp_lanes::OpenFault) -> OpenFault {
         match fault {
             kp_lanes::OpenFault::OutOfMemory => OpenFault::OutOfMemory,
@@ -77,6 +91,8 @@ impl From<kp_lanes::OpenFault> for OpenFault {
 }
 
 impl From<io::Error> for ServiceFault {
+    ghost from_gives = { λ error e. e ≡ of_loop error };
+
     fn from(error: io::Error) -> ServiceFault {
         match error.kind() {
             io::ErrorKind::OutOfMemory => ServiceFault::OutOfMemory,

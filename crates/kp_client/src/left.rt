@@ -1,6 +1,8 @@
 //! What is left when a service has ended.
 
-ghost use Rattle.kp_client.specs.Accounts.{AllAccounted};
+ghost use Rattle.std.specs.Prelude.{◌≡◌};
+ghost use Rattle.kp_client.specs.Accounts.{AllAccounted, HoldsNothing};
+ghost use Rattle.kp_client.specs.declared.left.Ending.TheVariants.{Done};
 
 use kp_accum::Item;
 use kp_core::{Core, Report};
@@ -25,27 +27,31 @@ pub struct Ended {
     parts: Parts,
     ending: Ending,
     ghost accounted: { AllAccounted parts },
+    ghost done: { ending ≡ Done → HoldsNothing parts },
 }
 
 impl Ended {
-    ghost use Rattle.std.specs.Prelude.{◌≡◌, ◌≢◌, All, IfOk, IfErr, IsOk, length};
+    ghost use Rattle.std.specs.Prelude.{◌≢◌, All, IfOk, IfErr, IsOk, length};
     ghost use Rattle.kp_engine.specs.Opening.{MayTurn};
     ghost use Rattle.kp_lanes.specs.Intake.{lanes_of};
     ghost use Rattle.kp_lanes.specs.Settling.{EachOnce, IsOf, SameFinished};
     ghost use Rattle.kp_lanes.specs.declared.fault.SettleFault.TheVariants.{Missing};
-    ghost use Rattle.kp_client.specs.Left.{parts_in, AccountsFor};
+    ghost use Rattle.kp_client.specs.Left.{ending_of, parts_in, AccountsFor};
 
     pub(crate) fn new(parts: Parts, ending: Ending) -> Ended
-        requires { AllAccounted parts }
-        ensures { parts_in result ≡ parts }
+        requires accounted { AllAccounted parts }
+        requires done { ending ≡ Done → HoldsNothing parts }
+        ensures { (parts_in result ≡ parts) × (ending_of result ≡ ending) }
     {
         Ended { parts, ending }
     }
 
     /// One that took and told nothing.
     pub(crate) fn unserved(alloc: Global, core: Core, intake: Intake, ending: Ending) -> Ended
-        requires { MayTurn core intake }
-        ensures { ((parts_in result).core ≡ core) × ((parts_in result).intake ≡ intake) }
+        requires fresh { MayTurn core intake }
+        requires not_done { ending ≢ Done }
+        ensures parts { ((parts_in result).core ≡ core) × ((parts_in result).intake ≡ intake) }
+        ensures ending { ending_of result ≡ ending }
     {
         let held = Held {
             items: Vec::new(alloc),
@@ -55,7 +61,10 @@ impl Ended {
     }
 
     /// Why it has ended.
-    pub fn ending(&self) -> Ending {
+    pub fn ending(&self) -> Ending
+        ensures ending { result ≡ ending_of self.now }
+        ensures done { result ≡ Done → HoldsNothing (parts_in self.now) }
+    {
         self.ending
     }
 
@@ -77,12 +86,13 @@ impl Ended {
         // Each accepted record has one report, or comes back.
         ensures settled { IfOk result (λ left. All (AccountsFor left) finished.items) }
         ensures all { IsOk result → EachOnce (length (lanes_of (parts_in self).intake)) finished.items }
-        ensures core { IfOk result (λ left. left.core ≡ (parts_in self).core) }
+        ensures core { IfOk result (λ left. (left.core ≡ (parts_in self).core) × (left.held ≡ (parts_in self).held)) }
 
         // At a fault nothing has changed.
         ensures missing { IfErr result (λ e. e.0 ≡ Missing → ¬ EachOnce (length (lanes_of (parts_in self).intake)) finished.items) }
         ensures not_missing { IfErr result (λ e. e.0 ≢ Missing → EachOnce (length (lanes_of (parts_in self).intake)) finished.items) }
-        ensures core_stays { IfErr result (λ e. (parts_in e.1).core ≡ (parts_in self).core) }
+        ensures core_stays { IfErr result (λ e. ((parts_in e.1).core ≡ (parts_in self).core) × ((parts_in e.1).held ≡ (parts_in self).held)) }
+        ensures ending_stays { IfErr result (λ e. ending_of e.1 ≡ ending_of self) }
         ensures finished { IfErr result (λ e. SameFinished finished.items e.2.items) }
         ensures again { IfErr result (λ e. All (IsOf (lanes_of (parts_in e.1).intake)) e.2.items) }
     {

@@ -1,12 +1,13 @@
 //! Opening a producer.
 
-ghost use Rattle.std.specs.Prelude.{◌≡◌, ◌++◌, ◌∷◌, [], Ok, OnOk, IfOk, All, map};
+ghost use Rattle.std.specs.Prelude.{◌≡◌, ◌++◌, ◌∷◌, [], Ok, Err, OnOk, IfOk, IfErr, IfSome, All, map};
 ghost use Rattle.std.specs.Arc.{arc_value};
+ghost use Rattle.kp_client.specs.Faults.{IsLater, OfSettings};
 ghost use Rattle.kp_client.specs.Producer.{lane_of};
 ghost use Rattle.kp_client.specs.Service.{HasBell};
 ghost use Rattle.kp_client.specs.Settings.{checked_settings};
 ghost use Rattle.kp_engine.specs.Opening.{MayTurn};
-ghost use Rattle.kp_client.specs.Opening.{IsOpen};
+ghost use Rattle.kp_client.specs.Opening.{IsOpen, IsWay};
 
 use crate::closer::Closer;
 use crate::connecting::{Way, expect_partitions, greet};
@@ -37,7 +38,11 @@ pub struct Opened {
 pub fn open<R>(rt: &R, address: SocketAddr, settings: Settings) -> Result<Opened, OpenFault>
 where
     R: Wait + Clock + RandomSource + AllocGlobal + Net,
-    ensures { IfOk result (IsOpen settings) }
+    ensures opened { IfOk result (IsOpen address settings) }
+
+    // A fault of the settings is looked for first, and told just where there is one.
+    ensures first { IfErr (checked_settings settings) (λ fault. result ≡ Err fault) }
+    ensures only { IfErr result (λ fault. OfSettings fault → checked_settings settings ≡ Err fault) }
 {
     settings.check()?;
     let alloc = rt.alloc();
@@ -60,8 +65,11 @@ fn open_known(
     hello: Hello,
     start: Instant,
 ) -> Result<Opened, OpenFault>
-    requires { checked_settings settings ≡ Ok tt }
-    ensures { IfOk result (IsOpen settings) }
+    requires settings { checked_settings settings ≡ Ok tt }
+    requires way { IsWay way.address settings way }
+    requires asked { IfSome settings.partitions (λ n. hello.partitions ≡ n) }
+    ensures opened { IfOk result (IsOpen way.address settings) }
+    ensures later { IfErr result IsLater }
 {
     let (senders, intake, lanes) = open_lanes(
         alloc,
@@ -71,6 +79,7 @@ fn open_known(
         settings.max_record(),
     )?;
     let shared = Shared::new(alloc, settings.senders as usize, start)?;
+    shared.counts.connections.add(1);
     let producers = handles(alloc, senders, &shared)?;
     let closer = Closer::new(lanes, Arc::try_clone(&shared)?);
     let service = Service::new(alloc, way, settings, hello, intake, shared)?;

@@ -1,11 +1,12 @@
 //! The service: what sends for all senders of a producer, on a thread of its own.
 
-ghost use Rattle.std.specs.Prelude.{◌≡◌, IfOk};
+ghost use Rattle.std.specs.Prelude.{◌≡◌, IfErr, IfOk, IfSome};
 ghost use Rattle.kp_engine.specs.Opening.{MayTurn};
 ghost use Rattle.kp_lanes.specs.Intake.{lanes_of};
 ghost use Rattle.kp_client.specs.Fitting.{Fits};
+ghost use Rattle.kp_engine.specs.Polls.{IsDone};
 ghost use Rattle.kp_client.specs.Left.{parts_in};
-ghost use Rattle.kp_client.specs.Serving.{lanes_in, GoesOn, Serves, StoppedFor};
+ghost use Rattle.kp_client.specs.Serving.{lanes_in, GoesOn, HasStream, Serves, StoppedFor};
 
 use crate::again::Again;
 use crate::connecting::{Way, connect_again, connect_first};
@@ -44,7 +45,10 @@ pub struct Service {
 impl Service {
     ghost use Rattle.std.specs.Prelude.{◌≤◌, [], Ok, All, length};
     ghost use Rattle.kp_lanes.specs.Intake.{intake_limits, passed_lists, told_lists};
-    ghost use Rattle.kp_client.specs.Service.{intake_of};
+    ghost use Rattle.kp_client.specs.Faults.{IsLater};
+    ghost use Rattle.kp_client.specs.Opening.{first_core};
+    ghost use Rattle.kp_client.specs.Policy.{none_made};
+    ghost use Rattle.kp_client.specs.Service.{again_of, core_of, hello_of, intake_of, partitions_of, way_of};
     ghost use Rattle.kp_client.specs.Settings.{checked_settings, limits_of};
 
     pub(crate) fn new(
@@ -60,7 +64,11 @@ impl Service {
         requires lanes { length (lanes_of intake) ≡ settings.senders }
         requires limits { intake_limits intake ≡ limits_of hello settings }
         requires fresh { All (λ l. l ≡ []) (passed_lists intake) × All (λ l. l ≡ []) (told_lists intake) }
-        ensures { IfOk result (λ service. intake_of service ≡ intake) }
+        ensures core { IfOk result (λ service. core_of service ≡ first_core settings hello) }
+        ensures intake { IfOk result (λ service. intake_of service ≡ intake) }
+        ensures made { IfOk result (λ service. (hello_of service ≡ hello) × (way_of service ≡ way)) }
+        ensures again { IfOk result (λ service. again_of service ≡ none_made settings.policy settings.config.retry_backoff_ms) }
+        ensures later { IfErr result IsLater }
     {
         let Settings {
             names,
@@ -94,7 +102,9 @@ impl Service {
     }
 
     /// How many partitions the topic has.
-    pub fn partitions(&self) -> u32 {
+    pub fn partitions(&self) -> u32
+        ensures { result ≡ partitions_of self.now }
+    {
         self.hello.partitions
     }
 
@@ -169,7 +179,8 @@ fn serve_on<'a, R>(
 ) -> Result<Ended, ServiceFault>
 where
     R: Wait + Clock + RandomSource + AllocGlobal + Net,
-    requires { Serves (lanes_in tended.engine) tended.engine }
+    requires serves { Serves (lanes_in tended.engine) tended.engine }
+    requires stream { HasStream tended.engine }
     ensures { IfOk result (λ ended. lanes_of (parts_in ended).intake ≡ lanes_in tended.entry.engine) }
 {
     let mut tended = tended;
@@ -202,8 +213,10 @@ fn run_once<'a, R>(
 ) -> Result<(Served<'a, R>, Option<Stop>), ServiceFault>
 where
     R: Wait + Clock + RandomSource + AllocGlobal + Net,
+    requires { HasStream tended.engine }
     ensures served { IfOk result (λ out. GoesOn tended.entry.engine out.0.engine) }
     ensures stopped { IfOk result (λ out. StoppedFor out.1 out.0.engine) }
+    ensures done { IfOk result (λ out. IfSome out.1 (λ stop. stop ≡ Stop.Done → IsDone out.0.engine.exchange)) }
 {
     match Running::new(rt, runtime.handle(), &shared.bells, tended) {
         Ok(running) => {
@@ -216,7 +229,8 @@ where
 
 /// Gives up what has no report, and takes the engine apart.
 fn ended<S: Stream, C: Moments>(tended: Tended<'_, S, C>, ending: Ending) -> Ended
-    requires { Serves (lanes_in tended.engine) tended.engine }
+    requires serves { Serves (lanes_in tended.engine) tended.engine }
+    requires done { ending ≡ Ending.Done → IsDone tended.engine.exchange }
     ensures { lanes_of (parts_in result).intake ≡ lanes_in tended.entry.engine }
 {
     tended.count_batches();

@@ -1,6 +1,7 @@
 //! What a producer is opened with.
 
-ghost use Rattle.std.specs.Prelude.{◌≡◌, IfOk};
+ghost use Rattle.std.specs.Prelude.{◌≡◌, ◌*◌, IfOk};
+ghost use Rattle.std.specs.Duration.{as_nanos};
 ghost use Rattle.kp_client.specs.Settings.{checked_settings, record_limit};
 
 use crate::fault::OpenFault;
@@ -78,7 +79,9 @@ impl Settings {
     }
 
     /// How long a connection may take to be made, and how long until it is known to a broker.
-    pub(crate) fn patience(&self) -> Duration {
+    pub(crate) fn patience(&self) -> Duration
+        ensures { as_nanos result ≡ self.now.config.request_timeout_ms * 1_000_000 }
+    {
         Duration::from_millis(self.config.request_timeout_ms)
     }
 

@@ -1,4 +1,5 @@
-use Rattle.std.proofs.Common.{◌∙◌}
+use Rattle.std.proofs.Common.{◌∙◌, ap}
+use Rattle.kp_engine.specs.Engine.{stop_in}
 use Rattle.kp_client.proofs.ServiceLemmas.{still_serves}
 use Rattle.kp_client.proofs.service.serve_on.Goals as goal
 
@@ -7,6 +8,7 @@ loop-preserved g c = record {
   next = tt;
   finite = tt;
   serves = still_serves _ _ _ c.give_stream.ensures.same.0 (c.in_ok-served.ensures.served _ c.loop.invariant.serves);
+  stream = ap stop_in c.give_stream.ensures.line;
 }
 
 pub returns-in-None-connect_again : goal.returns-in-None-connect_again

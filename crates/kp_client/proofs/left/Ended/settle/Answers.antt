@@ -10,4 +10,4 @@ pub returns-in-Ok-clause-settled : goal.returns-in-Ok-clause-settled
 returns-in-Ok-clause-settled c = all_accounts_for c.args.self.parts c.in-Ok.field-0 _ c.args.finished.items c.args.self.accounted refl refl refl refl c.requires c.in-Ok.ensures.settled
 
 pub returns-in-Err-clause-again : goal.returns-in-Err-clause-again
-returns-in-Err-clause-again c = subst (λ (p : Parts). All (IsOf (lanes_of p.intake)) c.in-Err.finished.items) (sym c.new.ensures) c.in-Err.ensures.again
+returns-in-Err-clause-again c = subst (λ (p : Parts). All (IsOf (lanes_of p.intake)) c.in-Err.finished.items) (sym c.new.ensures.0) c.in-Err.ensures.again
