@@ -12,3 +12,4 @@ pub mod SomeMoves
 pub mod LawLemmas
 pub mod ReportLemmas
 pub mod LifeLemmas
+pub mod OfferingLemmas

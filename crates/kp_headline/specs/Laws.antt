@@ -33,12 +33,16 @@ calls_in [] = []
 calls_in (Calling c t ∷ ms) = c ∷ calls_in ms
 calls_in (m ∷ ms) = calls_in ms
 
--- They are a life of the core, in which this was told and these packets went out.
-pub record IsLife (a : State) (ms : List Move) : Type 0 where
-  pub life : Life
-  pub lives : Lives a.core (calls_in ms) life (led a ms).core
+-- The moves lead to this core, and this was told and these packets went out in them.
+pub record LeadTo (a : State) (ms : List Move) (life : Life) (t : Core) : Type 0 where
+  pub core : (led a ms).core ≡ t
   pub told : (led a ms).outside.told ≡ a.outside.told ++ life.told
   pub packets : (led a ms).outside.packets ≡ a.outside.packets ++ life.packets
+
+-- The calls among them are a life of the core.
+abbrev pub IsLife : State → List Move → Type 0
+IsLife a ms =
+    (life : Life) × (t : Core) × Lives a.core (calls_in ms) life t × LeadTo a ms life t
 
 -- ---- reports
 

@@ -4,3 +4,4 @@ pub mod Assumptions
 pub mod Matching
 pub mod Exhibits
 pub mod Laws
+pub mod Offering
