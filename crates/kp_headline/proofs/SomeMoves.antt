@@ -1,5 +1,5 @@
 -- Moves with a lost connection, a retry, and the first packet late and twice; and moves with a reply that was made up.
-use Rattle.std.proofs.Common.{◌≡◌, ℕ, zero, suc, true, List, [], ◌∷◌, ℤ, pos, negsuc, refl, inl, inr, arith}
+use Rattle.std.proofs.Common.{◌≡◌, ℕ, zero, suc, true, List, [], ◌∷◌, ◌++◌, length, ℤ, pos, negsuc, refl, ap, ◌∙◌, inl, inr, arith}
 use Rattle.std.specs.Prelude.{nat_lt}
 use Rattle.std.specs.List.{list_all}
 use Rattle.std.proofs.lemmas.Bool.{and_parts, ltb-true}
@@ -17,16 +17,18 @@ use Rattle.kp_frames.specs.Produce.{produce_response, topic_response, partition_
 use Rattle.kp_frames.specs.Response.{response_at, answer, body as body_codec, Spells}
 use Rattle.kp_frames.proofs.ResponseLemmas.{response_found}
 use Rattle.kp_log.specs.BrokerStep.{BrokerStep}
+use Rattle.kp_log.specs.History.{own}
 use Rattle.kp_log.proofs.PlaceLemmas.{In-nil}
 use Rattle.kp_rules.specs.declared.outcome.Outcome.TheVariants.{Delivered}
 use Rattle.kp_rules.specs.Requesting.{Packet}
 use Rattle.kp_rules.specs.Records.{Produce, Told}
 use Rattle.kp_world.specs.Message.{sent_of}
-use Rattle.kp_world.specs.LogLaws.{ToldOffsetsStand}
+use Rattle.kp_world.specs.Accounts.{AreAccountedFor}
+use Rattle.kp_world.specs.LogLaws.{IsPrefix, ToldOffsetsStand, own_records, as_stored}
 use Rattle.kp_world.specs.World.{names}
 use Rattle.kp_world.proofs.Evaluation.{evaluated}
 use Rattle.kp_headline.specs.Assumptions.{IsHonest, IsNotMadeUp, IsInTurn, Assumed}
-use Rattle.kp_headline.specs.Exhibits.{append, request, disconnect, reply, fetch, begun, first, sent_first, at_zero, log_of_first, reply_bytes, accepted_state, appended_state, sent_state, lost_state, again_state, meets, stored_state, late_state, twice_state, heard_state, lost_and_repeated, made_up, Shows, Misleads}
+use Rattle.kp_headline.specs.Exhibits.{append, request, disconnect, reply, fetch, begun, first, sent_first, at_zero, log_of_first, reply_bytes, accepted_state, appended_state, sent_state, lost_state, again_state, meets, stored_state, late_state, twice_state, heard_state, lost_and_repeated, made_up, Shows, Misleads, Part, Honest, NotMadeUp, InTurn, IdsOnce, asked_by, IsNeeded, lying, lied_state, stored_by_word, unasked_state, unasked, under_its_id}
 use Rattle.kp_headline.specs.Moves.{Accepting, IsMove, AreMoves, Throughout, led}
 use Rattle.kp_headline.specs.Outside.{known}
 
@@ -170,3 +172,102 @@ misled = record {
   told_in_all = refl;
   is_wrong = nothing_stands;
 }
+
+-- ---- each part of what is assumed is needed
+
+lie_comes : IsMove sent_state lying
+unfolding evaluated
+lie_comes = record { packet = packet_of 2; went_out = refl; parts = sent_first ∷ []; demand = refl; part = (0, omega arith, refl); there = omega arith }
+
+lie_heard : IsMove lied_state (reply 7 (reply_bytes 2 7) lied_state)
+unfolding evaluated response_at answer body_codec produce_response read_array by_length read_many topic_response is_utf8 chars encode partition_response
+lie_heard = (refl, refl)
+
+spells_lie : Spells api.Produce (reply_bytes 2 7) (response_to 2 7)
+unfolding evaluated response_at answer body_codec produce_response read_array by_length read_many topic_response is_utf8 chars encode partition_response
+spells_lie = response_found api.Produce (reply_bytes 2 7) (response_to 2 7) (bytes_by (reply_bytes 2 7) refl) refl
+
+lie_said : IsNotMadeUp lied_state (reply 7 (reply_bytes 2 7) lied_state)
+unfolding evaluated response_at answer body_codec produce_response read_array by_length read_many topic_response is_utf8 chars encode partition_response
+lie_said = λ e. inl (record {
+  number = 0;
+  packet = packet_of 2;
+  went_out = refl;
+  parts = sent_first ∷ [];
+  demand = refl;
+  response = response_to 2 7;
+  named = refl;
+  produce = produce_at 7;
+  is_produce = refl;
+  entries = (record { part = sent_first; answer = record { code = pos 0; base = pos 7 }; said = (0, omega arith, refl); partition = refl; code = refl; base = refl }, tt);
+  spells = spells_lie;
+})
+
+but_honest : (x : Part) → (x ≡ Honest → ⊥) → Throughout (asked_by x) begun stored_by_word
+unfolding evaluated
+but_honest Honest n = absurd (n refl)
+but_honest NotMadeUp n = (tt, (tt, (tt, (tt, (lie_said, tt)))))
+but_honest InTurn n = (tt, (fed, (tt, (tt, (tt, tt)))))
+but_honest IdsOnce n = (tt, (tt, (tt, (tt, (tt, tt)))))
+
+lie_told : ToldOffsetsStand (known (led begun stored_by_word)) → ⊥
+unfolding evaluated response_at answer body_codec produce_response read_array by_length read_many topic_response is_utf8 chars encode partition_response
+lie_told law =
+    let s = law (record { item = first; outcome = Delivered (pos 7) }) (pos 7) (0, omega arith, refl) refl in
+    In-nil _ (record { earlier = s.before; later = s.after; split = s.record_is })
+
+pub honest_needed : IsNeeded Honest stored_by_word ToldOffsetsStand
+honest_needed = record { moves = (accepts, (appends, (sends, (lie_comes, (lie_heard, tt))))); others = but_honest; broken = lie_told }
+
+but_not_made_up : (x : Part) → (x ≡ NotMadeUp → ⊥) → Throughout (asked_by x) begun made_up
+but_not_made_up Honest n = (tt, (tt, (tt, (tt, tt))))
+but_not_made_up NotMadeUp n = absurd (n refl)
+but_not_made_up InTurn n = (tt, (fed, (tt, (tt, tt))))
+but_not_made_up IdsOnce n = (tt, (tt, (tt, (tt, tt))))
+
+pub not_made_up_needed : IsNeeded NotMadeUp made_up ToldOffsetsStand
+not_made_up_needed = record { moves = misled.moves; others = but_not_made_up; broken = nothing_stands }
+
+appends_unasked : IsMove begun (append first begun)
+unfolding evaluated
+appends_unasked = (refl, refl)
+
+sends_unasked : IsMove unasked_state (request 0 unasked_state)
+unfolding evaluated
+sends_unasked = (refl, refl)
+
+but_in_turn : (x : Part) → (x ≡ InTurn → ⊥) → Throughout (asked_by x) begun unasked
+but_in_turn Honest n = (tt, (tt, tt))
+but_in_turn NotMadeUp n = (tt, (tt, tt))
+but_in_turn InTurn n = absurd (n refl)
+but_in_turn IdsOnce n = (tt, (tt, tt))
+
+not_accounted : AreAccountedFor 0 0 (known (led begun unasked)) → ⊥
+unfolding evaluated
+not_accounted law = let e : first ∷ [] ≡ [] = law in absurd cc
+
+pub in_turn_needed : IsNeeded InTurn unasked (AreAccountedFor 0 0)
+in_turn_needed = record { moves = (appends_unasked, (sends_unasked, tt)); others = but_in_turn; broken = not_accounted }
+
+but_ids_once : (x : Part) → (x ≡ IdsOnce → ⊥) → Throughout (asked_by x) begun under_its_id
+but_ids_once Honest n = (tt, tt)
+but_ids_once NotMadeUp n = (tt, tt)
+but_ids_once InTurn n = (tt, tt)
+but_ids_once IdsOnce n = absurd (n refl)
+
+others_write : AreMoves begun under_its_id
+unfolding evaluated
+others_write = (omega arith, tt)
+
+none_left : {A : Type 0} (xs ys : List A) → [] ≡ xs ++ ys → xs ≡ []
+none_left [] ys e = refl
+none_left (x ∷ xs) ys e = absurd cc
+
+not_its_own : IsPrefix 0 (known (led begun under_its_id)) → ⊥
+unfolding evaluated own
+not_its_own law =
+    let e : own_records 0 (known (led begun under_its_id)) ≡ [] = law.records ∙ ap as_stored (none_left law.stored law.rest law.handed) in
+    absurd (let long : 1 ≡ 0 = ap length e in omega (arith, long))
+
+pub ids_once_needed : IsNeeded IdsOnce under_its_id (IsPrefix 0)
+ids_once_needed = record { moves = others_write; others = but_ids_once; broken = not_its_own }

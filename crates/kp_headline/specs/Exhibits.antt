@@ -4,6 +4,7 @@ use Rattle.kp_accum.specs.Config.{default_config}
 use Rattle.kp_accum.specs.declared.item.Item.{Item}
 use Rattle.kp_log.specs.BrokerStep.{Answered}
 use Rattle.kp_log.specs.History.{History, with_batch, empty_history}
+use Rattle.kp_log.specs.Log.{stored_as}
 use Rattle.kp_rules.specs.declared.outcome.Report.{Report}
 use Rattle.kp_rules.specs.Appending.{append_step}
 use Rattle.kp_rules.specs.Calls.{answered_as}
@@ -15,11 +16,12 @@ use Rattle.kp_rules.specs.Replies.{reply_step}
 use Rattle.kp_rules.specs.Reports.{fetch_step}
 use Rattle.kp_rules.specs.Requesting.{request_step}
 use Rattle.kp_world.specs.Events.{record_at}
+use Rattle.kp_world.specs.Facts.{Facts}
 use Rattle.kp_world.specs.LogLaws.{ToldOffsetsStand}
 use Rattle.kp_world.specs.Message.{sent_of}
 use Rattle.kp_world.specs.World.{scheduled, FIRST_ID}
-use Rattle.kp_headline.specs.Assumptions.{IsHonest, IsInTurn, KeepsIdsApart, Assumed}
-use Rattle.kp_headline.specs.Moves.{Move, Accepting, Calling, Meeting, AreMoves, Throughout, after, led}
+use Rattle.kp_headline.specs.Assumptions.{IsHonest, IsNotMadeUp, IsInTurn, KeepsIdsApart, Assumed}
+use Rattle.kp_headline.specs.Moves.{Move, Accepting, Calling, Meeting, Others, AreMoves, Throughout, after, led}
 use Rattle.kp_headline.specs.Outside.{State, new_state, known}
 
 -- ---- calls, with the answers and the cores that their steps give
@@ -139,3 +141,46 @@ pub record Misleads (ms : List Move) (told : List Told) : Type 0 where
   pub ids_once : Throughout KeepsIdsApart begun ms
   pub told_in_all : (led begun ms).outside.told ≡ told
   pub is_wrong : ToldOffsetsStand (known (led begun ms)) → ⊥
+
+-- ---- each part of what is assumed is needed
+
+pub data Part : Type 0 where
+  Honest : Part
+  NotMadeUp : Part
+  InTurn : Part
+  IdsOnce : Part
+
+abbrev pub asked_by : Part → State → Move → Type 0
+asked_by Honest = IsHonest
+asked_by NotMadeUp = IsNotMadeUp
+asked_by InTurn = IsInTurn
+asked_by IdsOnce = KeepsIdsApart
+
+-- All that is assumed but this part holds of these moves, and then the law does not hold.
+pub record IsNeeded (part : Part) (ms : List Move) (Law : Facts → Type 0) : Type 0 where
+  pub moves : AreMoves begun ms
+  pub others : (other : Part) → (other ≡ part → ⊥) → Throughout (asked_by other) begun ms
+  pub broken : Law (known (led begun ms)) → ⊥
+
+-- A broker says that it has stored the batch, at offset 7, and has not.
+abbrev pub lying : Move
+lying = Meeting 0 sent_first (record { code = pos 0; base = pos 7 }) empty_history
+
+abbrev pub lied_state : State
+lied_state = after lying sent_state
+
+abbrev pub stored_by_word : List Move
+stored_by_word =
+    Accepting first ∷ append first accepted_state ∷ request 0 appended_state
+    ∷ lying ∷ reply 7 (reply_bytes 2 7) lied_state ∷ []
+
+-- An item is appended that its sender had not accepted.
+abbrev pub unasked_state : State
+unasked_state = after (append first begun) begun
+
+abbrev pub unasked : List Move
+unasked = append first begun ∷ request 0 unasked_state ∷ []
+
+-- Somebody else writes under this producer's id.
+abbrev pub under_its_id : List Move
+under_its_id = Others 0 (stored_as (pos FIRST_ID) (record_at 0 (98 ∷ []) ∷ [])) ∷ []

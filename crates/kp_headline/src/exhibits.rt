@@ -1,8 +1,10 @@
-//! What is said of any moves is said of some; and one of the assumptions is seen to be needed.
+//! What is said of any moves is said of some; and each part of what is assumed is needed.
 
 ghost use Rattle.std.specs.Prelude.{pos, [], ◌∷◌};
 ghost use Rattle.kp_rules.specs.declared.outcome.Outcome.TheVariants.{Delivered};
-ghost use Rattle.kp_headline.specs.Exhibits.{Misleads, Shows, first, lost_and_repeated, made_up};
+ghost use Rattle.kp_world.specs.Accounts.{AreAccountedFor};
+ghost use Rattle.kp_world.specs.LogLaws.{IsPrefix, ToldOffsetsStand};
+ghost use Rattle.kp_headline.specs.Exhibits.{Honest, IdsOnce, InTurn, IsNeeded, Misleads, NotMadeUp, Shows, first, lost_and_repeated, made_up, stored_by_word, unasked, under_its_id};
 
 /// A connection is lost and its batch sent again; the second packet is stored, and then the first comes, late and twice;
 /// the reply to the second is heard as bytes, and the report fetched.
@@ -16,4 +18,13 @@ pub fn a_batch_may_be_lost_and_repeated()
 /// stands.
 pub fn a_made_up_reply_is_believed()
     ensures { Misleads made_up (record { item = first; outcome = Delivered (pos 7) } ∷ []) }
+{}
+
+/// Where all is assumed but one part, a law fails: a broker that says what it has not done, a reply that was made up, an
+/// item that its sender had not accepted, and somebody else's record under this producer's id.
+pub fn each_assumption_is_needed()
+    ensures honest { IsNeeded Honest stored_by_word ToldOffsetsStand }
+    ensures not_made_up { IsNeeded NotMadeUp made_up ToldOffsetsStand }
+    ensures in_turn { IsNeeded InTurn unasked (AreAccountedFor 0 0) }
+    ensures ids_once { IsNeeded IdsOnce under_its_id (IsPrefix 0) }
 {}
