@@ -1,11 +1,11 @@
 -- The connection of an engine.
-use Rattle.std.proofs.Common.{◌≡◌, ℕ, List, [], Bool, true, false, refl, sym, ap, subst, ◌∙◌}
+use Rattle.std.proofs.Common.{◌≡◌, ℕ, List, [], ◌∷◌, ◌++◌, Bool, true, false, refl, sym, ap, subst, ◌∙◌}
 use Rattle.std.specs.Prelude.{not}
 use Rattle.futures.specs.declared.task.Poll.{Poll}
 use Rattle.kp_connection.specs.Wire.{Told, Wired}
 use Rattle.kp_frames.specs.Stream.{is_faulty}
 use Rattle.kp_frames.proofs.KeptLemmas.{none_faulty}
-use Rattle.kp_engine.specs.Engine.{Cleared, Polls, line_after}
+use Rattle.kp_engine.specs.Engine.{Cleared, Polls, line_after, moments_in}
 use Rattle.kp_engine.specs.Polls.{Turns}
 use Rattle.kp_engine.specs.declared.engine.Line.{Line}
 use Rattle.kp_engine.specs.declared.engine.Line.TheVariants.{Open}
@@ -23,10 +23,11 @@ sound_from false is = refl
 pub sound_to : (b : Bool) → b ≡ false → not b ≡ true
 sound_to b is = ap not is
 
--- one turn was made over the open connection
+-- one turn was made over the open connection, at the moment that the clock told
 pub made_turn : {S : Type 0} (answers : Told S) (line : Line S) (wire : Wired S) → line ≡ Open wire
-    → (now : ℕ) (old begun new : Exchange) (result : Poll Stop) (after : Wired S) (left : Line S)
-    → Cleared old begun → Turns answers now begun wire result new after → left ≡ line_after result after → Polls answers line old result new left
-made_turn answers line wire is now old begun new result after left cleared turns afterwards =
-    subst (λ (l : Line _). Polls answers l old result new left) (sym is)
-    (record { now = now; begun = begun; cleared = cleared; after = after; turns = turns; line = afterwards })
+    → (now : ℕ) (old begun new : Exchange) (result : Poll Stop) (after : Wired S) (left : Line S) (before told : List ℕ)
+    → Cleared old begun → Turns answers now begun wire result new after → left ≡ line_after result after → told ≡ before ++ now ∷ []
+    → (poll : Polls answers line old result new left) × (told ≡ before ++ moments_in answers line old result new left poll)
+made_turn answers line wire is now old begun new result after left before told cleared turns afterwards tells =
+    subst (λ (l : Line _). (poll : Polls answers l old result new left) × (told ≡ before ++ moments_in answers l old result new left poll)) (sym is)
+    (record { now = now; begun = begun; cleared = cleared; after = after; turns = turns; line = afterwards }, tells)

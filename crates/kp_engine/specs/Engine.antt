@@ -1,5 +1,5 @@
 -- What contracts see of an engine.
-use Rattle.std.specs.Prelude.{◌≡◌, ℕ, true, false, not, Bool, [], length, replicate, Option, Some, None, option_map, if◌then◌else◌}
+use Rattle.std.specs.Prelude.{◌≡◌, ℕ, true, false, not, Bool, List, [], ◌∷◌, length, replicate, Option, Some, None, option_map, if◌then◌else◌}
 use Rattle.std.specs.Str.{IsUtf8}
 use Rattle.futures.specs.declared.task.Poll.{Poll}
 use Rattle.futures.specs.declared.task.Poll.TheVariants.{Ready, Pending}
@@ -81,7 +81,8 @@ abbrev pub Polls : {S : Type 0} → Told S → Line S → Exchange → Poll Stop
 Polls answers (Open wire) old result new line = MakesTurn answers old wire result new line
 Polls answers (Stopped stop) old result new line = Cleared old new × (result ≡ Ready stop) × (line ≡ Stopped stop)
 
--- how often the clock is asked in a poll
-abbrev pub asked_in : {S : Type 0} → Line S → ℕ
-asked_in (Open wire) = 1
-asked_in (Stopped stop) = 0
+-- the moment of a poll's turn, if it makes one
+abbrev pub moments_in : {S : Type 0} (answers : Told S) (line : Line S) (old : Exchange) (result : Poll Stop) (new : Exchange) (left : Line S)
+    → Polls answers line old result new left → List ℕ
+moments_in answers (Open wire) old result new left poll = poll.now ∷ []
+moments_in answers (Stopped stop) old result new left poll = []

@@ -9,4 +9,5 @@ pub mod Polls
 pub mod Engine
 pub mod Serving
 pub mod Parts
+pub mod Clocked
 pub mod Closing

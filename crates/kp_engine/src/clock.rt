@@ -1,13 +1,13 @@
 //! Where the engine has the moment from.
 
-ghost use Rattle.std.specs.Prelude.{◌≡◌, ℕ, ◌+◌};
+ghost use Rattle.std.specs.Prelude.{◌≡◌, ◌++◌, ◌∷◌, [], ℕ, List};
 
 /// A clock. Its moments are in milliseconds.
 pub trait Clock: Drop {
-    /// How often it was asked.
-    ghost asked: { Self → ℕ };
+    /// The moments that it has told, in their order.
+    ghost moments: { Self → List ℕ };
 
     /// The moment.
     fn now(&mut self) -> u64
-        ensures { asked self.new ≡ asked self.old + 1 };
+        ensures { moments self.new ≡ moments self.old ++ result ∷ [] };
 }

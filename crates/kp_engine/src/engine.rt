@@ -1,12 +1,12 @@
 //! The engine.
 
-ghost use Rattle.std.specs.Prelude.{◌≡◌, ◌+◌, true, IfOk, IfErr, option_map, option_to_list};
+ghost use Rattle.std.specs.Prelude.{◌≡◌, true, IfOk, IfErr, option_map, option_to_list};
 ghost use Rattle.std.specs.List.{flat_map};
 ghost use Rattle.std.specs.Option.{option_copied};
 ghost use Rattle.futures.specs.Poll.{OnPending};
 ghost use Rattle.futures.specs.Task.{Covers, Keeps};
 ghost use Rattle.kp_rules.specs.Calls.{End, Step};
-ghost use Rattle.kp_engine.specs.Engine.{asked_in, fresh_wire, stop_in, IfOpen, IsNew, NeedsStream, is_sound, Polls};
+ghost use Rattle.kp_engine.specs.Engine.{fresh_wire, stop_in, IfOpen, IsNew, NeedsStream, is_sound};
 ghost use Rattle.kp_engine.specs.Exchange.{OnlyCore};
 ghost use Rattle.kp_engine.specs.Opening.{MayTurn};
 
@@ -43,6 +43,8 @@ pub(crate) enum Line<S> {
 }
 
 impl<S: Stream, C: Clock> Engine<S, C> {
+    ghost use Rattle.kp_engine.specs.Clocked.{PollsOnce};
+
     /// An engine over a fresh core, fresh lanes and a stream. With `keeps_turns` it keeps the calls of its last turn.
     /// Where memory is refused, the values come back.
     pub fn new(
@@ -73,8 +75,7 @@ impl<S: Stream, C: Clock> Engine<S, C> {
     /// One turn, unless the connection was given up: then the same is answered again. Pending where the connection goes
     /// on.
     pub fn poll_turn(&mut self, cx: &mut Context<'_>) -> Poll<Stop>
-        ensures polls { Polls S.answers self.old.line self.old.exchange result self.new.exchange self.new.line }
-        ensures asked { C.asked self.new.clock ≡ C.asked self.old.clock + asked_in self.old.line }
+        ensures polls { PollsOnce S.answers C.moments self.old result self.new }
         ensures registered { OnPending result (IfOpen self.new.line (λ wire. Covers cx.new (S.reader wire.stream))) }
         ensures kept { Keeps cx.old cx.new }
     {

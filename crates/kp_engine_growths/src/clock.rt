@@ -1,6 +1,6 @@
 //! A clock of its own.
 
-ghost use Rattle.std.specs.Prelude.{length};
+ghost use Rattle.std.specs.Prelude.{map};
 
 use http_server::Log;
 use kp_engine::Clock;
@@ -25,7 +25,7 @@ impl Ticks {
 }
 
 impl Clock for Ticks {
-    ghost asked = { λ c. length c.looks.items };
+    ghost moments = { λ c. map (λ x. x.0) c.looks.items };
 
     fn now(&mut self) -> u64 {
         let now = self.now;

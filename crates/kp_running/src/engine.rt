@@ -1,7 +1,8 @@
 //! The engine is run.
 
 ghost use Rattle.std.specs.Prelude.{◌≡◌};
-ghost use Rattle.kp_running.specs.Engines.{reader_of, PollsOnce};
+ghost use Rattle.kp_engine.specs.Clocked.{PollsOnce};
+ghost use Rattle.kp_running.specs.Engines.{reader_of};
 ghost use Rattle.kp_running.specs.Pace.{due_after};
 
 use crate::turning::Turning;
@@ -12,7 +13,7 @@ use kp_engine::{Clock, Engine, Stop};
 impl<S: Stream, C: Clock> Turning for Engine<S, C> {
     type Stop = Stop;
 
-    ghost polls = { PollsOnce S.answers C.asked };
+    ghost polls = { PollsOnce S.answers C.moments };
 
     ghost reader = { reader_of S.reader };
 

@@ -1,6 +1,6 @@
 //! The runtime's clock as an engine's.
 
-ghost use Rattle.std.specs.Prelude.{◌≡◌, ◌≤◌, length};
+ghost use Rattle.std.specs.Prelude.{◌≡◌, ◌≤◌, map};
 
 use http_server::Log;
 use std::io;
@@ -41,7 +41,7 @@ impl Passed {
 pub struct Millis<'a, R> {
     rt: &'a R,
     passed: Passed,
-    asked: Log<(), ()>,
+    told: Log<u64, ()>,
 }
 
 impl<'a, R: Clock> Millis<'a, R> {
@@ -55,16 +55,17 @@ impl<'a, R: Clock> Millis<'a, R> {
         Millis {
             rt,
             passed: Passed::since(start),
-            asked: Log::new(),
+            told: Log::new(),
         }
     }
 }
 
 impl<R: Clock> kp_engine::Clock for Millis<'_, R> {
-    ghost asked = { λ clock. length clock.asked.items };
+    ghost moments = { λ clock. map (λ x. x.0) clock.told.items };
 
     fn now(&mut self) -> u64 {
-        self.asked = self.asked.and(&(), &());
-        self.passed.read(self.rt)
+        let now = self.passed.read(self.rt);
+        self.told = self.told.and(&now, &());
+        now
     }
 }

@@ -1,7 +1,7 @@
 //! Records that go from a sender through an engine to a broker in the same process, and reports that come back; and polls of
 //! an engine that has nothing to do.
 
-ghost use Rattle.std.specs.Prelude.{length, IfOk};
+ghost use Rattle.std.specs.Prelude.{map, IfOk};
 ghost use Rattle.kp_engine.specs.Opening.{MayTurn};
 
 use crate::samples::{CONFIG, record_of};
@@ -49,7 +49,7 @@ struct Still {
 }
 
 impl Clock for Still {
-    ghost asked = { λ c. length c.asked.items };
+    ghost moments = { λ c. map (λ x. x.0) c.asked.items };
 
     fn now(&mut self) -> u64 {
         self.asked = self.asked.and(&0, &());

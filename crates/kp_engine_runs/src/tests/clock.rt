@@ -1,6 +1,6 @@
 //! A clock that goes on by as much each time it is asked.
 
-ghost use Rattle.std.specs.Prelude.{length};
+ghost use Rattle.std.specs.Prelude.{map};
 
 use http_server::Log;
 use kp_engine::Clock;
@@ -24,7 +24,7 @@ impl Ticking {
 }
 
 impl Clock for Ticking {
-    ghost asked = { λ clock. length clock.told.items };
+    ghost moments = { λ clock. map (λ x. x.0) clock.told.items };
 
     fn now(&mut self) -> u64 {
         let now = self.now;
