@@ -1,0 +1,115 @@
+//! A sender's thread.
+
+ghost use Rattle.std.specs.Prelude.{◌≡◌};
+ghost use Rattle.kp_client.specs.Producer.{lane_of, SameProducer};
+ghost use Rattle.kp_lanes.specs.Sender.{finished_id, finished_number, sender_id, sender_number};
+
+use kp_batch::{Record, Timestamp};
+use kp_client::{Closer, Producer};
+use kp_core::Report;
+use kp_lanes::{Finished, Target};
+use kp_wire::{Blob, Seq};
+use std::alloc::{AllocError, AllocGlobal, Global};
+use std::sync::Wait;
+use std::thread;
+use std::time::{Clock, Duration, Instant};
+
+/// The bytes of a record's value.
+const VALUE: usize = 100;
+
+/// How long a report is waited for at most, in seconds.
+const PATIENCE: u64 = 10;
+
+/// What a sender does: it sends so many records, each once the one before it is told of and so many milliseconds after
+/// that, and then nothing for a while.
+#[derive(Clone, Copy, Debug, Default)]
+pub(crate) struct Job {
+    pub(crate) records: u32,
+    pub(crate) apart: u64,
+    pub(crate) rest: u64,
+}
+
+/// What it heard.
+#[derive(Drop)]
+pub(crate) struct Heard {
+    pub(crate) reports: Vec<Report>,
+    /// How long each took, from its send, in microseconds.
+    pub(crate) micros: Vec<u64>,
+}
+
+/// A record with a value of 100 bytes.
+pub(crate) fn record(alloc: Global) -> Result<Record, AllocError> {
+    Ok(Record {
+        timestamp: Timestamp::from_millis(0).ok_or(AllocError)?,
+        key: None,
+        value: Some(Blob::new(vec![in alloc; 7; VALUE]?)),
+        headers: Seq::new(Vec::new(alloc)),
+    })
+}
+
+/// How long it was since then, in microseconds. 0, where the clock can't be read.
+fn micros_since<R: Clock>(rt: &R, begun: std::io::Result<Instant>) -> u64 {
+    match begun {
+        Ok(begun) => match begun.elapsed(rt) {
+            Ok(passed) => u64::try_from(passed.as_micros()).unwrap_or(u64::MAX),
+            Err(_) => 0,
+        },
+        Err(_) => 0,
+    }
+}
+
+/// Sends a record, and waits for its report.
+fn send_one<R: Wait + Clock + AllocGlobal>(
+    rt: &R,
+    producer: &mut Producer,
+    heard: &mut Heard,
+) -> Result<(), AllocError>
+    ensures { SameProducer producer.old producer.new }
+{
+    let record = record(rt.alloc())?;
+    let begun = Instant::now(rt);
+    if producer.send(rt, Target::Named(0), record).is_ok() {
+        if let Some(report) = producer.wait_report(rt, Duration::from_secs(PATIENCE)) {
+            heard.micros.push(micros_since(rt, begun))?;
+            heard.reports.push(report)?;
+        }
+    }
+    Ok(())
+}
+
+/// Sends the records.
+fn send_each<R: Wait + Clock + AllocGlobal>(
+    rt: &R,
+    producer: &mut Producer,
+    job: Job,
+    heard: &mut Heard,
+) -> Result<(), AllocError>
+    ensures { SameProducer producer.old producer.new }
+{
+    for _ in 0..job.records {
+        send_one(rt, producer, heard)?;
+        thread::sleep(rt, Duration::from_millis(job.apart));
+    }
+    Ok(())
+}
+
+/// Does the job, and closes the producer.
+pub(crate) fn work<R: Wait + Clock + AllocGlobal>(
+    rt: &R,
+    producer: Producer,
+    closer: Closer,
+    job: Job,
+) -> (Finished, Result<Heard, AllocError>)
+    ensures number { finished_number result.0 ≡ sender_number (lane_of producer) }
+    ensures lane { finished_id result.0 ≡ sender_id (lane_of producer) }
+{
+    let (mut producer, mut closer) = (producer, closer);
+    let mut heard = Heard {
+        reports: Vec::new(rt.alloc()),
+        micros: Vec::new(rt.alloc()),
+    };
+    let sent = send_each(rt, &mut producer, job, &mut heard);
+    thread::sleep(rt, Duration::from_millis(job.rest));
+    closer.close();
+    (producer.finish(), sent.map(|()| heard))
+}

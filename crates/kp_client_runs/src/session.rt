@@ -1,0 +1,104 @@
+//! A producer with one sender, from its opening to its settling.
+
+ghost use Rattle.std.specs.Prelude.{IfOk};
+ghost use Rattle.kp_client.specs.Left.{parts_in};
+ghost use Rattle.kp_client.specs.Producer.{lane_of};
+ghost use Rattle.kp_client.specs.Service.{intake_of};
+ghost use Rattle.kp_lanes.specs.Intake.{lanes_of};
+ghost use Rattle.kp_lanes.specs.Sender.{IsSenderOf};
+ghost use Rattle.kp_lanes.specs.Settling.{IsOf};
+
+use crate::job::{Heard, Job, work};
+use crate::wrong::Wrong;
+use kp_client::{
+    Closer, Ended, Ending, Left, Monitor, Opened, Producer, Service, Settings, Statistics, open,
+};
+use kp_lanes::Finished;
+use std::alloc::{AllocGlobal, Global};
+use std::net::{Net, SocketAddr, TcpListener, TcpStream};
+use std::random::RandomSource;
+use std::sync::Wait;
+use std::thread::{self, Threads};
+use std::time::Clock;
+
+/// What came of a producer.
+#[derive(Drop)]
+pub(crate) struct Came {
+    pub(crate) heard: Heard,
+    pub(crate) ending: Ending,
+    /// How many records came back.
+    pub(crate) records: usize,
+    pub(crate) statistics: Statistics,
+}
+
+/// A producer with one sender.
+#[tactic(auto, using(crate::proofs::OwnLemmas::last_of))]
+pub(crate) fn open_one<R>(
+    rt: &R,
+    address: SocketAddr,
+    settings: Settings,
+) -> Result<(Producer, Closer, Service), Wrong>
+where
+    R: Wait + Clock + RandomSource + AllocGlobal + Net,
+    ensures { IfOk result (λ r. IsSenderOf (lanes_of (intake_of r.2)) (lane_of r.0)) }
+{
+    let Opened {
+        producers,
+        closer,
+        service,
+    } = open(rt, address, settings)?;
+    let mut producers = producers;
+    match producers.pop() {
+        Some(producer) => Ok((producer, closer, service)),
+        None => Err(Wrong::OutOfMemory),
+    }
+}
+
+/// Takes back what is left.
+fn settle(
+    alloc: Global,
+    ended: Ended,
+    finished: Finished,
+    heard: Heard,
+    monitor: Monitor,
+) -> Result<Came, Wrong>
+    requires { IsOf (lanes_of (parts_in ended).intake) finished }
+{
+    let ending = ended.ending();
+    let Ok(left) = ended.settle(alloc, vec![in alloc; finished]?) else {
+        return Err(Wrong::OutOfMemory);
+    };
+    let Left { items, held, .. } = left;
+    let waiting = match items.first() {
+        Some(items) => items.len(),
+        None => 0,
+    };
+    Ok(Came {
+        heard,
+        ending,
+        records: held.items.len().saturating_add(waiting),
+        statistics: monitor.read(),
+    })
+}
+
+/// Opens a producer, does the job, and takes back what is left.
+#[tactic(auto, using(crate::proofs::OwnLemmas::its_own))]
+pub(crate) fn hold<R>(
+    rt: &R,
+    address: SocketAddr,
+    settings: Settings,
+    job: Job,
+) -> Result<Came, Wrong>
+where
+    R: Wait + Threads + Clock + RandomSource + AllocGlobal + Sync,
+    R: Net<Listener = TcpListener, Stream = TcpStream>,
+{
+    let (producer, closer, service) = open_one(rt, address, settings)?;
+    let monitor = producer.monitor()?;
+    let ((finished, heard), ended) = thread::join(
+        rt,
+        move || work(rt, producer, closer, job),
+        move || service.run(rt),
+    );
+    settle(rt.alloc(), ended?, finished, heard?, monitor)
+}
