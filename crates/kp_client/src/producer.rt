@@ -35,7 +35,7 @@ impl Producer {
     ghost use Rattle.std.specs.Prelude.{◌≡◌, ◌-◌, ◌++◌, ◌∷◌, [], true, IfErr, OnOk, OnErr};
     ghost use Rattle.kp_lanes.specs.declared.entry.Entry.TheVariants.{Mark};
     ghost use Rattle.kp_lanes.specs.declared.fault.FlushFault.TheVariants as flushing;
-    ghost use Rattle.kp_lanes.specs.Sender.{accepted, all_accepted, all_got, entered, finished_id, finished_number, got, known_free_of, sender_id, sender_view};
+    ghost use Rattle.kp_lanes.specs.Sender.{accepted, all_accepted, all_got, entered, finished_id, finished_number, got, known_free_of, sender_id, sender_view, turn};
     ghost use Rattle.kp_client.specs.Producer.{lane_of, Hears, SameProducer, SendsLater, Sends};
 
     pub(crate) fn new(sender: Sender, shared: Arc<Shared, Global>) -> Producer
@@ -130,6 +130,7 @@ impl Producer {
     pub fn flush(&mut self) -> Result<(), FlushFault>
         ensures same { SameProducer self.old self.new }
         ensures items { accepted (lane_of self.new) ≡ accepted (lane_of self.old) }
+        ensures turns { turn (lane_of self.new) ≡ turn (lane_of self.old) }
         ensures heard { got (lane_of self.new) ≡ got (lane_of self.old) }
         ensures marked { OnOk result (entered (lane_of self.new) ≡ entered (lane_of self.old) ++ Mark ∷ []) }
         ensures lost_nothing { OnErr result (entered (lane_of self.new) ≡ entered (lane_of self.old)) }
@@ -147,6 +148,7 @@ impl Producer {
     pub fn poll_report(&mut self) -> Option<Report>
         ensures same { SameProducer self.old self.new }
         ensures items { accepted (lane_of self.new) ≡ accepted (lane_of self.old) }
+        ensures turns { turn (lane_of self.new) ≡ turn (lane_of self.old) }
         ensures hears { Hears self.old result self.new }
     {
         let report = self.sender.poll_report();
@@ -161,6 +163,7 @@ impl Producer {
     pub fn wait_report<R: Wait + Clock>(&mut self, rt: &R, at_most: Duration) -> Option<Report>
         ensures same { SameProducer self.old self.new }
         ensures items { accepted (lane_of self.new) ≡ accepted (lane_of self.old) }
+        ensures turns { turn (lane_of self.new) ≡ turn (lane_of self.old) }
         ensures hears { Hears self.old result self.new }
     {
         let begun = Instant::now(rt);
