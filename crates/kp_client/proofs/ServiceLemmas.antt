@@ -4,6 +4,7 @@ use Rattle.std.specs.Prelude.{ℕ, Bool, Option, Some, IfSome}
 use Rattle.futures.specs.declared.task.Poll.{Poll}
 use Rattle.futures.specs.declared.task.Poll.TheVariants.{Ready, Pending}
 use Rattle.kp_connection.specs.Wire.{Told}
+use Rattle.kp_engine.specs.Clocked.{PollsOnce}
 use Rattle.kp_engine.specs.Engine.{IsNew, Polls}
 use Rattle.kp_engine.specs.Opening.{MayTurn}
 use Rattle.kp_engine.specs.Serving.{HasServed}
@@ -18,13 +19,12 @@ use Rattle.kp_lanes.specs.Intake.{lanes_of}
 use Rattle.kp_lanes.specs.Lane.{LaneId}
 use Rattle.kp_lanes.specs.declared.intake.Intake.{Intake}
 use Rattle.kp_rules.specs.Records.{Core}
-use Rattle.kp_running.specs.Engines.{PollsOnce}
 use Rattle.kp_running.specs.Running.{GoesThrough, Reaches}
 use Rattle.kp_client.specs.Serving.{lanes_in, GoesOn, Serves}
 use Rattle.kp_client.specs.declared.tended.Tended.{Tended}
 
-module _ {S C : Type 0} (answers : Told S) (asked : C → ℕ) where
-  once : (old new : Engine S C) (polled : Poll Stop) → PollsOnce answers asked old polled new → GoesOn old new
+module _ {S C : Type 0} (answers : Told S) (moments : C → List ℕ) where
+  once : (old new : Engine S C) (polled : Poll Stop) → PollsOnce answers moments old polled new → GoesOn old new
   once old new polled p lanes h =
       let more = poll_served h.core h.intake h.calls old.exchange new.exchange h.served answers old.line polled new.line p.polls in record {
         core = h.core;
@@ -35,7 +35,7 @@ module _ {S C : Type 0} (answers : Told S) (asked : C → ℕ) where
       }
 
   abbrev polls : Tended S C → Poll Stop → Tended S C → Type 0
-  polls old polled new = PollsOnce answers asked old.engine polled new.engine
+  polls old polled new = PollsOnce answers moments old.engine polled new.engine
 
   goes : (old : Tended S C) (between : List (Tended S C)) (stop : Stop) (new : Tended S C) → GoesThrough polls old between stop new
       → GoesOn old.engine new.engine
@@ -83,15 +83,15 @@ still_serves lanes old new is h = record {
 pub on_its_own : {S C : Type 0} (lanes : List LaneId) (engine : Engine S C) → Serves lanes engine → Serves (lanes_in engine) engine
 on_its_own lanes engine h = record { core = h.core; intake = h.intake; calls = h.calls; served = h.served; same = refl }
 
-module _ {S C : Type 0} (answers : Told S) (asked : C → ℕ) where
+module _ {S C : Type 0} (answers : Told S) (moments : C → List ℕ) where
   reached : (o : Option (Tended S C)) (old : Tended S C) (stop : Stop) (new : Tended S C) → o ≡ Some old
-      → IfSome o (λ e. Reaches (polls answers asked) e stop new) → Reaches (polls answers asked) old stop new
-  reached o old stop new is r = subst (λ (p : Option (Tended S C)). IfSome p (λ e. Reaches (polls answers asked) e stop new)) is r
+      → IfSome o (λ e. Reaches (polls answers moments) e stop new) → Reaches (polls answers moments) old stop new
+  reached o old stop new is r = subst (λ (p : Option (Tended S C)). IfSome p (λ e. Reaches (polls answers moments) e stop new)) is r
 
   pub runs_on : (o : Option (Tended S C)) (old : Tended S C) (stop : Stop) (new : Tended S C) → o ≡ Some old
-      → IfSome o (λ e. Reaches (polls answers asked) e stop new) → GoesOn old.engine new.engine
-  runs_on o old stop new is r = goes_on answers asked old stop new (reached o old stop new is r)
+      → IfSome o (λ e. Reaches (polls answers moments) e stop new) → GoesOn old.engine new.engine
+  runs_on o old stop new is r = goes_on answers moments old stop new (reached o old stop new is r)
 
   pub runs_to : (o : Option (Tended S C)) (old : Tended S C) (stop : Stop) (new : Tended S C) → o ≡ Some old
-      → IfSome o (λ e. Reaches (polls answers asked) e stop new) → new.engine.line ≡ Stopped stop
-  runs_to o old stop new is r = stops_for answers asked old stop new (reached o old stop new is r)
+      → IfSome o (λ e. Reaches (polls answers moments) e stop new) → new.engine.line ≡ Stopped stop
+  runs_to o old stop new is r = stops_for answers moments old stop new (reached o old stop new is r)

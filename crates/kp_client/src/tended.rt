@@ -1,7 +1,8 @@
 //! An engine of which is counted what it does.
 
 ghost use Rattle.std.specs.Prelude.{◌≡◌};
-ghost use Rattle.kp_running.specs.Engines.{reader_of, PollsOnce};
+ghost use Rattle.kp_engine.specs.Clocked.{PollsOnce};
+ghost use Rattle.kp_running.specs.Engines.{reader_of};
 
 use crate::again::Again;
 use crate::shared::Shared;
@@ -69,7 +70,7 @@ impl<'a, S: Stream, C: Clock> Tended<'a, S, C> {
 impl<S: Stream, C: Clock> Turning for Tended<'_, S, C> {
     type Stop = Stop;
 
-    ghost polls = { λ old polled new. PollsOnce S.answers C.asked old.engine polled new.engine };
+    ghost polls = { λ old polled new. PollsOnce S.answers C.moments old.engine polled new.engine };
 
     ghost reader = { λ tended. reader_of S.reader tended.engine };
 
