@@ -41,7 +41,7 @@ fn send<R: Wait + Clock>(
     (producer.finish(), report)
 }
 
-/// Takes back what is left, of which there is nothing where the service is done.
+/// Takes back what is left.
 fn take_back(alloc: Global, ended: Ended, finished: Finished) -> Result<(), Wrong>
     requires { IsOf (lanes_of (parts_in ended).intake) finished }
 {
