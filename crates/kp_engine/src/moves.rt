@@ -35,17 +35,12 @@ impl Moves {
         }
     }
 
-    /// This call was made.
+    /// This call was made. A request that goes out has a call of its own.
     pub(crate) fn note(&mut self, call: &Turned) {
         match call {
             Turned::Tick(now, _) => self.moment = *now,
             Turned::Append(_, None) | Turned::Flush | Turned::Close | Turned::Told(_) => {
                 self.any = true;
-            }
-            Turned::Request(_, Ok(Some(request))) => {
-                self.any = true;
-                self.requests = self.requests.saturating_add(1);
-                self.bytes_given = self.bytes_given.saturating_add(request.bytes.len() as u64);
             }
             Turned::Reply(_, content, Ok(replied)) => {
                 self.any = true;
@@ -57,6 +52,13 @@ impl Moves {
             | Turned::Reply(_, _, Err(_))
             | Turned::Disconnect(_) => {}
         }
+    }
+
+    /// A request of so many bytes goes out.
+    pub(crate) fn note_request(&mut self, bytes: usize) {
+        self.any = true;
+        self.requests = self.requests.saturating_add(1);
+        self.bytes_given = self.bytes_given.saturating_add(bytes as u64);
     }
 
     /// Something was moved.

@@ -88,7 +88,7 @@ impl Notes {
         ensures noted { calls_in self.new.turn ≡ noted (Request now (Ok (Some request)) ∷ []) (calls_in self.old.turn) }
         ensures frame { IfOk result (λ frame. frame.items ≡ request.bytes) }
     {
-        self.moves.note_move();
+        self.moves.note_request(request.bytes.len());
         if self.turn.is_none() {
             return Ok(request.bytes.into_vec());
         }
