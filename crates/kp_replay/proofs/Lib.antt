@@ -1,0 +1,3 @@
+pub mod FetchingLemmas
+pub mod TellingLemmas
+pub mod ShownLemmas

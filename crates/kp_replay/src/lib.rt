@@ -1,0 +1,12 @@
+//! A schedule's replay: the sender core, partition logs and all that travelled between them, event by event.
+#![tactic(auto)]
+
+mod fetching;
+mod happened;
+mod line;
+mod opening;
+mod world;
+
+pub use happened::Happened;
+pub use line::{AnswerPart, Line, SentPart};
+pub use world::World;
