@@ -1,0 +1,5 @@
+mod GatheredLemmas
+mod JobLemmas
+mod JobsLemmas
+mod OptionsLemmas
+mod RunsLemmas

@@ -1,0 +1,26 @@
+use Rattle.std.proofs.Common.{◌≡◌, ◌++◌, ◌∙◌, List, ap₂}
+use Rattle.std.specs.List.{flat_map}
+use Rattle.std.specs.declared.alloc.Global.{Global}
+use Rattle.std.specs.declared.vec.Vec.{Vec}
+use Rattle.kp_lanes.specs.Intake.{lanes_of, numbers_below}
+use Rattle.kp_client.specs.Left.{parts_in}
+use Rattle.kp_rules.specs.declared.outcome.Report.{Report}
+use Rattle.kp_run.specs.Gathered.{unheard_of}
+use Rattle.kp_run.proofs.GatheredLemmas.{all_gathered, all_of_jobs}
+use Rattle.kp_run.proofs.gathering.gather.Goals as goal
+
+pub settle-requires : goal.settle-requires
+settle-requires c =
+    all_of_jobs (lanes_of (parts_in c.args.ended).intake) c.in_ok-heard.heard.finished.items c.args.jobs.items c.in_ok-heard.ensures.finished c.requires.lanes
+
+pub returns-clause-portions : goal.returns-clause-portions
+returns-clause-portions c =
+    let jobs = c.args.jobs.items in
+    let heard = c.in_ok-heard.heard in
+    let left = c.in-Ok.left in
+    let all = c.in_ok-add_all_unheard.ensures.added
+    ∙ ap₂ (λ (rings : List (Vec Report Global)) (held : List Report). heard.reports.items ++ flat_map (unheard_of rings held left.core) (numbers_below c.args.senders))
+    c.as_slice.ensures.value c.as_slice-2.ensures.value in
+    all_gathered jobs heard.finished.items left c.args.senders heard.accepted heard.reports.items c.add_all_unheard.new.reports.items c.order.new.reports.items
+    c.in_ok-heard.ensures.finished c.requires.keeps c.in_ok-heard.ensures.whole c.requires.numbers c.in-Ok.ensures.settled
+    c.in_ok-heard.ensures.accepted c.in_ok-heard.ensures.reports all c.order.ensures.same

@@ -1,0 +1,9 @@
+use Rattle.kp_run.specs.Dealing.{dealt}
+use Rattle.kp_run.specs.Settings.{largest}
+use Rattle.kp_run.proofs.RunsLemmas.{is_produced}
+use Rattle.kp_run.proofs.running.produce_and_end.Goals as goal
+
+pub returns : goal.returns
+returns g c =
+    is_produced (dealt c.args.lines.now c.args.settings.senders c.args.keyed) (largest c.args.settings.config) c.produce-produced.result
+    c.produce-produced.ensures.lines c.produce-produced.ensures.in_order

@@ -1,0 +1,11 @@
+use Rattle.kp_run.specs.Dealing.{dealt}
+use Rattle.kp_run.specs.Settings.{largest}
+use Rattle.kp_run.proofs.RunsLemmas.{is_produced, of_settings}
+use Rattle.kp_run.proofs.running.produce_at.Goals as goal
+
+pub returns : goal.returns
+returns g c =
+    let o = c.args.options.now in
+    let s = c.in_ok-settings.settings in
+    of_settings o c.args.lines.now s c.produce.result c.in_ok-settings.ensures.senders c.in_ok-settings.ensures.config
+    (is_produced (dealt c.args.lines.now s.senders o.keyed) (largest s.config) c.produce.result c.produce.ensures.lines c.produce.ensures.in_order)

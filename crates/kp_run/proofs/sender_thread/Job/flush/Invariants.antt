@@ -1,0 +1,10 @@
+use Rattle.kp_run.specs.Jobs.{Keeps, SentNothing}
+use Rattle.kp_run.proofs.sender_thread.Job.flush.Given as goal
+
+abbrev pub invariant-loop : goal.invariant-loop
+invariant-loop g l = record {
+  next : (goal.iterator-loop g).can_next l.iterator';
+  finite : (goal.iterator-loop g).is_finite l.iterator';
+  nothing : SentNothing l.fn.self l.self;
+  keeps : Keeps l.self;
+}

@@ -1,0 +1,12 @@
+pub mod Dealing
+pub mod Faults
+pub mod Gathered
+pub mod Jobs
+pub mod Options
+pub mod Plans
+pub mod Portions
+pub mod Runs
+pub mod Sending
+pub mod Served
+pub mod Settings
+pub mod Topics

@@ -1,0 +1,39 @@
+//! Where the broker is.
+
+ghost use Rattle.std.specs.Prelude.{◌≡◌, option_map};
+ghost use Rattle.kp_run.specs.Plans.{plan_text, Plans};
+
+use kp_broker::{FaultPlan, PlanFault};
+use std::alloc::Global;
+use std::net::SocketAddr;
+
+/// Where the broker is.
+#[derive(Clone, Copy, Debug)]
+pub enum Place<'a> {
+    /// In this process, and some of the Produce requests are not answered as they come, where a plan says so.
+    Here(Option<&'a str>),
+    /// At an address.
+    At(SocketAddr),
+}
+
+impl<'a> Place<'a> {
+    /// The text of the plan, where there is one.
+    pub(crate) fn plan_text(self) -> Option<&'a str>
+        ensures { option_map (λ text. text.now) result ≡ plan_text self.entry }
+    {
+        match self {
+            Place::Here(text) => text,
+            Place::At(_) => None,
+        }
+    }
+}
+
+/// The plan that a text spells, or the one by which each request is answered.
+pub(crate) fn plan_of(alloc: Global, text: Option<&str>) -> Result<FaultPlan, PlanFault>
+    ensures { Plans (option_map (λ text. text.now) text.entry) result }
+{
+    match text {
+        Some(text) => FaultPlan::parse(alloc, text),
+        None => Ok(FaultPlan::none(alloc)),
+    }
+}

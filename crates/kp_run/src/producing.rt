@@ -1,0 +1,198 @@
+//! A producer, with its senders and its service each in a thread of its own.
+
+ghost use Rattle.std.specs.Prelude.{◌≡◌, ◌++◌, ◌∷◌, [], map, All, IfOk, OnOk};
+ghost use Rattle.std.specs.List.Sorted.{IsSorted};
+ghost use Rattle.kp_lanes.specs.Intake.{lanes_of};
+ghost use Rattle.kp_client.specs.Left.{parts_in};
+ghost use Rattle.kp_client.specs.Service.{intake_of};
+ghost use Rattle.kp_run.specs.Dealing.{deal_of, dealt};
+ghost use Rattle.kp_run.specs.Gathered.{by_place};
+ghost use Rattle.kp_run.specs.Jobs.{producer_of, HasRun, HasTried, HaveRun, IsIdle, SameJobs};
+ghost use Rattle.kp_run.specs.Portions.{Comes};
+ghost use Rattle.kp_run.specs.Settings.{largest};
+
+use crate::begun::Begun;
+use crate::fault::RunFault;
+use crate::gate::Gate;
+use crate::gathering::{Produced, gather};
+use crate::sender_thread::{Job, Task};
+use crate::stamps::Stamps;
+use kp_client::{Closer, Ended, Ending, Opened, Producer, Service, Settings, open};
+use std::alloc::{AllocError, AllocFailed, AllocGlobal, Global};
+use std::net::{Net, SocketAddr, TcpListener, TcpStream};
+use std::random::RandomSource;
+use std::sync::Wait;
+use std::thread::{self, Threads};
+use std::time::{Clock, Instant};
+
+/// A job for each sender.
+fn jobs_of(alloc: Global, producers: Vec<Producer>, stamps: Stamps) -> Result<Vec<Job>, AllocError>
+    ensures producers { IfOk result (λ jobs. map producer_of jobs.items ≡ producers.items) }
+    ensures idle { IfOk result (λ jobs. All IsIdle jobs.items) }
+{
+    let mut jobs = Vec::new(alloc);
+    for producer in producers {
+        push(&mut jobs, Job::new(alloc, producer, stamps))?;
+    }
+    Ok(jobs)
+}
+
+/// Adds to a list.
+fn push<T: Drop>(all: &mut Vec<T>, x: T) -> Result<(), AllocError>
+    ensures { OnOk result (all.new.items ≡ all.old.items ++ x ∷ []) }
+{
+    match all.push(x) {
+        Ok(()) => Ok(()),
+        Err(AllocFailed { value: _ }) => Err(AllocError),
+    }
+}
+
+/// Runs the senders to their ends, each in a thread of its own.
+fn run_senders<R, G>(rt: &R, jobs: &mut [Job], task: Task<'_>, gate: &G)
+where
+    R: Wait + Threads + Clock + AllocGlobal + Sync,
+    G: Gate + Sync,
+    requires { All (HasTried (deal_of task) 0) jobs.old }
+    ensures same { SameJobs jobs.old jobs.new }
+    ensures ran { All (HasRun (deal_of task.entry)) jobs.new }
+{
+    let threads = jobs.len().max(1);
+    thread::for_each_mut(rt, jobs, threads, &|_, job| job.run(rt, task, gate));
+}
+
+/// Runs the senders over these lines, where the service waits for them, and closes the producer. The senders as they are
+/// then.
+fn send_all<R, G>(
+    rt: &R,
+    jobs: Vec<Job>,
+    lines: &[&[u8]],
+    senders: u32,
+    keyed: bool,
+    flush_every: Option<u64>,
+    gate: &G,
+    closer: Closer,
+    begun: &Begun,
+) -> Vec<Job>
+where
+    R: Wait + Threads + Clock + AllocGlobal + Sync,
+    G: Gate + Sync,
+    requires { All (HasTried (dealt lines.now senders keyed) 0) jobs.items }
+    ensures { HaveRun (dealt lines.now senders keyed) jobs.items result.items }
+{
+    let mut jobs = jobs;
+    let mut closer = closer;
+    if begun.tell() {
+        let task = Task {
+            lines,
+            senders,
+            keyed,
+            flush_every,
+        };
+        run_senders(rt, jobs.as_mut_slice(), task, gate);
+    }
+    closer.close();
+    jobs
+}
+
+/// Runs the service, once the senders run.
+fn serve<R>(rt: &R, service: Service, begun: &Begun) -> Result<Ended, RunFault>
+where
+    R: Wait + Clock + RandomSource + AllocGlobal + Net,
+    ensures { IfOk result (λ ended. lanes_of (parts_in ended).intake ≡ lanes_of (intake_of service)) }
+{
+    if !begun.wait(rt) {
+        return Err(RunFault::OutOfMemory);
+    }
+    let ended = service.run(rt)?;
+    if ended.ending() == Ending::OutOfMemory {
+        return Err(RunFault::OutOfMemory);
+    }
+    Ok(ended)
+}
+
+/// Runs the senders and the service to their ends: the senders in a thread of their own, since the service stays where its
+/// event loop is.
+fn run_all<R, G>(
+    rt: &R,
+    jobs: Vec<Job>,
+    task: Task<'_>,
+    gate: &G,
+    closer: Closer,
+    service: Service,
+) -> Result<(Vec<Job>, Ended), RunFault>
+where
+    R: Wait + Threads + Clock + RandomSource + AllocGlobal + Sync,
+    R: Net<Listener = TcpListener, Stream = TcpStream>,
+    G: Gate + Sync,
+    requires { All (HasTried (deal_of task) 0) jobs.items }
+    ensures ran { IfOk result (λ out. HaveRun (deal_of task.entry) jobs.items out.0.items) }
+    ensures lanes { IfOk result (λ out. lanes_of (parts_in out.1).intake ≡ lanes_of (intake_of service)) }
+{
+    let Task {
+        lines,
+        senders,
+        keyed,
+        flush_every,
+    } = task;
+    let begun = Begun::new();
+    let shared = &begun;
+    let (jobs, ended) = thread::join(
+        rt,
+        move ||
+            requires { All (HasTried (dealt lines.now senders keyed) 0) jobs.items }
+        {
+            send_all(
+                rt,
+                jobs,
+                lines,
+                senders,
+                keyed,
+                flush_every,
+                gate,
+                closer,
+                shared,
+            )
+        },
+        move || serve(rt, service, shared),
+    );
+    Ok((jobs, ended?))
+}
+
+/// Opens a producer over the broker at this address, and sends the lines. Timestamps are by the clock on the wall, or
+/// count from now.
+pub(crate) fn produce<R, G>(
+    rt: &R,
+    settings: Settings,
+    wall: bool,
+    keyed: bool,
+    flush_every: Option<u64>,
+    address: SocketAddr,
+    lines: &[&[u8]],
+    gate: &G,
+) -> Result<Produced, RunFault>
+where
+    R: Wait + Threads + Clock + RandomSource + AllocGlobal + Sync,
+    R: Net<Listener = TcpListener, Stream = TcpStream>,
+    G: Gate + Sync,
+    ensures lines { IfOk result (λ produced. Comes (dealt lines.now settings.senders keyed) (largest settings.config) produced.accepted produced.reports.items) }
+    ensures in_order { IfOk result (λ produced. IsSorted by_place produced.reports.items) }
+{
+    let alloc = rt.alloc();
+    let stamps = Stamps::new(Instant::now(rt)?, wall);
+    let senders = settings.senders;
+    let opened = open(rt, address, settings)?;
+    let Opened {
+        producers,
+        closer,
+        service,
+    } = opened;
+    let jobs = jobs_of(alloc, producers, stamps)?;
+    let task = Task {
+        lines,
+        senders,
+        keyed,
+        flush_every,
+    };
+    let (ran, ended) = run_all(rt, jobs, task, gate, closer, service)?;
+    gather(alloc, ran, ended, senders)
+}

@@ -1,0 +1,193 @@
+//! A run, from its lines to what became of them.
+
+ghost use Rattle.std.specs.Prelude.{◌≡◌, IfOk};
+ghost use Rattle.kp_run.specs.Dealing.{asked, dealt};
+ghost use Rattle.kp_run.specs.Runs.{CameOf, IsHere, IsProduced};
+ghost use Rattle.kp_run.specs.Settings.{largest};
+ghost use Rattle.kp_run.specs.Served.{ServesAll};
+
+use crate::broker_thread::{end, serve_all};
+use crate::fault::RunFault;
+use crate::gate::Gate;
+use crate::gathering::Produced;
+use crate::options::{Checked, Options, Place};
+use crate::producing::produce;
+use kp_broker::Broker;
+use kp_client::Settings;
+use kp_core::{Core, Report};
+use std::alloc::AllocGlobal;
+use std::net::{Ipv4Addr, Net, SocketAddr, TcpListener, TcpStream};
+use std::random::RandomSource;
+use std::sync::Wait;
+use std::sync::atomic::AtomicBool;
+use std::thread::{self, Threads};
+use std::time::Clock;
+
+/// What came of a run.
+#[derive(Drop)]
+pub struct Came {
+    /// The broker, where it is one of this process.
+    pub broker: Option<Broker>,
+    /// The core, with the partitions' producer ids and the audit, where one is kept.
+    pub core: Core,
+    /// How many records the senders' lanes accepted.
+    pub accepted: u64,
+    /// What became of them, by sender, partition and number.
+    pub reports: Vec<Report>,
+}
+
+/// What came of what was produced.
+fn came_of(broker: Option<Broker>, produced: Produced) -> Came
+    ensures broker { result.broker ≡ broker }
+    ensures core { result.core ≡ produced.core }
+    ensures accepted { result.accepted ≡ produced.accepted }
+    ensures reports { result.reports ≡ produced.reports }
+{
+    let Produced {
+        accepted,
+        reports,
+        core,
+    } = produced;
+    Came {
+        broker,
+        core,
+        accepted,
+        reports,
+    }
+}
+
+/// Sends the lines, dealt out to the senders one by one.
+pub fn run_lines<R, G>(
+    rt: &R,
+    checked: &Checked<'_>,
+    lines: &[&[u8]],
+    gate: &G,
+) -> Result<Came, RunFault>
+where
+    R: Wait + Threads + Clock + RandomSource + AllocGlobal + Sync,
+    R: Net<Listener = TcpListener, Stream = TcpStream>,
+    G: Gate + Sync,
+    ensures { IfOk result (CameOf checked.now lines.now) }
+{
+    match checked.options.place {
+        Place::At(address) => {
+            let produced = produce_at(rt, &checked.options, address, lines, gate)?;
+            Ok(came_of(None, produced))
+        }
+        Place::Here(_) => run_here(rt, checked, lines, gate),
+    }
+}
+
+/// Sends them to the broker at this address.
+fn produce_at<R, G>(
+    rt: &R,
+    options: &Options<'_>,
+    address: SocketAddr,
+    lines: &[&[u8]],
+    gate: &G,
+) -> Result<Produced, RunFault>
+where
+    R: Wait + Threads + Clock + RandomSource + AllocGlobal + Sync,
+    R: Net<Listener = TcpListener, Stream = TcpStream>,
+    G: Gate + Sync,
+    ensures { IfOk result (λ p. IsProduced (asked options.now lines.now) (largest options.now.config) p.accepted p.reports.items) }
+{
+    let settings = options.settings(rt.alloc())?;
+    let (keyed, flush_every) = (options.keyed, options.flush_every);
+    produce(rt, settings, true, keyed, flush_every, address, lines, gate)
+}
+
+/// Sends them to a broker that is served at a free port in a thread of this process.
+fn run_here<R, G>(
+    rt: &R,
+    checked: &Checked<'_>,
+    lines: &[&[u8]],
+    gate: &G,
+) -> Result<Came, RunFault>
+where
+    R: Wait + Threads + Clock + RandomSource + AllocGlobal + Sync,
+    R: Net<Listener = TcpListener, Stream = TcpStream>,
+    G: Gate + Sync,
+    requires { IsHere checked.now.options.place }
+    ensures { IfOk result (CameOf checked.now lines.now) }
+{
+    let listener = TcpListener::bind(rt, SocketAddr::from((Ipv4Addr::LOCALHOST, 0)))?;
+    let address = listener.local_addr()?;
+    let options = &checked.options;
+    let partitions = options.own_partitions();
+    let broker = Broker::new(rt.alloc(), options.topic, partitions, address.port())?;
+    let both = serve_and_produce(rt, checked, lines, gate, &listener, address, broker)?;
+    let (broker, produced) = both;
+    Ok(came_of(Some(broker), produced))
+}
+
+/// Serves the broker in a thread, and sends the lines to it from this one.
+fn serve_and_produce<R, G>(
+    rt: &R,
+    checked: &Checked<'_>,
+    lines: &[&[u8]],
+    gate: &G,
+    listener: &TcpListener,
+    address: SocketAddr,
+    broker: Broker,
+) -> Result<(Broker, Produced), RunFault>
+where
+    R: Wait + Threads + Clock + RandomSource + AllocGlobal + Sync,
+    R: Net<Listener = TcpListener, Stream = TcpStream>,
+    G: Gate + Sync,
+    ensures served { IfOk result (λ both. ServesAll checked.now.plan broker both.0) }
+    ensures produced { IfOk result (λ both. IsProduced (asked checked.now.options lines.now) (largest checked.now.options.config) both.1.accepted both.1.reports.items) }
+{
+    let options = &checked.options;
+    let settings = options.settings(rt.alloc())?;
+    let (keyed, flush_every) = (options.keyed, options.flush_every);
+    let plan = &checked.plan;
+    let over = AtomicBool::new(false);
+    let shared = &over;
+    let (broker, produced) = thread::join(
+        rt,
+        move || serve_all(listener, broker, plan, shared),
+        move || produce_and_end(
+            rt,
+            settings,
+            keyed,
+            flush_every,
+            address,
+            lines,
+            gate,
+            shared,
+        ),
+    );
+    Ok((broker, produced?))
+}
+
+/// Sends them, with timestamps that count from now, and ends the broker's thread.
+fn produce_and_end<R, G>(
+    rt: &R,
+    settings: Settings,
+    keyed: bool,
+    flush_every: Option<u64>,
+    address: SocketAddr,
+    lines: &[&[u8]],
+    gate: &G,
+    over: &AtomicBool,
+) -> Result<Produced, RunFault>
+where
+    R: Wait + Threads + Clock + RandomSource + AllocGlobal + Sync,
+    R: Net<Listener = TcpListener, Stream = TcpStream>,
+    G: Gate + Sync,
+    ensures { IfOk result (λ p. IsProduced (dealt lines.now settings.senders keyed) (largest settings.config) p.accepted p.reports.items) }
+{
+    let produced = produce(
+        rt,
+        settings,
+        false,
+        keyed,
+        flush_every,
+        address,
+        lines,
+        gate,
+    );
+    end(rt, address, over);
+    produced
+}
