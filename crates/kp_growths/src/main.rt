@@ -3,6 +3,7 @@
 //! are made first, so that a run which always refuses the same growth refuses each of the calls' own in turn.
 #![tactic(auto)]
 
+mod counts;
 mod frames;
 mod lanes;
 mod logs;
@@ -287,6 +288,7 @@ fn outcome_of<R: Files + AllocGlobal>(rt: &R) -> Outcome {
         copied(alloc, record),
         wrote,
         read(alloc, &bytes),
+        Outcome::of(counts::are_short(alloc)),
         offer(alloc, &bytes),
         logs::shared(alloc, &bytes),
         frames::request_with(alloc, &bytes),

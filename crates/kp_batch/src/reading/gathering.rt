@@ -1,6 +1,6 @@
 //! Records one after the other, and what is known of them on the way.
 
-ghost use Rattle.std.specs.Prelude.{◌≡◌, length, pos};
+ghost use Rattle.std.specs.Prelude.{◌≡◌, length, pos, OnOk};
 ghost use Rattle.std.specs.Ordering.{int_eq};
 ghost use Rattle.kp_wire.specs.Codec.{read_many};
 ghost use Rattle.kp_batch.specs.Record.{relative_record};
@@ -11,7 +11,7 @@ use crate::record::{Record, Timestamp};
 use crate::relative::RelativeRecord;
 use crate::summary::Summary;
 use kp_wire::{ReadError, Seq};
-use std::alloc::Global;
+use std::alloc::{AllocError, Global};
 
 /// The size of a record whose fields are all empty.
 const LEAST_RECORD: usize = 7;
@@ -52,6 +52,17 @@ fn moment(summary: &Summary, relative: &RelativeRecord, k: u32) -> Option<Timest
     )
 }
 
+/// Makes room for so many records in all, once a first one was read: a count with nothing behind it takes no memory.
+#[inline]
+fn reserve_behind(k: u32, records: &mut Vec<Record>, count: usize) -> Result<(), AllocError>
+    ensures { OnOk result (records.new.items ≡ records.old.items) }
+{
+    if k == 0 {
+        records.reserve(count)?;
+    }
+    Ok(())
+}
+
 /// So many records, and the bytes behind them.
 pub(super) fn gather<'a>(
     alloc: Global,
@@ -62,13 +73,14 @@ pub(super) fn gather<'a>(
     ensures { Gathers summary.now.base_timestamp (λ rest. rest.now) result (read_many relative_record.read count bytes.now) }
 {
     let most = bytes.len() / LEAST_RECORD;
-    let mut records = Vec::with_capacity(alloc, most.min(count as usize))?;
+    let mut records = Vec::new(alloc);
     let mut greatest = 0u64;
     let mut in_places = true;
     let mut timed = true;
     let mut rest = bytes;
     for k in 0..count {
         let (relative, behind) = read_record(alloc, rest)?;
+        reserve_behind(k, &mut records, most.min(count as usize))?;
         rest = behind;
         in_places = in_places && is_in_place(&relative, k);
         match moment(summary, &relative, k) {

@@ -14,11 +14,11 @@ use Rattle.kp_batch.proofs.reading.gathering.gather.Goals as goal
 use Rattle.kp_batch.proofs.reading.gathering.gather.Goals.{then-in_places, else-in_places, in-Some+in_ok-push-in-Some, in_default, in_default-via-in-Some+else-timed, in_default-via-in_default}
 
 pub loop-k-init : goal.loop-k-init
-loop-k-init c = rw c.in_ok-records.ensures.items ([], so_far_none c.args.summary.now.base_timestamp c.args.count c.args.bytes.now)
+loop-k-init c = rw c.new-records.ensures.items ([], so_far_none c.args.summary.now.base_timestamp c.args.count c.args.bytes.now)
 
 pub returns-in_err-relative : goal.returns-in_err-relative
 returns-in_err-relative c =
-    let p = err_from_is_err_and c.from_residual-in_err-relative.result c.from_residual-in_err-relative.ensures.1 in
+    let p = err_from_is_err_and c.from_residual.result c.from_residual.ensures.1 in
     rw (p.1, p.2) (ends c.in_err-relative.field-0.0 relative_record.read c.loop-k.invariant.0 c.args.count c.loop-k.k c.loop-k.rest.now _ c.loop-k-test.true c.in_err-relative.ensures c.loop-k.invariant.1.reads)
 
 pub loop-k-preserved : goal.loop-k-preserved
@@ -40,14 +40,14 @@ loop-k-preserved c =
           | in-Some+in_ok-push-in-Some w ↦
               let fits : FitsSigned w64 w.millis.result = rw w.millis.ensures.value (record { sfits = w.millis.ensures.fits }) in
               let is : w.max-greatest.result ≡ _ = w.max-greatest.ensures in
-              rw (w.records-is, w.greatest-is, w.timed-is, w.if-timed.true, w.in_ok-push-in-Some.ensures.items, is, to_z-of_z, w.millis.ensures.value)
+              rw (w.records-is, w.greatest-is, w.timed-is, w.if-timed.true, w.in_ok-push-in-Some.ensures.items, c.in_ok-reserve_behind.ensures, is, to_z-of_z, w.millis.ensures.value)
               (known_more base front so_far_g r c.loop-k.k w.in-Some.timestamp c.if-in_places.in_places so_far.many so_far.known w.if-timed.true w.in-Some.ensures place)
           | in_default w ↦
               let late : (c.loop-k.timed ≡ false) ⊎ (None ≡ timely_moment base c.loop-k.k r) = elim w.in_default.branch [
                 | in_default-via-in-Some+else-timed w' ↦ inl w'.if-timed.false
                 | in_default-via-in_default w' ↦ inr w'.in_default.ensures
               ] in
-              rw (w.records-is, w.greatest-is, w.timed-is) (known_late base front so_far_g r c.loop-k.k c.if-in_places.in_places so_far.many so_far.known late place)
+              rw (w.records-is, w.greatest-is, w.timed-is, c.in_ok-reserve_behind.ensures) (known_late base front so_far_g r c.loop-k.k c.if-in_places.in_places so_far.many so_far.known late place)
         ];
       },
     )
