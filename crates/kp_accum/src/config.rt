@@ -7,7 +7,7 @@ ghost use Rattle.kp_accum.specs.Config.{is_outside, checked};
 use crate::fault::ConfigFault;
 
 /// A batch's and a request's most bytes: 8 MiB.
-const SIZE_LIMIT: u64 = 8_388_608;
+const REQUEST_LIMIT: u64 = 8_388_608;
 
 /// The longest wait before a batch is sent, or sent again: a day, in milliseconds.
 const WAIT_LIMIT: u64 = 86_400_000;
@@ -76,7 +76,7 @@ impl Config {
     pub fn check(&self) -> Result<(), ConfigFault>
         ensures { result ≡ checked self.now }
     {
-        if is_outside(0, SIZE_LIMIT, self.batch_size) {
+        if is_outside(0, REQUEST_LIMIT, self.batch_size) {
             return Err(ConfigFault::BatchSize);
         }
         if is_outside(0, WAIT_LIMIT, self.linger_ms) {
@@ -85,7 +85,7 @@ impl Config {
         if is_outside(SIZE_LEAST, MEMORY_LIMIT, self.buffer_memory) {
             return Err(ConfigFault::BufferMemory);
         }
-        if is_outside(SIZE_LEAST, SIZE_LIMIT, self.max_request_size) {
+        if is_outside(SIZE_LEAST, REQUEST_LIMIT, self.max_request_size) {
             return Err(ConfigFault::MaxRequestSize);
         }
         if is_outside(1, TIMEOUT_LIMIT, self.request_timeout_ms) {
