@@ -5,6 +5,7 @@ mod as_record;
 mod batch;
 mod fault;
 pub mod laws;
+mod layout;
 mod reading;
 mod record;
 mod relative;

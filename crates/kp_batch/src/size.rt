@@ -7,6 +7,7 @@ ghost use Rattle.kp_batch.specs.Record.{bytes_or_null, header, headers, fields_s
 ghost use Rattle.kp_batch.specs.Spelling.{relative_by, base_timestamp, measured, up_to_limit, size_of_batch};
 
 use crate::as_record::AsRecord;
+use crate::layout::RECORDS_AT;
 use crate::record::{Header, Record, Timestamp};
 use kp_wire::{Blob, varint_len, varlong_len};
 
@@ -17,7 +18,7 @@ pub const SIZE_LIMIT: u64 = 2147483647;
 const TOO_LARGE: u64 = SIZE_LIMIT + 1;
 
 /// The size of what stands before a batch's records.
-pub(crate) const HEAD_SIZE: u64 = 61;
+const HEAD_SIZE: u64 = RECORDS_AT as u64;
 
 /// The most bytes that a VARINT takes.
 const VARINT_ROOM: usize = 5;
@@ -228,7 +229,7 @@ fn record_room(body: &Record) -> usize
 pub(crate) fn room_for<T: AsRecord>(records: &[T]) -> usize
     ensures { up_to_limit (size_of_batch (map T.body records.now)) ≤ result }
 {
-    let mut room = HEAD_SIZE as usize;
+    let mut room = RECORDS_AT;
     for item in records {
         room = room.saturating_add(record_room(item.as_record()));
     }

@@ -12,6 +12,7 @@ ghost use Rattle.kp_batch.specs.Spelling.{front, head, summary, relative_by, rel
 
 use crate::as_record::AsRecord;
 use crate::batch::BatchHead;
+use crate::layout::{CHECKSUM_AT, COVERED_AT, LENGTH_AT, LENGTH_END, MAGIC};
 use crate::record::{Header, Record, Timestamp};
 use crate::size::{SIZE_LIMIT, record_fields_size, room_for};
 use crate::summary::{Front, Summary};
@@ -20,21 +21,6 @@ use kp_wire::{
     put_varint, put_varlong,
 };
 use std::alloc::{AllocError, Global};
-
-/// Where a batch's length stands.
-const LENGTH_AT: usize = 8;
-
-/// Where begins what the length counts.
-const LENGTH_END: usize = 12;
-
-/// The magic byte that is written.
-const MAGIC: i8 = 2;
-
-/// Where the checksum stands.
-const CHECKSUM_AT: usize = 17;
-
-/// Where begins what the checksum covers.
-const COVERED_AT: usize = 21;
 
 /// Appends the bytes behind their length. An `Err` may leave a part.
 #[inline(always)]

@@ -7,17 +7,12 @@ ghost use Rattle.kp_batch.specs.Reading.{is_short, is_misfit, is_counted, opened
 
 use crate::batch::BatchHead;
 use crate::fault::BatchFault;
+use crate::layout::{LENGTH_END, MAGIC, RECORDS_AT};
 use crate::summary::{Front, Summary};
 use kp_wire::{WireFault, crc32c, read_i8, read_i16, read_i32, read_i64, read_u32};
 
-/// The batch length of a batch that has no record: 61 bytes less the 12 of the offset and the length.
-const LEAST_LENGTH: i32 = 49;
-
-/// The bytes of the base offset and of the batch length, which the batch length doesn't count.
-const BEFORE_LENGTH: usize = 12;
-
-/// The only magic byte that is read.
-const MAGIC: i8 = 2;
+/// The batch length of a batch that has no record.
+const LEAST_LENGTH: i32 = (RECORDS_AT - LENGTH_END) as i32;
 
 #[tactic(auto, unfolding(crate::specs::Spelling::front))]
 fn read_front(bytes: &[u8]) -> Result<(Front, &[u8]), WireFault>
@@ -78,14 +73,14 @@ fn read_summary(bytes: &[u8]) -> Result<(Summary, &[u8]), WireFault>
 fn is_short(front: &Front, size: usize) -> bool
     ensures { result ≡ is_short front.now size }
 {
-    front.batch_length >= LEAST_LENGTH && size < front.batch_length as usize + BEFORE_LENGTH
+    front.batch_length >= LEAST_LENGTH && size < front.batch_length as usize + LENGTH_END
 }
 
 #[tactic(auto, unfolding(crate::specs::Reading::is_misfit))]
 fn is_misfit(front: &Front, size: usize) -> bool
     ensures { result ≡ is_misfit front.now size }
 {
-    front.batch_length < LEAST_LENGTH || front.batch_length as usize + BEFORE_LENGTH < size
+    front.batch_length < LEAST_LENGTH || front.batch_length as usize + LENGTH_END < size
 }
 
 #[tactic(auto, unfolding(crate::specs::Reading::is_counted))]
