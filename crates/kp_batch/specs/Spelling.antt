@@ -4,7 +4,6 @@ use Rattle.std.specs.List.{flat_map, AllByRecursion}
 use Rattle.std.specs.Int.{w8, w16, w32, w64}
 use Rattle.kp_wire.specs.Codec.{Codec, int, number, pair, made}
 use Rattle.kp_wire.specs.Checksum.{crc}
-use Rattle.kp_batch.specs.declared.size.TheConstants.{SIZE_LIMIT}
 use Rattle.kp_batch.specs.declared.batch.Batch.{Batch}
 use Rattle.kp_batch.specs.declared.batch.BatchHead.{BatchHead}
 use Rattle.kp_batch.specs.declared.record.Record.{Record}
@@ -111,13 +110,17 @@ written h rs = record { base_offset = pos 0; leader_epoch = negsuc 0; head = h; 
 
 -- ---- sizes
 
+-- the most bytes of a batch: the greatest int32
+abbrev pub size_limit : ℕ
+size_limit = 2147483647
+
 -- the size, or the greatest number of 64 bits once it is above the limit
 unfoldable pub measured : ℕ → ℕ
-measured n = if nat_le n SIZE_LIMIT then n else 2 ^ 64 - 1
+measured n = if nat_le n size_limit then n else 2 ^ 64 - 1
 
 -- the size, or the least above the limit
 abbrev pub up_to_limit : ℕ → ℕ
-up_to_limit n = min n (SIZE_LIMIT + 1)
+up_to_limit n = min n (size_limit + 1)
 
 -- the fields before the records have 61 bytes
 unfoldable pub size_of_batch : List Record → ℕ
