@@ -6,7 +6,6 @@ use Rattle.kp_wire.specs.Reading.{Read, ◌>>=◌, refuse}
 use Rattle.kp_wire.specs.Codec.{Codec, int, sized, plain, read_bytes}
 use Rattle.kp_frames.specs.declared.fault.FrameFault.{FrameFault}
 use Rattle.kp_frames.specs.declared.fault.FrameFault.TheVariants.{TooLarge}
-use Rattle.kp_frames.specs.declared.frame.TheConstants.{CONTENT_LIMIT}
 use Rattle.kp_frames.specs.Fault.{in_message}
 
 -- ---- one frame
@@ -15,9 +14,13 @@ use Rattle.kp_frames.specs.Fault.{in_message}
 unfoldable pub frame : Codec (List ℕ)
 frame = sized (int w32) length plain
 
+-- the most bytes of a content: 16 MiB
+abbrev pub content_limit : ℕ
+content_limit = 16777216
+
 -- the size of no frame
 unfoldable pub is_no_size : ℤ → Bool
-is_no_size size = int_lt size (pos 0) || int_lt (pos CONTENT_LIMIT) size
+is_no_size size = int_lt size (pos 0) || int_lt (pos content_limit) size
 
 -- The content of the frame at the front, and the bytes behind it. Short where it is not whole, TooLarge where its size
 -- is that of no frame.
@@ -46,7 +49,7 @@ pub record Split : Type 0 where
 -- The bytes are these frames and this rest, and the rest holds no whole frame.
 pub record Splits (bytes : List ℕ) (s : Split) : Type 0 where
   pub parts : bytes ≡ flat_map frame.spell s.frames ++ s.rest
-  pub sizes : AllByRecursion (λ content. length content ≤ CONTENT_LIMIT) s.frames
+  pub sizes : AllByRecursion (λ content. length content ≤ content_limit) s.frames
   pub no_more : IsErr (first s.rest)
 
 -- the frame at the front, if it is whole, and what is behind it split in this way
