@@ -1,6 +1,6 @@
 //! What a turn has moved.
 
-ghost use Rattle.std.specs.Prelude.{◌≡◌};
+ghost use Rattle.std.specs.Prelude.{◌≡◌, false, slice_index_or};
 
 use crate::turned::Turned;
 
@@ -117,7 +117,9 @@ impl Moves {
     }
 
     /// Whether something was taken from the sender's lane, or handed to the sender.
-    pub fn serves(&self, sender: usize) -> bool {
+    pub fn serves(&self, sender: usize) -> bool
+        ensures { result ≡ slice_index_or self.now.served sender false }
+    {
         self.served.get(sender).copied().unwrap_or(false)
     }
 }
