@@ -1,0 +1,3 @@
+pub mod Polling
+pub mod Around
+pub mod Laws

@@ -1,0 +1,6 @@
+//! The laws of every run, of any polls of an engine: whatever it is polled, over whatever streams, with any brokers and any
+//! network around its calls.
+#![tactic(auto)]
+
+pub mod laws;
+pub mod polling;
