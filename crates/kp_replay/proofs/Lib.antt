@@ -1,3 +1,10 @@
+pub mod AcceptedLemmas
 pub mod FetchingLemmas
 pub mod TellingLemmas
 pub mod ShownLemmas
+pub mod AcceptingLemmas
+pub mod KindLemmas
+pub mod ReachedLemmas
+pub mod OrderLemmas
+pub mod HearingLemmas
+pub mod OtherLemmas

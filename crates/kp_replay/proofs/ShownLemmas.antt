@@ -1,10 +1,11 @@
 -- An event of the world that is seen is the event of its world.
-use Rattle.std.proofs.Common.{◌≡◌, ℕ, zero, suc, ◌+◌, ◌≤◌, Bool, true, false, not, cond, ◌&&◌, List, [], ◌∷◌, ◌++◌, length, get_or, map, replicate, eqb, Result, Ok, Err, OnOk, refl, sym, ap, subst, ◌∙◌, append-nil, append_assoc, length-append, arith}
+use Rattle.std.proofs.Common.{◌≡◌, ℕ, zero, suc, ◌+◌, ◌≤◌, Bool, true, false, not, cond, ◌&&◌, List, [], ◌∷◌, ◌++◌, length, get_or, set, map, replicate, eqb, Result, Ok, Err, OnOk, refl, sym, ap, subst, ◌∙◌, append-nil, append_assoc, length-append, arith}
 use Rattle.std.specs.List.{enumerate_from, flat_map, range_with_len}
-use Rattle.std.proofs.lemmas.List.{length-map, map-append, length-replicate}
+use Rattle.std.proofs.lemmas.List.{length-map, length-set, map-append, length-replicate}
 use Rattle.std.proofs.lemmas.List.FromFn.{length-enumerate_from}
 use Rattle.std.proofs.lemmas.Bool.Decides.{nat_tests}
 use Rattle.std.proofs.Math.Seq.{get_or-append_seam}
+use Rattle.kp_accum.specs.Config.{checked}
 use Rattle.kp_accum.specs.declared.config.Config.{Config}
 use Rattle.kp_accum.specs.declared.item.Item.{Item}
 use Rattle.kp_rules.specs.declared.outcome.Report.{Report}
@@ -20,10 +21,10 @@ use Rattle.kp_rules.proofs.FetchedLemmas.{tick_behind, end_behind, disconnect_be
 use Rattle.kp_rules.proofs.OrderedCallLemmas.{length-reports}
 use Rattle.kp_log.specs.History.{empty_history}
 use Rattle.kp_log.specs.KeptBatches.{IsHistoryOf, kept_in}
-use Rattle.kp_log.specs.Log.{empty}
+use Rattle.kp_log.specs.Log.{Log, empty}
 use Rattle.kp_rules.specs.Auditing.{opened}
 use Rattle.kp_rules.specs.Opening.{new_core}
-use Rattle.kp_rules.specs.Partitions.{all_untold, is_empty}
+use Rattle.kp_rules.specs.Partitions.{all_untold, is_empty, new_partition}
 use Rattle.kp_world.specs.Client.{client, flush_line}
 use Rattle.kp_world.specs.Line.{Line}
 use Rattle.kp_world.specs.Line as line
@@ -32,6 +33,7 @@ use Rattle.kp_world.specs.Replay.{stepped}
 use Rattle.kp_world.specs.World.{World, Happened, names, opening, scheduled}
 use Rattle.kp_world.specs.declared.event.Event.{Event}
 use Rattle.kp_world.specs.declared.event.Event.TheVariants as event
+use Rattle.kp_replay.specs.Bounds.{IsInBounds}
 use Rattle.kp_replay.specs.Fetching.{all_fetched, by_sender}
 use Rattle.kp_replay.specs.Shown.{Each, LeadsOn, Noted, Seen, Shows, noted_of, with_noted}
 use Rattle.kp_replay.proofs.TellingLemmas.{Tells, tells-quietly, tells-tick, tells-end, tells-disconnect, tells-close, tells-flush}
@@ -70,6 +72,9 @@ told-by_sender told xs = told-from told 0 xs
 module _ {A : Type 0} (call : Core → Called A) (behind : (r : List (List Report)) (s : Core) → call (with_fetched r s) ≡ after_fetched r (call s)) (tells : (s : Core) → Tells s (call s)) where
   at-fetched : (s : Core) → call s ≡ after_fetched s.reports (call (all_fetched s))
   at-fetched s = ap call (sym (refetched s)) ∙ behind s.reports (all_fetched s)
+
+  pub same-answer : (s : Core) → (call s).answer ≡ (call (all_fetched s)).answer
+  same-answer s = ap (λ (x : Called A). x.answer) (at-fetched s)
 
   same-told : (s : Core) → (call s).told ≡ (call (all_fetched s)).told
   same-told s = ap (λ (x : Called A). x.told) (at-fetched s)
@@ -130,6 +135,18 @@ module _ {A : Type 0} (call : Core → Called A) (behind : (r : List (List Repor
       past : a.past ++ (record { answer = ls; reports = by_sender (call a.core).after.reports; flushed = not (is_flushed a.core) && is_flushed (call a.core).after }) ∷ [] ≡ map (noted_of (length w.accepted)) (w.past ++ happened ∷ [])
       past = (λ i. sh.past i ++ one i ∷ []) ∙ sym (map-append (noted_of (length w.accepted)) w.past (happened ∷ []))
 
+-- the bounds speak of the configuration, and of how many senders and partitions there are
+pub kept-within : {accepted taken logs moment : ℕ} (s t : Core) → t.config ≡ s.config → length t.reports ≡ length s.reports → length t.partitions ≡ length s.partitions → IsInBounds s accepted taken logs moment → IsInBounds t accepted taken logs moment
+kept-within s t config reports partitions bounds = record {
+  config = ap checked config ∙ bounds.config;
+  partitions = omega (arith, partitions, bounds.partitions);
+  senders = omega (arith, reports, bounds.senders);
+  accepted = bounds.accepted ∙ sym reports;
+  taken = bounds.taken ∙ sym reports;
+  logs = bounds.logs ∙ sym partitions;
+  moment = bounds.moment;
+}
+
 -- ---- the events
 
 at-moment : (c : Config) (w : World) (a : Seen) (m : ℕ) → Shows c w a → Shows c (record w { moment = m }) (record a { moment = m })
@@ -168,7 +185,7 @@ shut c w a sh = record {
 
 pub now-leads : (a b : Seen) (m : ℕ) → b ≡ with_noted [] (is_flushed a.core) (record a { moment = m }) → LeadsOn (event.Now m) a b
 unfolding stepped client
-now-leads a b m is = λ c w sh. (
+now-leads a b m is = λ c w replayed sh. (
   noted w.core [] [] (record w { moment = m }),
   refl,
   subst (Shows c (noted w.core [] [] (record w { moment = m }))) (sym is)
@@ -177,7 +194,7 @@ now-leads a b m is = λ c w sh. (
 
 pub drop-leads : (a b : Seen) → b ≡ with_noted [] (is_flushed a.core) (record a { core = disconnect_step a.moment a.core }) → LeadsOn event.Drop a b
 unfolding stepped client
-drop-leads a b is = λ c w sh.
+drop-leads a b is = λ c w replayed sh.
     let call : Core → Called (Unit {0}) = λ s. quietly (disconnect_step w.moment s) (tt {0}) in
     let same : b ≡ with_noted [] (is_flushed a.core) (record a { core = disconnect_step w.moment a.core }) = is ∙ ap (λ m. with_noted [] (is_flushed a.core) (record a { core = disconnect_step m a.core })) sh.moment in (
       noted (disconnect_step w.moment w.core) [] [] w,
@@ -188,7 +205,7 @@ drop-leads a b is = λ c w sh.
 
 pub close-leads : (a b : Seen) → b ≡ with_noted [] (is_flushed a.core) (record a { core = close_step a.core; is_shut = true }) → LeadsOn event.Close a b
 unfolding stepped client
-close-leads a b is = λ c w sh.
+close-leads a b is = λ c w replayed sh.
     let call : Core → Called (Unit {0}) = λ s. quietly (close_step s) (tt {0}) in (
       noted (close_step w.core) [] [] (record w { is_shut = true }),
       refl,
@@ -198,7 +215,7 @@ close-leads a b is = λ c w sh.
 
 pub end-leads : (a b : Seen) → b ≡ with_noted [] (is_flushed a.core) (record a { core = (end_step a.core).after }) → LeadsOn event.End a b
 unfolding stepped client
-end-leads a b is = λ c w sh. (
+end-leads a b is = λ c w replayed sh. (
   noted (end_step w.core).after [] (end_step w.core).told w,
   refl,
   subst (Shows c (noted (end_step w.core).after [] (end_step w.core).told w)) (sym is)
@@ -211,7 +228,7 @@ tick_line reconnect = cond reconnect (line.Reconnect ∷ []) []
 
 pub tick-leads : (a b : Seen) → b ≡ with_noted (tick_line (tick_step a.moment a.core).answer.reconnect) (is_flushed a.core) (record a { core = (tick_step a.moment a.core).after }) → LeadsOn event.Tick a b
 unfolding stepped client
-tick-leads a b is = λ c w sh.
+tick-leads a b is = λ c w replayed sh.
     let answer : (tick_step a.moment a.core).answer ≡ (tick_step w.moment w.core).answer = (λ i. (tick_step (sh.moment i) (sh.core i)).answer) ∙ sym (ap (λ (x : Called Ticked). x.answer) (at-fetched (tick_step w.moment) (λ r s. tick_behind r w.moment s) (tells-tick w.moment) w.core)) in
     let same : b ≡ with_noted (tick_line (tick_step w.moment w.core).answer.reconnect) (is_flushed a.core) (record a { core = (tick_step w.moment a.core).after }) =
     is ∙ (λ i. with_noted (tick_line (answer i).reconnect) (is_flushed a.core) (record a { core = (tick_step (sh.moment i) a.core).after })) in
@@ -224,7 +241,7 @@ tick-leads a b is = λ c w sh.
 
 pub flush-leads : (a b : Seen) → b ≡ with_noted (flush_line a.core ∷ []) (is_flushed a.core) (record a { core = flush_step a.core }) → LeadsOn event.Flush a b
 unfolding stepped client
-flush-leads a b is = λ c w sh.
+flush-leads a b is = λ c w replayed sh.
     let call : Core → Called (Unit {0}) = λ s. quietly (flush_step s) (tt {0}) in
     let same : b ≡ with_noted (flush_line w.core ∷ []) (is_flushed a.core) (record a { core = flush_step a.core }) =
     is ∙ ap (λ s. with_noted (flush_line s ∷ []) (is_flushed a.core) (record a { core = flush_step a.core })) sh.core in (
@@ -275,16 +292,42 @@ opened-shows c partitions senders a core accepted taken packets replies logs dra
   past = past;
 }
 
-pub opened-within : (c : Config) (partitions senders : ℕ) (s : Core) → s ≡ opened true (new_core c names partitions senders 1000 2) → senders ≤ 64 → length s.reports ≤ 64
+pub more-taken : {s : Core} {accepted logs moment : ℕ} (taken : List ℕ) (sender n : ℕ) → IsInBounds s accepted (length taken) logs moment → IsInBounds s accepted (length (set taken sender n)) logs moment
+more-taken taken sender n bounds = record {
+  config = bounds.config;
+  partitions = bounds.partitions;
+  senders = bounds.senders;
+  accepted = bounds.accepted;
+  taken = length-set taken sender n ∙ bounds.taken;
+  logs = bounds.logs;
+  moment = bounds.moment;
+}
+
+pub opened-within : (c : Config) (partitions senders : ℕ) (s : Core) → s ≡ opened true (new_core c names partitions senders 1000 2) → checked c ≡ Ok tt → partitions ≤ 1024 → senders ≤ 64
+    → (accepted : List (List Item)) → accepted ≡ replicate senders [] → (taken : List ℕ) → taken ≡ replicate senders 0 → (logs : List Log) → logs ≡ replicate partitions empty → (moment : ℕ) → moment ≡ 0 → IsInBounds s (length accepted) (length taken) (length logs) moment
 unfolding new_core
-opened-within c partitions senders s is few = omega (arith, ap (λ (s : Core). length s.reports) is, length-replicate {A = List Report} senders [])
+opened-within c partitions senders s is let_through few_partitions few_senders accepted accepted-is taken taken-is logs logs-is moment first =
+    let reports : length s.reports ≡ senders = ap (λ (s : Core). length s.reports) is ∙ length-replicate {A = List Report} senders [] in
+    let count : length s.partitions ≡ partitions = ap (λ (s : Core). length s.partitions) is ∙ length-replicate partitions (new_partition 1000) in
+    record {
+      config = ap (λ (s : Core). checked s.config) is ∙ let_through;
+      partitions = omega (arith, count, few_partitions);
+      senders = omega (arith, reports, few_senders);
+      accepted = omega (arith, ap length accepted-is, length-replicate {A = List Item} senders [], reports);
+      taken = omega (arith, ap length taken-is, length-replicate {A = ℕ} senders 0, reports);
+      logs = omega (arith, ap length logs-is, length-replicate partitions empty, count);
+      moment = omega (arith, first);
+    }
 
 -- ---- what is left of an event
 
-pub within : {A : Type 0} (s : Core) (called : Called A) → Tells s called → (t : Core) → t ≡ called.after → length s.reports ≤ 64 → length t.reports ≤ 64
-within s called tells t is few = omega (arith, ap (λ (s : Core). length s.reports) is, ap length tells.reports, length-reports called.told s.reports)
+pub within : {A : Type 0} {accepted taken logs moment : ℕ} (s : Core) (called : Called A) → Tells s called → (t : Core) → t ≡ called.after → IsInBounds s accepted taken logs moment → IsInBounds t accepted taken logs moment
+within s called tells t is bounds =
+    let reports : length t.reports ≡ length s.reports = ap (λ (s : Core). length s.reports) is ∙ ap length tells.reports ∙ length-reports called.told s.reports in
+    let partitions : length t.partitions ≡ length s.partitions = ap (λ (s : Core). length s.partitions) is ∙ tells.partitions in
+    kept-within s t (ap (λ (s : Core). s.config) is ∙ tells.config) reports partitions bounds
 
-lead-on : {T E : Type 0} (ls : List Line) (was : Bool) (e : Event) (a mid b : Seen) (r : Result T E) → (b ≡ with_noted ls was mid → LeadsOn e a b) → OnOk r (b ≡ with_noted ls was mid) → OnOk r (LeadsOn e a b)
+pub lead-on : {T E : Type 0} (ls : List Line) (was : Bool) (e : Event) (a mid b : Seen) (r : Result T E) → (b ≡ with_noted ls was mid → LeadsOn e a b) → OnOk r (b ≡ with_noted ls was mid) → OnOk r (LeadsOn e a b)
 lead-on ls was e a mid b (Ok x) leads noted = leads noted
 lead-on ls was e a mid b (Err fault) leads noted = noted
 

@@ -1,3 +1,5 @@
+pub mod Accepted
+pub mod Bounds
 pub mod Fetching
 pub mod Line
 pub mod Shown

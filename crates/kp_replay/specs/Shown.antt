@@ -1,6 +1,6 @@
 -- What is seen of a world that runs, and which world of the definitions it is.
-use Rattle.std.specs.Prelude.{◌≡◌, ℕ, Bool, not, List, [], ◌∷◌, ◌++◌, ◌&&◌, length, map, flat_map, Some}
-use Rattle.std.specs.List.{range_with_len}
+use Rattle.std.specs.Prelude.{◌≡◌, ℕ, Bool, true, not, List, [], ◌∷◌, ◌++◌, ◌&&◌, nat_lt, length, map, flat_map, Some, Ok}
+use Rattle.std.specs.List.{AllByRecursion, range_with_len}
 use Rattle.kp_accum.specs.declared.config.Config.{Config}
 use Rattle.kp_accum.specs.declared.item.Item.{Item}
 use Rattle.kp_frames.specs.Response as response
@@ -15,9 +15,12 @@ use Rattle.kp_rules.specs.Requesting.{Packet}
 use Rattle.kp_rules.specs.declared.outcome.Report.{Report}
 use Rattle.kp_rules.specs.declared.outgoing.Outgoing.{Outgoing}
 use Rattle.kp_world.specs.Line.{Line}
-use Rattle.kp_world.specs.Replay.{stepped}
-use Rattle.kp_world.specs.World.{World, Happened, Reply, names}
+use Rattle.kp_schedule.specs.Grammar.{MayBeSaid}
+use Rattle.kp_world.specs.Replay.{replayed, stepped}
+use Rattle.kp_world.specs.Run.{MayBegin}
+use Rattle.kp_world.specs.World.{World, Happened, Reply, names, opening, scheduled}
 use Rattle.kp_world.specs.declared.event.Event.{Event}
+use Rattle.kp_world.specs.declared.event.Event.TheVariants as event
 use Rattle.kp_replay.specs.Fetching.{all_fetched, by_sender}
 
 -- ---- what is seen
@@ -66,8 +69,9 @@ pub record IsSent (c : Config) (packet : Packet) (o : Outgoing) : Type 0 where
   pub bytes : o.bytes ≡ frame_of c names packet
 
 -- and so is a reply
-abbrev pub IsReplied : Reply → List ℕ → Type 0
-IsReplied r bytes = bytes ≡ frame.spell (response.spelling r.response)
+pub record IsReplied (r : Reply) (frame_bytes : List ℕ) : Type 0 where
+  pub fits : response.FitsResponse r.response
+  pub bytes : frame_bytes ≡ frame.spell (response.spelling r.response)
 
 abbrev pub noted_of : ℕ → Happened → Noted
 noted_of senders h = record {
@@ -93,7 +97,30 @@ pub record Shows (c : Config) (w : World) (a : Seen) : Type 0 where
   pub is_shut : a.is_shut ≡ w.is_shut
   pub past : a.past ≡ map (noted_of (length w.accepted)) w.past
 
+-- ---- events
+
+-- The world is one to which a schedule leads, with this configuration.
+pub record IsReplayed (c : Config) (w : World) : Type 0 where
+  pub partitions : ℕ
+  pub senders : ℕ
+  pub events : List Event
+  pub may_begin : MayBegin (scheduled c partitions senders)
+  pub may_be : AllByRecursion MayBeSaid events
+  pub leads : replayed events (opening (scheduled c partitions senders)) ≡ Ok w
+
 -- By this event the world that is seen becomes the one that is then seen.
 abbrev pub LeadsOn : Event → Seen → Seen → Type 0
 LeadsOn e a b =
-    (c : Config) (w : World) → Shows c w a → (v : World) × (stepped e w ≡ Some v) × Shows c v b
+    (c : Config) (w : World)
+    → IsReplayed c w
+    → Shows c w a
+    → (v : World) × (stepped e w ≡ Some v) × Shows c v b
+
+-- What the event names is there.
+abbrev pub is_there : Event → Seen → Bool
+is_there (event.Accept s p value) a = nat_lt s (length a.accepted) && nat_lt p (length a.logs)
+is_there (event.Take s) a = nat_lt s (length a.accepted)
+is_there (event.Deliver k how) a = nat_lt k (length a.packets)
+is_there (event.Reply j) a = nat_lt j (length a.replies)
+is_there (event.Other p n) a = nat_lt p (length a.logs)
+is_there _ a = true

@@ -10,6 +10,8 @@ use std::alloc::{AllocError, Global};
 fn fetch_sender(core: &mut Core, sender: u32, reports: &mut Vec<Report>) -> Result<(), AllocError>
     requires { sender < length core.old.reports }
     ensures senders { length core.new.reports ≡ length core.old.reports }
+    ensures config { core.new.config ≡ core.old.config }
+    ensures partitions { core.new.partitions ≡ core.old.partitions }
     ensures fetched { OnOk result (core.new ≡ fetched_of sender core.old) }
     ensures reports { OnOk result
         (reports.new.items ≡ reports.old.items ++ slice_index_or core.old.reports sender []) }
@@ -24,6 +26,8 @@ fn fetch_sender(core: &mut Core, sender: u32, reports: &mut Vec<Report>) -> Resu
 pub fn fetch_all(alloc: Global, core: &mut Core) -> Result<Vec<Report>, AllocError>
     requires { length core.old.reports < 2 ^ 32 }
     ensures senders { length core.new.reports ≡ length core.old.reports }
+    ensures config { core.new.config ≡ core.old.config }
+    ensures partitions { core.new.partitions ≡ core.old.partitions }
     ensures fetched { OnOk result (core.new ≡ all_fetched core.old) }
     ensures reports { IfOk result (λ reports. reports.items ≡ by_sender core.old.reports) }
 {

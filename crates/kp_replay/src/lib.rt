@@ -1,6 +1,7 @@
 //! A schedule's replay: the sender core, partition logs and all that travelled between them, event by event.
 #![tactic(auto)]
 
+mod accepted;
 mod fetching;
 mod happened;
 mod line;

@@ -1,10 +1,10 @@
 //! The parts of a world with which a schedule begins.
 
-ghost use Rattle.std.specs.Prelude.{◌≡◌, [], IfOk, map, replicate};
+ghost use Rattle.std.specs.Prelude.{◌≡◌, [], IfOk, replicate};
 ghost use Rattle.kp_log.specs.Log.{empty};
 ghost use Rattle.kp_world.specs.World.{names};
 
-use kp_accum::Item;
+use crate::accepted::Accepted;
 use kp_core::Names;
 use kp_log::PartitionLog;
 use kp_wire::Text;
@@ -21,12 +21,12 @@ pub fn names_of_all(alloc: Global) -> Result<Names, AllocError>
 }
 
 /// Nothing was accepted of any of so many senders.
-pub fn nothing_accepted(alloc: Global, senders: u32) -> Result<Vec<Vec<Item>>, AllocError>
-    ensures { IfOk result (λ lists. map (λ items. items.items) lists.items ≡ replicate senders []) }
+pub fn nothing_accepted(alloc: Global, senders: u32) -> Result<Vec<Accepted>, AllocError>
+    ensures { IfOk result (λ lists. lists.items ≡ replicate senders []) }
 {
     let mut lists = Vec::with_capacity(alloc, senders as usize)?;
     for _ in 0..senders {
-        lists.push(Vec::new(alloc))?;
+        lists.push(Accepted::new(alloc))?;
     }
     Ok(lists)
 }

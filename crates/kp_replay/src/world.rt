@@ -4,16 +4,21 @@ ghost use Rattle.std.specs.Prelude.{◌≡◌, ◌==◌, [], ◌∷◌, if◌the
 ghost use Rattle.kp_replay.specs.Line.{line_of, lines_of};
 ghost use Rattle.kp_world.specs.Line as line;
 
+mod accepting;
+mod hearing;
+mod others;
+mod taking;
+
+use crate::accepted::Accepted;
 use crate::fetching::fetch_all;
 use crate::happened::Happened;
 use crate::line::Line;
 use crate::opening::{empty_logs, names_of_all, nothing_accepted, nothing_taken};
-use kp_accum::{Config, Item};
+use kp_accum::Config;
 use kp_core::{Core, Outgoing};
 use kp_log::PartitionLog;
-use kp_schedule::ReplayFault;
 use kp_wire::Blob;
-use std::alloc::Global;
+use std::alloc::{AllocError, Global};
 use std::marker::Model;
 
 /// The first producer id: those that are drawn follow it.
@@ -29,7 +34,7 @@ pub struct World {
     alloc: Global,
     core: Core,
     /// By sender, in order.
-    accepted: Vec<Vec<Item>>,
+    accepted: Vec<Accepted>,
     /// By sender, how many of these were taken and appended.
     taken: Vec<usize>,
     packets: Vec<Outgoing>,
@@ -44,7 +49,8 @@ pub struct World {
 }
 
 impl Model for World {
-    ghost use Rattle.std.specs.Prelude.{◌≤◌, length, map};
+    ghost use Rattle.std.specs.Prelude.{length, map};
+    ghost use Rattle.kp_replay.specs.Bounds.{IsInBounds};
     ghost use Rattle.kp_replay.specs.Line.{lines_of};
     ghost use Rattle.kp_replay.specs.Shown.{Seen};
 
@@ -52,7 +58,7 @@ impl Model for World {
 
     ghost view = { λ w. record {
       core = w.core;
-      accepted = map (λ items. items.items) w.accepted.items;
+      accepted = w.accepted.items;
       taken = w.taken.items;
       packets = w.packets.items;
       replies = w.replies.items;
@@ -63,11 +69,12 @@ impl Model for World {
       past = map (λ h. record { answer = lines_of h.answer; reports = h.reports.items; flushed = h.flushed }) w.past.items;
     } };
 
-    ghost invariant = { λ w. length w.core.reports ≤ 64 };
+    ghost invariant = { λ w.
+        IsInBounds w.core (length w.accepted.items) (length w.taken.items) (length w.logs.items) w.moment };
 }
 
 impl World {
-    ghost use Rattle.std.specs.Prelude.{◌≡◌, ◌≤◌, Ok, IfOk, OnOk};
+    ghost use Rattle.std.specs.Prelude.{◌≡◌, ◌<◌, ◌≤◌, ◌^◌, Ok, IfOk, OnOk};
     ghost use Rattle.kp_accum.specs.Config.{checked};
     ghost use Rattle.kp_replay.specs.Line.{lines_of};
     ghost use Rattle.kp_replay.specs.Shown.{LeadsOn, Shows, with_noted};
@@ -81,7 +88,7 @@ impl World {
         config: Config,
         partitions: u32,
         senders: u32,
-    ) -> Result<World, ReplayFault>
+    ) -> Result<World, AllocError>
         requires config { checked config ≡ Ok tt }
         requires some_partitions { 1 ≤ partitions }
         requires few_partitions { partitions ≤ 1024 }
@@ -115,7 +122,7 @@ impl World {
     }
 
     /// Ends an event: fetches its reports, and notes them with what was answered.
-    fn note(&mut self, was_flushed: bool, answer: Option<Line>) -> Result<(), ReplayFault>
+    fn note(&mut self, was_flushed: bool, answer: Option<Line>) -> Result<(), AllocError>
         ensures { OnOk result (self.new ≡ with_noted (lines_of answer) was_flushed self.old) }
     {
         let flushed = !was_flushed && self.core.flushed();
@@ -129,7 +136,8 @@ impl World {
     }
 
     /// The clock shows this moment.
-    pub fn now(&mut self, moment: u64) -> Result<(), ReplayFault>
+    pub fn now(&mut self, moment: u64) -> Result<(), AllocError>
+        requires { moment < 2 ^ 63 }
         ensures { OnOk result (LeadsOn (event.Now moment) self.old self.new) }
     {
         let was_flushed = self.core.flushed();
@@ -138,7 +146,7 @@ impl World {
     }
 
     /// The producer looks at the clock.
-    pub fn tick(&mut self) -> Result<(), ReplayFault>
+    pub fn tick(&mut self) -> Result<(), AllocError>
         ensures { OnOk result (LeadsOn event.Tick self.old self.new) }
     {
         let was_flushed = self.core.flushed();
@@ -147,7 +155,7 @@ impl World {
     }
 
     /// The connection is gone.
-    pub fn drop_connection(&mut self) -> Result<(), ReplayFault>
+    pub fn drop_connection(&mut self) -> Result<(), AllocError>
         ensures { OnOk result (LeadsOn event.Drop self.old self.new) }
     {
         let was_flushed = self.core.flushed();
@@ -156,7 +164,7 @@ impl World {
     }
 
     /// No record is accepted from now on, and what was accepted is to be sent.
-    pub fn close(&mut self) -> Result<(), ReplayFault>
+    pub fn close(&mut self) -> Result<(), AllocError>
         ensures { OnOk result (LeadsOn event.Close self.old self.new) }
     {
         let was_flushed = self.core.flushed();
@@ -166,7 +174,7 @@ impl World {
     }
 
     /// The producer gives up what is left.
-    pub fn end(&mut self) -> Result<(), ReplayFault>
+    pub fn end(&mut self) -> Result<(), AllocError>
         ensures { OnOk result (LeadsOn event.End self.old self.new) }
     {
         let was_flushed = self.core.flushed();
@@ -175,7 +183,7 @@ impl World {
     }
 
     /// The producer is to send all that it was given.
-    pub fn flush(&mut self) -> Result<(), ReplayFault>
+    pub fn flush(&mut self) -> Result<(), AllocError>
         ensures { OnOk result (LeadsOn event.Flush self.old self.new) }
     {
         let was_flushed = self.core.flushed();

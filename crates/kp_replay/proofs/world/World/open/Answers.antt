@@ -3,7 +3,7 @@ use Rattle.kp_replay.proofs.ShownLemmas.{opened-shows, opened-within}
 use Rattle.kp_replay.proofs.world.World.open.Goals as goal
 
 pub invariant_of-result : goal.invariant_of-result
-invariant_of-result c = opened-within c.args.config c.args.partitions c.args.senders _ (rw c.in_ok-names_of_all.ensures at c.in_ok-core.ensures) c.requires.few_senders
+invariant_of-result c = opened-within c.args.config c.args.partitions c.args.senders _ (rw c.in_ok-names_of_all.ensures at c.in_ok-core.ensures) c.requires.config c.requires.few_partitions c.requires.few_senders _ c.in_ok-nothing_accepted.ensures _ c.in_ok-nothing_taken.ensures _ c.in_ok-empty_logs.ensures _ refl
 
 pub returns : goal.returns
 returns c =
