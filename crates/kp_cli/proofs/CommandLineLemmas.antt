@@ -2,7 +2,8 @@
 use Rattle.std.proofs.Common.{◌≡◌, List, [], ◌∷◌, Option, None, Some, codes, true, refl, ap, ap₂, ◌∙◌}
 use Rattle.clap.specs.Words.{App, Row, Text, first_of, is_simple, subcommand_of, takes}
 use Rattle.clap.proofs.OnLiterals.{clap_on_literals}
-use Rattle.kp_cli.specs.CommandLine.{AskToPackInput, kprod_app}
+use Rattle.kp_cli.specs.CommandLine.{AskToPackInput}
+use Rattle.kp_cli.specs.Commands.{kprod_app}
 
 abbrev pub words_of : Text → List Text
 words_of program = program ∷ codes "pack" ∷ codes "-" ∷ []

@@ -1,6 +1,10 @@
 pub mod CommandLine
+pub mod Commands
 pub mod Faults
 pub mod Lines
 pub mod Offered
 pub mod Packed
 pub mod Report
+pub mod RunCommand
+pub mod RunText
+pub mod Runs

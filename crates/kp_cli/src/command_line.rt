@@ -1,37 +1,23 @@
 //! The words of a call, by clap.
 
-ghost use Rattle.std.specs.Prelude.{◌≡◌, Some, List, IfOk, MatchResult, codes, map, option_map};
-ghost use Rattle.clap.specs.Words.{Row, app_of, first_of, kind_of, subcommand_rows_of};
-ghost use Rattle.kp_cli.specs.CommandLine.{AskToPackInput, Packs, kprod_app};
+ghost use Rattle.std.specs.Prelude.{◌≡◌, Some, List, MatchResult, codes, map, option_map};
+ghost use Rattle.clap.specs.Words.{Row, first_of, kind_of, subcommand_rows_of};
+ghost use Rattle.kp_cli.specs.CommandLine.{AskToPackInput, Packs};
 
+use crate::commands::kprod;
+use crate::run_words::{Wanted, wanted_of};
 use clap::error::ErrorKind;
-use clap::{Arg, ArgMatches, Error};
-use std::alloc::{AllocError, Global};
+use clap::{ArgMatches, Error};
+use std::alloc::Global;
 use std::convert::AsStr;
 
 /// What the program is asked to do.
-#[derive(Clone, Copy, Debug, PartialEq, Eq)]
+#[derive(Clone, Copy, Debug)]
 pub enum Command<'a> {
     /// To pack the lines of this file; `-` is the standard input.
     Pack(&'a str),
-}
-
-/// The program's commands and what they take.
-fn kprod<'a>(alloc: Global) -> Result<clap::Command<'a>, AllocError>
-    ensures { IfOk result (λ command. app_of command ≡ kprod_app) }
-{
-    let file = Arg::new(alloc, "file")
-        .value_name("FILE")
-        .help("The file whose lines are packed; - is the standard input")
-        .required(true);
-    let pack = clap::Command::new(alloc, "pack")
-        .about("Packs lines into one record batch and offers it twice to a partition log")
-        .arg(file)?;
-    let program = clap::Command::new(alloc, "kprod")
-        .about("Kafka record batches, at a partition log in memory")
-        .subcommand_required(true)
-        .disable_help_subcommand(true);
-    program.subcommand(pack)
+    /// To send the lines of a file.
+    Run(Wanted<'a>),
 }
 
 /// The file of `pack`, where the matches have one.
@@ -40,6 +26,15 @@ fn file_of<'a>(matches: &ArgMatches<'a>) -> Option<&'a str>
         → option_map (λ s. s.now) result ≡ first_of (codes "file") rows }
 {
     matches.subcommand_matches("pack")?.get_str("file")
+}
+
+/// The run that the matches ask for, where they ask for one.
+fn run_of<'a>(alloc: Global, matches: &ArgMatches<'a>) -> Result<Command<'a>, Error> {
+    match wanted_of(matches) {
+        Some(Ok(wanted)) => Ok(Command::Run(wanted)),
+        Some(Err(message)) => Err(kprod(alloc)?.error(ErrorKind::ValueValidation, message)?),
+        None => Err(kprod(alloc)?.error(ErrorKind::MissingSubcommand, "a FILE is missing")?),
+    }
 }
 
 /// What the words ask for; the first is the program's name.
@@ -51,6 +46,6 @@ pub fn command_of<'a, S: AsStr>(alloc: Global, words: &'a [S]) -> Result<Command
     let matches = program.try_get_matches_from(words)?;
     match file_of(&matches) {
         Some(file) => Ok(Command::Pack(file)),
-        None => Err(kprod(alloc)?.error(ErrorKind::MissingSubcommand, "pack takes a FILE")?),
+        None => run_of(alloc, &matches),
     }
 }

@@ -1,11 +1,14 @@
 //! Why a call ended without its output.
 
-ghost use Rattle.std.specs.Prelude.{◌≡◌, OnOk};
+ghost use Rattle.std.specs.Prelude.{◌≡◌, ◌++◌, OnOk, decimal};
 ghost use Rattle.std.specs.Io.KnownBytes.{Appends};
-ghost use Rattle.kp_cli.specs.Faults.{fault_line};
+ghost use Rattle.kp_cli.specs.Faults.{fault_line, of_run};
+ghost use Rattle.kp_text.specs.Lines.{newline};
 ghost use Rattle.kp_cli.specs.declared.fault.PackFault.TheVariants as pack_fault;
 
+use itoa::Buffer;
 use kp_log::LogFault;
+use kp_run::RunFault;
 use std::alloc::AllocError;
 use std::io::{self, ErrorKind, Write};
 
@@ -25,6 +28,16 @@ pub enum Fault<'a> {
     CannotRead(&'a str),
     OutOfMemory,
     TooLarge,
+    /// The topic's name is none that Kafka takes.
+    Topic,
+    /// The plan of the broker's faults can't be read.
+    Plan,
+    /// A fault of the configuration, by its number.
+    Config(u8),
+    /// The broker can't be reached, or the event loop has failed.
+    Network,
+    /// A fault of the handshake, by its number.
+    Handshake(u8),
     /// A word of the call.
     NotText,
     /// The output took no more. Nobody is told.
@@ -56,12 +69,43 @@ impl<'a> From<PackFault> for Fault<'a> {
     }
 }
 
+impl<'a> From<RunFault> for Fault<'a> {
+    ghost from_gives = { λ fault e. e ≡ of_run fault };
+
+    fn from(fault: RunFault) -> Fault<'a> {
+        match fault {
+            RunFault::Topic => Fault::Topic,
+            RunFault::Plan => Fault::Plan,
+            RunFault::Config(fault) => Fault::Config(fault.number()),
+            RunFault::Network => Fault::Network,
+            RunFault::Handshake(fault) => Fault::Handshake(fault.number()),
+            RunFault::OutOfMemory => Fault::OutOfMemory,
+        }
+    }
+}
+
+impl<'a> From<AllocError> for Fault<'a> {
+    fn from(_refused: AllocError) -> Fault<'a> {
+        Fault::OutOfMemory
+    }
+}
+
 /// Memory that was refused, or else this fault.
 pub(crate) fn memory_or<'a>(error: &io::Error, fault: Fault<'a>) -> Fault<'a> {
     match error.kind() {
         ErrorKind::OutOfMemory => Fault::OutOfMemory,
         _ => fault,
     }
+}
+
+/// A line that ends in a number below 256.
+fn put_numbered<W: Write>(err: &mut W, text: &[u8], number: u8) -> io::Result<()>
+    ensures { OnOk result (Appends (W.contents err.old) (W.contents err.new) (text.now ++ decimal number ++ newline)) }
+{
+    let mut buffer = Buffer::new();
+    err.write_all(text)?;
+    err.write_all(buffer.format(number).as_bytes())?;
+    err.write_all(b"\n")
 }
 
 /// The fault's line, if it is told at all. Nothing is allocated.
@@ -76,6 +120,11 @@ pub fn put_fault<W: Write>(err: &mut W, fault: Fault<'_>) -> io::Result<()>
         }
         Fault::OutOfMemory => err.write_all(b"kprod: out of memory\n"),
         Fault::TooLarge => err.write_all(b"kprod: input too large\n"),
+        Fault::Topic => err.write_all(b"kprod: topic fault\n"),
+        Fault::Plan => err.write_all(b"kprod: plan fault\n"),
+        Fault::Config(number) => put_numbered(err, b"kprod: config fault ", number),
+        Fault::Network => err.write_all(b"kprod: network fault\n"),
+        Fault::Handshake(number) => put_numbered(err, b"kprod: handshake fault ", number),
         Fault::NotText => err.write_all(b"kprod: a word is not UTF-8\n"),
         Fault::CannotWrite => Ok(()),
     }

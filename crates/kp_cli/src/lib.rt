@@ -1,16 +1,23 @@
-//! Packs the lines of a file into one record batch, offers it to a partition log, and prints the log.
+//! The program `kprod`, over any streams: it packs the lines of a file into one record batch, offers it to a partition log,
+//! and prints the log; or it sends the lines to a broker from many threads, and prints what became of them.
 #![tactic(auto)]
 
+mod broker_words;
 mod command_line;
+mod commands;
 mod fault;
 mod lines;
 mod offering;
 mod packing;
 mod program;
 mod reporting;
+mod run_command;
+mod run_words;
+mod running;
 mod streams;
 
 pub use program::{DONE, FAULT, USAGE, kprod_with, refuse_words};
+pub use running::run_with;
 
 #[cfg(test)]
 mod tests;

@@ -1,6 +1,6 @@
 //! The lines of an input, as records.
 
-ghost use Rattle.std.specs.Prelude.{◌≡◌, ◌<◌, ◌∷◌, IfOk, length};
+ghost use Rattle.std.specs.Prelude.{◌≡◌, ◌<◌, ◌∷◌, IfOk, length, map};
 ghost use Rattle.kp_cli.specs.Lines.{lines};
 ghost use Rattle.kp_cli.specs.Packed.{record_of, records_of};
 
@@ -45,4 +45,18 @@ pub fn lines_of(alloc: Global, bytes: &[u8]) -> Result<Vec<Record>, AllocError>
         rest = behind;
     }
     Ok(records)
+}
+
+/// The lines, each where it stands.
+pub fn slices_of(alloc: Global, bytes: &[u8]) -> Result<Vec<&[u8]>, AllocError>
+    ensures { IfOk result (λ v. map (λ line. line.now) v.items ≡ lines bytes.now) }
+{
+    let mut found = Vec::new(alloc);
+    let mut rest = bytes;
+    while !rest.is_empty() {
+        let (line, behind) = cut(rest);
+        found.push(line)?;
+        rest = behind;
+    }
+    Ok(found)
 }

@@ -6,16 +6,26 @@ ghost use Rattle.clap.specs.Words.{kind_of};
 ghost use Rattle.kp_cli.specs.CommandLine.{AskToPackInput, Packs};
 ghost use Rattle.kp_cli.specs.Lines.{lines};
 ghost use Rattle.kp_cli.specs.Packed.{packed_text};
+ghost use Rattle.kp_cli.specs.Runs.{Looks, LooksFirst, PrintsLines, PrintsRun};
 
 use crate::command_line::{Command, command_of};
 use crate::fault::{Fault, memory_or, put_fault};
+use crate::lines::slices_of;
 use crate::packing::pack;
+use crate::run_words::Wanted;
+use crate::running::run_with;
 use crate::streams::{read_file, write_whole};
 use clap::Error;
 use clap::error::ErrorKind;
+use kp_run::{Checked, Open};
 use std::convert::AsStr;
 use std::io::{self, Read, Write};
+use std::net::{Net, TcpListener, TcpStream};
+use std::random::RandomSource;
 use std::rt::Files;
+use std::sync::Wait;
+use std::thread::Threads;
+use std::time::Clock;
 
 /// The output is written.
 pub const DONE: u8 = 0;
@@ -59,18 +69,17 @@ fn refuse<O: Write, E: Write>(error: &Error, out: &mut O, err: &mut E) -> u8
     }
 }
 
-/// Does what the command says.
-fn run<'a, R: Files + AllocGlobal, I: Read, O: Write>(
+/// Packs a file's lines.
+fn pack_file<'a, R: Files + AllocGlobal, I: Read, O: Write>(
     rt: &R,
-    command: Command<'a>,
+    file: &'a str,
     input: &mut I,
     out: &mut O,
 ) -> Result<(), Fault<'a>>
-    ensures input { Packs (codes "-") command.entry
+    ensures input { file.entry.now ≡ codes "-"
         → OnOk result (IfSome (I.remaining input.old) (λ bytes.
         Appends (O.contents out.old) (O.contents out.new) (packed_text (lines bytes)))) }
 {
-    let Command::Pack(file) = command;
     let bytes = read_file(rt, file, input)?;
     let text = pack(rt.alloc(), bytes.as_slice())?;
     match write_whole(out, text.as_slice()) {
@@ -79,14 +88,74 @@ fn run<'a, R: Files + AllocGlobal, I: Read, O: Write>(
     }
 }
 
+/// Sends the lines of these bytes.
+fn run_bytes<'a, R, O: Write>(
+    rt: &R,
+    checked: &Checked<'_>,
+    bytes: &[u8],
+    out: &mut O,
+) -> Result<(), Fault<'a>>
+where
+    R: Wait + Threads + Clock + RandomSource + AllocGlobal + Sync,
+    R: Net<Listener = TcpListener, Stream = TcpStream>,
+    ensures { OnOk result (PrintsLines checked.now bytes.now (O.contents out.old) (O.contents out.new)) }
+{
+    let lines = slices_of(rt.alloc(), bytes)?;
+    run_with(rt, checked, lines.as_slice(), &Open, out)
+}
+
+/// Sends a file's lines.
+fn run_file<'a, R, I: Read, O: Write>(
+    rt: &R,
+    wanted: Wanted<'a>,
+    input: &mut I,
+    out: &mut O,
+) -> Result<(), Fault<'a>>
+where
+    R: Files + Wait + Threads + Clock + RandomSource + AllocGlobal + Sync,
+    R: Net<Listener = TcpListener, Stream = TcpStream>,
+    ensures looks { LooksFirst wanted.entry.options result }
+    ensures input { wanted.entry.file.now ≡ codes "-"
+        → OnOk result (IfSome (I.remaining input.old) (λ bytes.
+        PrintsRun wanted.entry.options bytes (O.contents out.old) (O.contents out.new))) }
+{
+    let checked = wanted.options.check(rt.alloc())?;
+    let bytes = read_file(rt, wanted.file, input)?;
+    run_bytes(rt, &checked, bytes.as_slice(), out)
+}
+
+/// Does what the command says.
+fn run<'a, R, I: Read, O: Write>(
+    rt: &R,
+    command: Command<'a>,
+    input: &mut I,
+    out: &mut O,
+) -> Result<(), Fault<'a>>
+where
+    R: Files + Wait + Threads + Clock + RandomSource + AllocGlobal + Sync,
+    R: Net<Listener = TcpListener, Stream = TcpStream>,
+    ensures looks { Looks command.entry result }
+    ensures input { Packs (codes "-") command.entry
+        → OnOk result (IfSome (I.remaining input.old) (λ bytes.
+        Appends (O.contents out.old) (O.contents out.new) (packed_text (lines bytes)))) }
+{
+    match command {
+        Command::Pack(file) => pack_file(rt, file, input, out),
+        Command::Run(wanted) => run_file(rt, wanted, input, out),
+    }
+}
+
 /// The program at these words, of which the first is its name; the result is its status.
-pub fn kprod_with<R: Files + AllocGlobal, S: AsStr, I: Read, O: Write, E: Write>(
+pub fn kprod_with<R, S: AsStr, I: Read, O: Write, E: Write>(
     rt: &R,
     words: &[S],
     input: &mut I,
     out: &mut O,
     err: &mut E,
 ) -> u8
+where
+    R: Files + Wait + Threads + Clock + RandomSource + AllocGlobal + Sync,
+    R: Net<Listener = TcpListener, Stream = TcpStream>,
     ensures packs_input { AskToPackInput (map S.text words.now) → result ≡ DONE
         → IfSome (I.remaining input.old) (λ bytes.
         Appends (O.contents out.old) (O.contents out.new) (packed_text (lines bytes))) }

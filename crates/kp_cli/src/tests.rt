@@ -1,11 +1,21 @@
 //! The program at whole calls, and streams that fail.
 
+mod addressed;
 mod failing;
 mod output;
+mod refused;
+mod runs;
+mod turns;
 mod usage;
 
 use crate::program::kprod_with;
 use std::io::{self, ErrorKind, Read, Write};
+use std::net::{Net, TcpListener, TcpStream};
+use std::random::RandomSource;
+use std::rt::Files;
+use std::sync::Wait;
+use std::thread::Threads;
+use std::time::Clock;
 
 /// What a call left.
 #[derive(Drop)]
@@ -16,7 +26,11 @@ struct Ended {
 }
 
 /// The program at these words, over bytes in memory.
-fn kprod_at(rt: &HostRuntime, words: &[&str], mut input: &[u8]) -> Ended {
+fn kprod_at<R>(rt: &R, words: &[&str], mut input: &[u8]) -> Ended
+where
+    R: Files + Wait + Threads + Clock + RandomSource + AllocGlobal + Sync,
+    R: Net<Listener = TcpListener, Stream = TcpStream>,
+{
     let mut out = Vec::new(rt.alloc());
     let mut err = Vec::new(rt.alloc());
     let status = kprod_with(rt, words, &mut input, &mut out, &mut err);

@@ -13,13 +13,11 @@ use kp_batch::{
     Batch, BatchFault, BatchHead, Header, Record, SIZE_LIMIT, Timestamp, batch_size, charge,
     read_batch, write_batch,
 };
-use kp_cli::{DONE, FAULT, kprod_with};
 use kp_log::{Answer, LogFault, PartitionLog};
 use kp_wire::{Blob, Seq, Text, put_nullable, put_string, put_varint, put_varlong};
 use std::alloc::{AllocError, Global};
 use std::io::{self, Read};
 use std::process::ExitCode;
-use std::rt::Files;
 
 /// What a call came to.
 #[derive(Clone, Copy, PartialEq, Eq)]
@@ -236,34 +234,8 @@ fn written(alloc: Global, records: &[Record]) -> Option<(Vec<u8>, Outcome)> {
     }
 }
 
-/// What the program prints of the lines a and b.
-const PACKED: &[u8] = b"batch 77 records 2\nanswer 0 0\nanswer 0 0\nlog 0 0 a\nlog 0 1 b\n";
-
-/// The program's status on the lines a and b, and whether it printed what it should.
-fn packed<R: Files + AllocGlobal>(rt: &R) -> (u8, bool) {
-    let words = ["kprod", "pack", "-"];
-    let mut input = b"a\nb\n".as_slice();
-    let mut out = Vec::new(rt.alloc());
-    let mut err = Vec::new(rt.alloc());
-    let status = kprod_with(rt, &words, &mut input, &mut out, &mut err);
-    (status, out.as_slice() == PACKED)
-}
-
-/// The whole program; where memory was refused, its status is 1.
-fn pack<R: Files + AllocGlobal>(rt: &R) -> Outcome {
-    match packed(rt) {
-        (DONE, right) => Outcome::of(right),
-        (FAULT, _) => match packed(rt) {
-            (DONE, right) => Outcome::of(right).after_refusal(),
-            _ => Outcome::Wrong,
-        },
-        _ => Outcome::Wrong,
-    }
-}
-
 /// All calls in turn, up to the first whose outcome isn't right.
-fn outcome_of<R: Files + AllocGlobal>(rt: &R) -> Outcome {
-    let alloc = rt.alloc();
+fn outcome_of(alloc: Global) -> Outcome {
     for outcome in [varints(alloc), texts(alloc)] {
         if outcome != Outcome::Right {
             return outcome;
@@ -296,7 +268,6 @@ fn outcome_of<R: Files + AllocGlobal>(rt: &R) -> Outcome {
         frames::stream(alloc),
         waiting::appended(alloc, waiting),
         lanes::settling(alloc),
-        pack(rt),
     ];
     if outcomes.contains(&Outcome::Wrong) {
         return Outcome::Wrong;
@@ -330,7 +301,7 @@ fn main(rt: HostRuntime) -> io::Result<ExitCode> {
     if grow_first(rt.alloc(), number_of(&text[..len])).is_err() {
         return Ok(ExitCode::from(4));
     }
-    match outcome_of(&rt) {
+    match outcome_of(rt.alloc()) {
         Outcome::Right => {
             println!(rt; "right")?;
             Ok(ExitCode::SUCCESS)

@@ -22,3 +22,9 @@ returns-in-TooLarge g c = rw c.in-TooLarge.is c.write_all-in-TooLarge.ensures.by
 
 pub returns-in-NotText : goal.returns-in-NotText
 returns-in-NotText g c = rw c.in-NotText.is c.write_all-in-NotText.ensures.bytes
+
+pub returns-in-Config : goal.returns-in-Config
+returns-in-Config g c = rw c.in-Config.is c.put_numbered.ensures
+
+pub returns-in-Handshake : goal.returns-in-Handshake
+returns-in-Handshake g c = rw c.in-Handshake.is c.put_numbered-in-Handshake.ensures

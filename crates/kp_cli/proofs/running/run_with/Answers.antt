@@ -1,0 +1,18 @@
+use Rattle.std.proofs.Common.{subst}
+use Rattle.std.proofs.lemmas.Result.{on_ok_weaker}
+use Rattle.std.specs.Io.KnownBytes.{Appends}
+use Rattle.kp_run.specs.declared.options.Options.{Options}
+use Rattle.kp_cli.specs.RunText.{run_text}
+use Rattle.kp_cli.proofs.running.run_with.Goals as goal
+
+pub returns : goal.returns
+returns g c =
+    on_ok_weaker c.print_run.result
+    (λ printed. record {
+      came = c.in_ok-came.came;
+      of_run = c.in_ok-came.ensures;
+      printed = subst
+          (λ (o : Options). Appends (g.O.Write.contents c.args.out.now) (g.O.Write.contents c.print_run.new.out) (run_text o.totals c.in_ok-came.came))
+          c.options-options.ensures printed;
+    })
+    c.print_run.ensures

@@ -1,0 +1,38 @@
+//! The program's commands, as clap sees them.
+
+ghost use Rattle.std.specs.Prelude.{◌≡◌, IfOk};
+ghost use Rattle.clap.specs.Words.{app_of};
+ghost use Rattle.kp_cli.specs.Commands.{kprod_app, pack_app};
+ghost use Rattle.kp_cli.specs.RunCommand.{IsLocal};
+
+use crate::run_command::run_command;
+use clap::{Arg, Command};
+use std::alloc::{AllocError, Global};
+
+/// What packs.
+fn pack_command<'a>(alloc: Global) -> Result<Command<'a>, AllocError>
+    ensures app { IfOk result (λ command. app_of command ≡ pack_app) }
+    ensures local { IfOk result IsLocal }
+{
+    let file = Arg::new(alloc, "file")
+        .value_name("FILE")
+        .help("The file whose lines are packed; - is the standard input")
+        .required(true);
+    Command::new(alloc, "pack")
+        .about("Packs lines into one record batch and offers it twice to a partition log")
+        .arg(file)
+}
+
+/// The program's commands and what they take.
+pub fn kprod<'a>(alloc: Global) -> Result<Command<'a>, AllocError>
+    ensures { IfOk result (λ command. app_of command ≡ kprod_app) }
+{
+    let pack = pack_command(alloc)?;
+    let run = run_command(alloc)?;
+    let program = Command::new(alloc, "kprod")
+        .about("Publishes lines to a Kafka broker, each once and in order")
+        .subcommand_required(true)
+        .disable_help_subcommand(true);
+    let program = program.subcommand(pack)?;
+    program.subcommand(run)
+}
