@@ -2,9 +2,10 @@
 use Rattle.std.specs.Prelude.{true, ◌≡◌, ◌≢◌, ℕ, [], ◌∷◌, ◌++◌, Option, Some, None, Result, Ok, Err}
 use Rattle.kp_batch.specs.declared.record.Record.{Record}
 use Rattle.kp_lanes.specs.Entries.{count_of}
-use Rattle.kp_lanes.specs.Sender.{accepted, entered, got, goes_to, sender_number, turn, turn_after, Accepts, Refuses, SameSender, sender_view, seen_reports}
+use Rattle.kp_lanes.specs.Sender.{accepted, entered, finished_id, finished_number, got, goes_to, sender_id, sender_number, turn, turn_after, Accepts, Refuses, SameSender, sender_view, seen_reports}
 use Rattle.kp_lanes.specs.declared.fault.SendFault.{SendFault}
 use Rattle.kp_lanes.specs.declared.fault.SendFault.TheVariants.{Closed}
+use Rattle.kp_lanes.specs.declared.sender.Finished.{Finished}
 use Rattle.kp_lanes.specs.declared.sender.Sender.{Sender}
 use Rattle.kp_lanes.specs.declared.target.Target.{Target}
 use Rattle.kp_lanes.specs.declared.target.Ticket.{Ticket}
@@ -14,6 +15,11 @@ use Rattle.kp_client.specs.declared.producer.Producer.{Producer}
 -- its end of its lane
 abbrev pub lane_of : Producer → Sender
 lane_of producer = producer.sender
+
+-- what is left of it once it has finished: of the same sender, at the same lane
+abbrev pub Finishes : Producer → Finished → Type 0
+Finishes producer finished =
+    (finished_number finished ≡ sender_number (lane_of producer)) × (finished_id finished ≡ sender_id (lane_of producer))
 
 -- the same sender, with the same lane
 abbrev pub SameProducer : Producer → Producer → Type 0

@@ -1,17 +1,30 @@
--- The first fault of a producer's settings.
-use Rattle.std.specs.Prelude.{ℕ, nat_lt, length, min, Result, Ok, Err, if◌then◌else◌}
-use Rattle.kp_accum.specs.Config.{checked}
+-- A producer's settings: the defaults, and the first fault.
+use Rattle.std.specs.Prelude.{ℕ, List, Bool, false, None, nat_lt, length, min, Result, Ok, Err, if◌then◌else◌}
+use Rattle.kp_accum.specs.Config.{checked, default_config}
 use Rattle.kp_accum.specs.declared.fault.ConfigFault.{ConfigFault}
 use Rattle.kp_connection.specs.declared.hello.Hello.{Hello}
 use Rattle.kp_lanes.specs.declared.limits.Limits.{Limits}
 use Rattle.kp_rules.specs.Opening.{NAME_LIMIT}
 use Rattle.kp_client.specs.declared.fault.OpenFault.{OpenFault}
 use Rattle.kp_client.specs.declared.fault.OpenFault.TheVariants.{Topic, Client, Config}
+use Rattle.kp_client.specs.declared.policy.Policy.TheVariants.{InARow}
 use Rattle.kp_client.specs.declared.settings.Settings.{Settings}
 
 abbrev pub of_config : Result (Unit {0}) ConfigFault → Result (Unit {0}) OpenFault
 of_config (Ok done) = Ok done
 of_config (Err fault) = Err (Config fault)
+
+-- one sender with 1024 places, Kafka's configuration, any number of partitions, ten new connections in a row, no audit
+abbrev pub default_settings : List ℕ → List ℕ → Settings
+default_settings topic client = record {
+  names = record { topic = topic; client = client };
+  senders = 1;
+  capacity = 1024;
+  config = default_config;
+  partitions = None;
+  policy = InARow 10;
+  audits = false;
+}
 
 -- too long a topic, then too long a client's name, then the configuration's
 abbrev pub checked_settings : Settings → Result (Unit {0}) OpenFault

@@ -1,6 +1,6 @@
 //! Opening a producer.
 
-ghost use Rattle.std.specs.Prelude.{◌≡◌, ◌++◌, ◌∷◌, [], Ok, Err, OnOk, IfOk, IfErr, IfSome, All, map};
+ghost use Rattle.std.specs.Prelude.{◌≡◌, ◌++◌, ◌∷◌, [], Ok, Err, OnOk, IfOk, IfErr, IfSome, All, length, map};
 ghost use Rattle.std.specs.Arc.{arc_value};
 ghost use Rattle.kp_client.specs.Faults.{IsLater, OfSettings};
 ghost use Rattle.kp_client.specs.Producer.{lane_of};
@@ -31,6 +31,26 @@ pub struct Opened {
     pub producers: Vec<Producer>,
     pub closer: Closer,
     pub service: Service,
+}
+
+impl Opened {
+    /// The parts of a producer with one sender.
+    pub fn into_single(self) -> (Producer, Closer, Service)
+        requires { length self.producers.items ≡ 1 }
+        ensures producer { self.producers.items ≡ result.0 ∷ [] }
+        ensures others { (result.1 ≡ self.closer) × (result.2 ≡ self.service) }
+    {
+        let Opened {
+            producers,
+            closer,
+            service,
+        } = self;
+        let mut producers = producers;
+        match producers.pop() {
+            Some(producer) => (producer, closer, service),
+            None => unreachable!(),
+        }
+    }
 }
 
 /// Opens a producer over the broker at this address: connects, asks for the topic's partitions and for a producer id, and

@@ -2,7 +2,7 @@
 
 ghost use Rattle.std.specs.Prelude.{◌≡◌, ◌*◌, IfOk};
 ghost use Rattle.std.specs.Duration.{as_nanos};
-ghost use Rattle.kp_client.specs.Settings.{checked_settings, record_limit};
+ghost use Rattle.kp_client.specs.Settings.{checked_settings, default_settings, record_limit};
 
 use crate::fault::OpenFault;
 use crate::policy::Policy;
@@ -38,7 +38,9 @@ pub struct Settings {
 impl Settings {
     /// The defaults: one sender with 1024 places, Kafka's configuration, as many partitions as the broker names, up to ten
     /// new connections in a row, and no audit.
-    pub fn new(alloc: Global, topic: &str, client: &str) -> Result<Settings, AllocError> {
+    pub fn new(alloc: Global, topic: &str, client: &str) -> Result<Settings, AllocError>
+        ensures { IfOk result (λ settings. settings ≡ default_settings topic.now client.now) }
+    {
         Ok(Settings {
             names: Names {
                 topic: Text::from_str(alloc, topic)?,

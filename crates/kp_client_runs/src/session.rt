@@ -31,29 +31,6 @@ pub(crate) struct Came {
     pub(crate) statistics: Statistics,
 }
 
-/// A producer with one sender.
-#[tactic(auto, using(crate::proofs::OwnLemmas::last_of))]
-pub(crate) fn open_one<R>(
-    rt: &R,
-    address: SocketAddr,
-    settings: Settings,
-) -> Result<(Producer, Closer, Service), Wrong>
-where
-    R: Wait + Clock + RandomSource + AllocGlobal + Net,
-    ensures { IfOk result (λ r. IsSenderOf (lanes_of (intake_of r.2)) (lane_of r.0)) }
-{
-    let Opened {
-        producers,
-        closer,
-        service,
-    } = open(rt, address, settings)?;
-    let mut producers = producers;
-    match producers.pop() {
-        Some(producer) => Ok((producer, closer, service)),
-        None => Err(Wrong::OutOfMemory),
-    }
-}
-
 /// Takes back what is left.
 fn settle(
     alloc: Global,
@@ -82,7 +59,7 @@ fn settle(
 }
 
 /// Opens a producer, does the job, and takes back what is left.
-#[tactic(auto, using(crate::proofs::OwnLemmas::its_own))]
+#[tactic(auto, using(crate::proofs::OwnLemmas::its_own, crate::proofs::OwnLemmas::one_of, crate::proofs::OwnLemmas::only_of))]
 pub(crate) fn hold<R>(
     rt: &R,
     address: SocketAddr,
@@ -93,7 +70,11 @@ where
     R: Wait + Threads + Clock + RandomSource + AllocGlobal + Sync,
     R: Net<Listener = TcpListener, Stream = TcpStream>,
 {
-    let (producer, closer, service) = open_one(rt, address, settings)?;
+    let settings = Settings {
+        senders: 1,
+        ..settings
+    };
+    let (producer, closer, service) = open(rt, address, settings)?.into_single();
     let monitor = producer.monitor()?;
     let ((finished, heard), ended) = thread::join(
         rt,

@@ -1,7 +1,8 @@
 //! What goes wrong in a run.
 
 use kp_broker::{BrokerFault, PlanFault};
-use kp_client::{OpenFault, ServiceFault};
+use kp_client::{Ended, OpenFault, ServiceFault};
+use kp_lanes::{Finished, SettleFault};
 use std::alloc::{AllocError, AllocFailed};
 use std::io;
 use thiserror::Error;
@@ -15,6 +16,8 @@ pub(crate) enum Wrong {
     Network,
     #[error("a plan of faults that can't be read")]
     Plan,
+    #[error("a sender that has not finished")]
+    Missing,
     #[error("not opened: {0}")]
     Open(OpenFault),
     #[error("the service: {0}")]
@@ -66,5 +69,15 @@ impl From<OpenFault> for Wrong {
 impl From<ServiceFault> for Wrong {
     fn from(fault: ServiceFault) -> Wrong {
         Wrong::Service(fault)
+    }
+}
+
+impl From<(SettleFault, Ended, Vec<Finished>)> for Wrong {
+    fn from(left: (SettleFault, Ended, Vec<Finished>)) -> Wrong {
+        let (fault, _ended, _finished) = left;
+        match fault {
+            SettleFault::Missing => Wrong::Missing,
+            SettleFault::OutOfMemory => Wrong::OutOfMemory,
+        }
     }
 }
