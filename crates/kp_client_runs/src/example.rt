@@ -32,7 +32,6 @@ fn send<R: Wait + Clock>(
 }
 
 /// Publishes a record over a new producer, and says what became of it.
-#[tactic(auto, using(crate::proofs::OwnLemmas::its_own, crate::proofs::OwnLemmas::one_of, crate::proofs::OwnLemmas::only_of))]
 pub(crate) fn publish<R>(
     rt: &R,
     address: SocketAddr,

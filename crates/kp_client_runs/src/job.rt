@@ -1,8 +1,6 @@
 //! A sender's thread.
 
-ghost use Rattle.std.specs.Prelude.{◌≡◌};
-ghost use Rattle.kp_client.specs.Producer.{lane_of, SameProducer};
-ghost use Rattle.kp_lanes.specs.Sender.{finished_id, finished_number, sender_id, sender_number};
+ghost use Rattle.kp_client.specs.Producer.{Finishes, SameProducer};
 
 use kp_batch::{Record, Timestamp};
 use kp_client::{Closer, Producer};
@@ -100,8 +98,7 @@ pub(crate) fn work<R: Wait + Clock + AllocGlobal>(
     closer: Closer,
     job: Job,
 ) -> (Finished, Result<Heard, AllocError>)
-    ensures number { finished_number result.0 ≡ sender_number (lane_of producer) }
-    ensures lane { finished_id result.0 ≡ sender_id (lane_of producer) }
+    ensures { Finishes producer result.0 }
 {
     let (mut producer, mut closer) = (producer, closer);
     let mut heard = Heard {

@@ -59,7 +59,6 @@ fn settle(
 }
 
 /// Opens a producer, does the job, and takes back what is left.
-#[tactic(auto, using(crate::proofs::OwnLemmas::its_own, crate::proofs::OwnLemmas::one_of, crate::proofs::OwnLemmas::only_of))]
 pub(crate) fn hold<R>(
     rt: &R,
     address: SocketAddr,
