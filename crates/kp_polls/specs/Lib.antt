@@ -1,3 +1,4 @@
 pub mod Polling
 pub mod Around
 pub mod Laws
+pub mod Bytes

@@ -123,7 +123,7 @@ pub fn reports_are_of_all_that_was_told<S: Stream>()
 
 /// The core is closed once at most, by a poll that knew that no sender could send any more before it found each lane empty,
 /// and held nothing.
-pub fn nothing_is_accepted_after_close<S: Stream>()
+pub fn the_core_is_closed_where_nobody_can_send<S: Stream>()
     ensures { (o : Opening) (calls : List Call) (x : Exchange) → (polling : Polling S.answers o calls x)
         → ClosesOnce polling.first calls x }
 {}

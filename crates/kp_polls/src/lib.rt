@@ -2,5 +2,6 @@
 //! network around its calls.
 #![tactic(auto)]
 
+pub mod bytes;
 pub mod laws;
 pub mod polling;
