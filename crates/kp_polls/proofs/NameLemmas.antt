@@ -5,7 +5,6 @@ use Rattle.kp_accum.specs.declared.fault.AppendFault.TheVariants as append
 use Rattle.kp_accum.specs.declared.item.Item.{Item}
 use Rattle.kp_frames.specs.declared.producer_id.InitProducerIdResponse.{InitProducerIdResponse}
 use Rattle.kp_rules.specs.declared.fault.CoreFault.TheVariants as fault
-use Rattle.kp_rules.specs.declared.names.Names.{Names}
 use Rattle.kp_rules.specs.Appending.{Appends, append_step}
 use Rattle.kp_rules.specs.Calls.{Call, Step}
 use Rattle.kp_rules.specs.Calls as call
