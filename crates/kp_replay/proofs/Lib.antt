@@ -8,3 +8,6 @@ pub mod ReachedLemmas
 pub mod OrderLemmas
 pub mod HearingLemmas
 pub mod OtherLemmas
+mod LineLemmas
+mod PlaceLemmas
+mod TextLemmas

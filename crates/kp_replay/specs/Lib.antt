@@ -3,3 +3,4 @@ pub mod Bounds
 pub mod Fetching
 pub mod Line
 pub mod Shown
+pub mod Text

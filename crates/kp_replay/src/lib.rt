@@ -6,6 +6,7 @@ mod fetching;
 mod happened;
 mod line;
 mod opening;
+mod text;
 mod world;
 
 pub use happened::Happened;

@@ -1,2 +1,2 @@
 mod LogLemmas
-mod TextLemmas
+pub mod TextLemmas

@@ -9,7 +9,7 @@ mod reports;
 mod totals;
 
 pub use audits::put_audit;
-pub use logs::{put_log, put_own};
-pub use printing::{put_answer_line, put_batch_line};
+pub use logs::{put_log, put_own, value_in};
+pub use printing::{end_line, put_answer_line, put_batch_line, put_log_line, put_named};
 pub use reports::put_reports;
 pub use totals::put_totals;

@@ -9,7 +9,7 @@ use kp_log::{LogFault, PartitionLog, Stored};
 use std::alloc::AllocError;
 
 /// A record's value; Kafka's null has no byte.
-fn value_in(stored: &Stored) -> &[u8]
+pub fn value_in(stored: &Stored) -> &[u8]
     ensures { result.now ≡ value_of stored.now }
 {
     match &stored.body.value {

@@ -1,0 +1,18 @@
+use Rattle.std.proofs.Common.{ℕ, ◌<◌, ◌≤◌, List, ◌++◌, ◌∙◌, ap, sym, length, arith}
+use Rattle.std.proofs.lemmas.List.Folds.{flat_map-map}
+use Rattle.kp_world.specs.Text.{answer_part_text}
+use Rattle.kp_replay.specs.Line.{answer_part}
+use Rattle.kp_text.proofs.TextLemmas.{text_done, text_step}
+use Rattle.kp_replay.proofs.text.answers.put_answer_parts.Goals as goal
+
+pub loop-part-preserved : goal.loop-part-preserved
+loop-part-preserved c =
+    let within : c.loop-part.part-index < length c.args.parts.now = omega arith in
+    text_step (λ x. answer_part_text (answer_part x)) c.args.parts.now c.loop-part.part-index c.loop-part.out.items _ _ _ within c.loop-part.invariant c.in_ok-put_answer_part.ensures
+
+pub returns : goal.returns
+returns c =
+    let parts = c.args.parts.now in
+    let past : length parts ≤ c.loop-part.part-index = omega arith in
+    text_done (λ x. answer_part_text (answer_part x)) parts c.loop-part.part-index c.loop-part.out.items _ past c.loop-part.invariant
+    ∙ ap (λ (text : List ℕ). c.args.out.now.items ++ text) (sym (flat_map-map answer_part_text answer_part parts))
