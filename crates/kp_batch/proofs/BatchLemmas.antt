@@ -9,6 +9,7 @@ use Rattle.std.proofs.lemmas.Bool.{eqb-true, and_parts, not-false}
 use Rattle.std.proofs.lemmas.Bool.Decides.{Decides-int_eq, Decides-eqb}
 use Rattle.std.proofs.lemmas.List.{length-append, length-map, append-nil, nil_from_length}
 use Rattle.kp_wire.specs.declared.fault.WireFault.TheVariants.{BadLength}
+use Rattle.kp_wire.specs.Reading.{Answers}
 use Rattle.kp_wire.specs.Codec.{read_many}
 use Rattle.kp_wire.specs.Checksum.{crc}
 use Rattle.kp_wire.proofs.ReadLemmas.{IsBytes, bind_ok, ok_is, no_fault, let_through, refuse_ok, or_else_ok}
@@ -24,7 +25,7 @@ use Rattle.kp_batch.specs.declared.summary.Front.{Front}
 use Rattle.kp_batch.specs.declared.summary.Summary.{Summary}
 use Rattle.kp_batch.specs.Record.{relative_record}
 use Rattle.kp_batch.specs.Spelling.{front, head, summary, base_timestamp, max_timestamp, relatives_from, relatives, summary_of, covered, front_of, spelling, HasSpelling, Spells}
-use Rattle.kp_batch.specs.Reading.{is_short, is_misfit, is_counted, Opened, opened_of, opened, all_records, in_places, are_moments, begins_at_base, absolute, records_of, is_timed, batch_at, Answers, Refuses}
+use Rattle.kp_batch.specs.Reading.{is_short, is_misfit, is_counted, Opened, opened_of, opened, all_records, in_places, are_moments, begins_at_base, absolute, records_of, is_timed, batch_at, Refuses}
 use Rattle.kp_batch.proofs.RecordLemmas.{relative_record_exact}
 use Rattle.kp_batch.proofs.RelativeLemmas.{HasMoment, length-relatives_from, in_places-relatives_from, are_moments-relatives_from, records_of-relatives_from, begins_at_base-relatives, have_moments, relatives_from-records_of, base_timestamp-records_of}
 
@@ -309,7 +310,7 @@ batch_again bytes b p =
 
 -- ---- what read_batch gives
 
-pub found : (bytes : List ℕ) (r : Result Batch BatchFault) → IsBytes bytes → Answers bytes (λ b. b) r (batch_at bytes) → IfOk r (Spells bytes)
+pub found : (bytes : List ℕ) (r : Result Batch BatchFault) → IsBytes bytes → Answers (Refuses bytes) (λ b. b) r (batch_at bytes) → IfOk r (Spells bytes)
 found bytes (Ok b) fits e = batch_takes bytes b fits e
 found bytes (Err fault) fits e = tt
 
@@ -325,7 +326,7 @@ only_memory bytes b (BadRecord w) e r = absurd (no_fault (BadRecord w) b (sym r 
 only_memory bytes b Deltas e r = absurd (no_fault Deltas b (sym r ∙ e))
 only_memory bytes b Timestamps e r = absurd (no_fault Timestamps b (sym r ∙ e))
 
-pub only : (bytes : List ℕ) (r : Result Batch BatchFault) (b : Batch) → Answers bytes (λ b. b) r (batch_at bytes) → Spells bytes b → MatchResult r (λ x. x ≡ b) (λ fault. fault ≡ OutOfMemory)
+pub only : (bytes : List ℕ) (r : Result Batch BatchFault) (b : Batch) → Answers (Refuses bytes) (λ b. b) r (batch_at bytes) → Spells bytes b → MatchResult r (λ x. x ≡ b) (λ fault. fault ≡ OutOfMemory)
 only bytes (Ok x) b e p = ok_is x b (sym e ∙ batch_again bytes b p)
 only bytes (Err fault) b e p = only_memory bytes b fault (batch_again bytes b p) e
 

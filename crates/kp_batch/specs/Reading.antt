@@ -109,8 +109,3 @@ batch_at bytes = do
 abbrev pub Refuses : {Y : Type 0} → List ℕ → BatchFault → Result Y BatchFault → Type 0
 Refuses bytes OutOfMemory read = IsOk (opened bytes)
 Refuses bytes fault read = read ≡ Err fault
-
--- What a function gave, seen by view, is what reading gives, or memory was refused.
-abbrev pub Answers : {X Y : Type 0} → List ℕ → (X → Y) → Result X BatchFault → Result Y BatchFault → Type 0
-Answers bytes view (Ok x) read = read ≡ Ok (view x)
-Answers bytes view (Err fault) read = Refuses bytes fault read

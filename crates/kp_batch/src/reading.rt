@@ -4,7 +4,8 @@ ghost use Rattle.std.specs.Prelude.{◌≡◌, List, ℕ, pos, nat_abs, IfOk, Ma
 ghost use Rattle.std.specs.Ordering.{int_eq};
 ghost use Rattle.kp_batch.specs.declared.batch.Batch.{Batch as BatchValue};
 ghost use Rattle.kp_batch.specs.Spelling.{Spells};
-ghost use Rattle.kp_batch.specs.Reading.{Answers, batch_at};
+ghost use Rattle.kp_wire.specs.Reading.{Answers};
+ghost use Rattle.kp_batch.specs.Reading.{Refuses, batch_at};
 
 mod fields;
 mod gathering;
@@ -48,7 +49,7 @@ fn batch_of(front: &Front, head: BatchHead, records: Seq<Record>) -> Batch
 /// The batch that the bytes spell, all of the bytes.
 #[tactic(auto, unfolding(crate::specs::Reading::batch_at))]
 fn read_whole(alloc: Global, bytes: &[u8]) -> Result<Batch, BatchFault>
-    ensures { Answers bytes.now (λ b. b) result (batch_at bytes.now) }
+    ensures { Answers (Refuses bytes.now) (λ b. b) result (batch_at bytes.now) }
 {
     let (front, summary, records) = open(bytes)?;
     let (gathered, rest) = match gather(alloc, &summary, count_of(&summary), records) {
@@ -79,7 +80,7 @@ pub fn read_batch(alloc: Global, bytes: &[u8]) -> Result<Batch, BatchFault>
         → MatchResult result (λ x. x ≡ b) (λ fault. fault ≡ BatchFault.OutOfMemory) }
 
     // Which fault it is.
-    ensures exact { Answers bytes.now (λ b. b) result (batch_at bytes.now) }
+    ensures exact { Answers (Refuses bytes.now) (λ b. b) result (batch_at bytes.now) }
 {
     read_whole(alloc, bytes)
 }

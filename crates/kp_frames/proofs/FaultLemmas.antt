@@ -4,18 +4,18 @@ use Rattle.std.specs.Prelude.{IfOk, IfErr, MatchResult}
 use Rattle.kp_wire.specs.declared.fault.WireFault.{WireFault}
 use Rattle.kp_wire.specs.declared.fault.WireFault.TheVariants as field
 use Rattle.kp_wire.specs.Fields.{IsFieldFault}
-use Rattle.kp_wire.specs.Reading.{◌>>=◌, refuse}
+use Rattle.kp_wire.specs.Reading.{◌>>=◌, refuse, Answers}
 use Rattle.kp_wire.proofs.ReadLemmas.{ok_is, no_fault, is_error}
 use Rattle.kp_frames.specs.declared.fault.FrameFault.{FrameFault}
 use Rattle.kp_frames.specs.declared.fault.FrameFault.TheVariants.{Short, Trailing, UnknownApi, UnknownVersion, Wire, TooLarge, OutOfMemory, Mismatch}
-use Rattle.kp_frames.specs.Fault.{of_wire, in_message, whole, Answers, Refuses, IsContentFault}
+use Rattle.kp_frames.specs.Fault.{of_wire, in_message, whole, Refuses, IsContentFault}
 
 pub whole_ok : {A : Type 0} (x : A) (rest : List ℕ) (y : A) → whole x rest ≡ Ok y → (rest ≡ []) × (x ≡ y)
 whole_ok x [] y e = (refl, ok_is x y e)
 whole_ok x (b ∷ rest) y e = absurd cc
 
 -- what a reader gave, where it is known what reading gives
-pub answered_found : {X : Type 0} (begun : Type 0) (P : X → Type 0) (result read : Result X FrameFault) → Answers begun (λ x. x) result read → ((x : X) → read ≡ Ok x → P x) → IfOk result P
+pub answered_found : {X : Type 0} (begun : Type 0) (P : X → Type 0) (result read : Result X FrameFault) → Answers (Refuses begun) (λ x. x) result read → ((x : X) → read ≡ Ok x → P x) → IfOk result P
 answered_found begun P (Ok x) read a holds = holds x a
 answered_found begun P (Err fault) read a holds = tt
 
@@ -30,7 +30,7 @@ refused_fault P begun (Wire w) read memory holds r = holds (Wire w) r
 refused_fault P begun TooLarge read memory holds r = holds TooLarge r
 refused_fault P begun Mismatch read memory holds r = holds Mismatch r
 
-pub answered_only : {X : Type 0} (begun : Type 0) (x : X) (result read : Result X FrameFault) → Answers begun (λ x. x) result read → read ≡ Ok x → MatchResult result (λ y. y ≡ x) (λ fault. fault ≡ OutOfMemory)
+pub answered_only : {X : Type 0} (begun : Type 0) (x : X) (result read : Result X FrameFault) → Answers (Refuses begun) (λ x. x) result read → read ≡ Ok x → MatchResult result (λ y. y ≡ x) (λ fault. fault ≡ OutOfMemory)
 answered_only begun x (Ok y) read a e = ok_is y x (sym a ∙ e)
 answered_only begun x (Err fault) read a e = refused_fault (λ f. f ≡ OutOfMemory) begun fault read refl (λ f is. absurd (no_fault f x (sym is ∙ e))) a
 
@@ -66,6 +66,6 @@ pub whole_err : {A : Type 0} (P : FrameFault → Type 0) (x : A) (rest : List �
 whole_err P x [] f here e = absurd (no_fault f x (sym e))
 whole_err P x (b ∷ rest) f here e = is_error P Trailing f here e
 
-pub answered_fault : {X : Type 0} (P : FrameFault → Type 0) (begun : Type 0) (result read : Result X FrameFault) → P OutOfMemory → ((f : FrameFault) → read ≡ Err f → P f) → Answers begun (λ x. x) result read → IfErr result P
+pub answered_fault : {X : Type 0} (P : FrameFault → Type 0) (begun : Type 0) (result read : Result X FrameFault) → P OutOfMemory → ((f : FrameFault) → read ≡ Err f → P f) → Answers (Refuses begun) (λ x. x) result read → IfErr result P
 answered_fault P begun (Ok x) read memory holds a = tt
 answered_fault P begun (Err fault) read memory holds a = refused_fault P begun fault read memory holds a

@@ -37,11 +37,6 @@ abbrev pub Refuses : {Y : Type 0} → Type 0 → FrameFault → Result Y FrameFa
 Refuses begun OutOfMemory read = begun
 Refuses begun fault read = read ≡ Err fault
 
--- What a reader gave, seen by view, is what reading gives; or memory was refused where reading had begun.
-abbrev pub Answers : {X Y : Type 0} → Type 0 → (X → Y) → Result X FrameFault → Result Y FrameFault → Type 0
-Answers begun view (Ok x) read = read ≡ Ok (view x)
-Answers begun view (Err fault) read = Refuses begun fault read
-
 -- ---- which faults come
 
 -- the faults of a field that a message's fault carries

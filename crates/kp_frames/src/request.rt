@@ -1,9 +1,9 @@
 //! Requests: what stands before a body, and the body of an api (protocol guide, "Request Header v1").
 
 ghost use Rattle.std.specs.Prelude.{◌≡◌, List, ℕ, IfOk, IfErr, IsOk, IsErrOf, MatchResult, length};
-ghost use Rattle.kp_wire.specs.Reading.{IsRead, Gives};
+ghost use Rattle.kp_wire.specs.Reading.{IsRead, Answers, Gives};
 ghost use Rattle.kp_frames.specs.declared.request.Request.{Request as RequestValue};
-ghost use Rattle.kp_frames.specs.Fault.{Answers, IsRequestFault};
+ghost use Rattle.kp_frames.specs.Fault.{Refuses, IsRequestFault};
 ghost use Rattle.kp_frames.specs.Writing.{IsFrame};
 ghost use Rattle.kp_frames.specs.Request.{api_of, body, known, FitsRequest, spelling, Spells, announced, request_at};
 
@@ -164,7 +164,7 @@ fn read_known(alloc: Global, api: Api, bytes: &[u8]) -> Result<(Request, &[u8]),
 
 #[tactic(auto, unfolding(crate::specs::Request::request_at))]
 fn read_whole(alloc: Global, bytes: &[u8]) -> Result<Request, FrameFault>
-    ensures { Answers (IsOk (announced bytes.now)) (λ r. r) result (request_at bytes.now) }
+    ensures { Answers (Refuses (IsOk (announced bytes.now))) (λ r. r) result (request_at bytes.now) }
 {
     let (api, rest) = read_announced(bytes)?;
     let (request, rest) = read_known(alloc, api, rest)?;
@@ -189,7 +189,7 @@ pub fn read_request(alloc: Global, bytes: &[u8]) -> Result<Request, FrameFault>
     ensures faults { IfErr result IsRequestFault }
 
     // Which fault it is.
-    ensures exact { Answers (IsOk (announced bytes.now)) (λ r. r) result (request_at bytes.now) }
+    ensures exact { Answers (Refuses (IsOk (announced bytes.now))) (λ r. r) result (request_at bytes.now) }
 {
     read_whole(alloc, bytes)
 }

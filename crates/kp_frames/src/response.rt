@@ -1,10 +1,10 @@
 //! Responses: the correlation id of a request, and the body of its api (protocol guide, "Response Header v0").
 
 ghost use Rattle.std.specs.Prelude.{◌≡◌, List, ℕ, IfOk, IfErr, IsOk, MatchResult, length};
-ghost use Rattle.kp_wire.specs.Reading.{Gives};
+ghost use Rattle.kp_wire.specs.Reading.{Answers, Gives};
 ghost use Rattle.kp_wire.specs.Fields.{int32};
 ghost use Rattle.kp_frames.specs.declared.response.Response.{Response as ResponseValue};
-ghost use Rattle.kp_frames.specs.Fault.{Answers, IsContentFault};
+ghost use Rattle.kp_frames.specs.Fault.{Refuses, IsContentFault};
 ghost use Rattle.kp_frames.specs.Writing.{IsFrame};
 ghost use Rattle.kp_frames.specs.Response.{api_of, body, answer, FitsResponse, spelling, Spells, response_at};
 
@@ -120,7 +120,7 @@ fn read_body(alloc: Global, api: Api, bytes: &[u8]) -> Result<(ResponseBody, &[u
 
 #[tactic(auto, unfolding(crate::specs::Response::response_at, crate::specs::Response::answer))]
 fn read_whole(alloc: Global, api: Api, bytes: &[u8]) -> Result<Response, FrameFault>
-    ensures { Answers (IsOk (int32.read bytes.now)) (λ r. r) result (response_at api bytes.now) }
+    ensures { Answers (Refuses (IsOk (int32.read bytes.now))) (λ r. r) result (response_at api bytes.now) }
 {
     let (correlation, rest) = read_i32(bytes)?;
     let (body, rest) = read_body(alloc, api, rest)?;
@@ -145,7 +145,7 @@ pub fn read_response(alloc: Global, api: Api, bytes: &[u8]) -> Result<Response, 
     ensures faults { IfErr result IsContentFault }
 
     // Which fault it is.
-    ensures exact { Answers (IsOk (int32.read bytes.now)) (λ r. r) result (response_at api bytes.now) }
+    ensures exact { Answers (Refuses (IsOk (int32.read bytes.now))) (λ r. r) result (response_at api bytes.now) }
 {
     read_whole(alloc, api, bytes)
 }

@@ -39,7 +39,11 @@ abbrev pub Fails : {Y : Type 0} → ReadError → Result Y WireFault → Type 0
 Fails Memory read = Unit {0}
 Fails (Fault fault) read = read ≡ Err fault
 
+-- What a function gave, seen by view, is what reading gives; or it is an error, with which it refuses what reading gives.
+abbrev pub Answers : {X Y E F : Type 0} → (E → Result Y F → Type 0) → (X → Y) → Result X E → Result Y F → Type 0
+Answers refuses view (Ok x) read = read ≡ Ok (view x)
+Answers refuses view (Err e) read = refuses e read
+
 -- What a function gave, seen by view, is what reading gives, unless memory was refused.
 abbrev pub Gives : {X Y : Type 0} → (X → Y) → Result X ReadError → Result Y WireFault → Type 0
-Gives view (Ok x) read = read ≡ Ok (view x)
-Gives view (Err e) read = Fails e read
+Gives view result read = Answers Fails view result read
