@@ -29,7 +29,7 @@ text after = sized (length_field after) length (λ n. within after (utf8 n))
 
 unfoldable pub header : ℕ → Codec Header
 header after = made
-    (λ p. record { key = p.0; value = p.1 })
+    (λ (key, value). record { key = key; value = value })
     (λ h. (h.key, h.value))
     (pair (text after) (bytes_or_null after))
 
@@ -39,7 +39,7 @@ headers after = array (length_field after) (header after)
 -- what stands behind a record's length
 unfoldable pub fields : ℕ → Codec RelativeRecord
 fields after = made
-    (λ p. record { timestamp_delta = p.1.0; offset_delta = p.1.1.0; key = p.1.1.1.0; value = p.1.1.1.1.0; headers = p.1.1.1.1.1 })
+    (λ (_, (timestamp_delta, (offset_delta, (key, (value, headers))))). record { timestamp_delta = timestamp_delta; offset_delta = offset_delta; key = key; value = value; headers = headers })
     (λ r. (tt, (r.timestamp_delta, (r.offset_delta, (r.key, (r.value, r.headers))))))
     (pair (within after attributes) (pair (within after varlong) (pair (within after varint) (pair (bytes_or_null after) (pair (bytes_or_null after) (headers after))))))
 

@@ -16,19 +16,19 @@ use Rattle.kp_batch.specs.Record.{relative_record}
 
 unfoldable pub front : Codec Front
 front = made
-    (λ p. record { base_offset = p.0; batch_length = p.1.0; leader_epoch = p.1.1.0; magic = p.1.1.1.0; checksum = p.1.1.1.1 })
+    (λ (base_offset, (batch_length, (leader_epoch, (magic, checksum)))). record { base_offset = base_offset; batch_length = batch_length; leader_epoch = leader_epoch; magic = magic; checksum = checksum })
     (λ f. (f.base_offset, (f.batch_length, (f.leader_epoch, (f.magic, f.checksum)))))
     (pair (int w64) (pair (int w32) (pair (int w32) (pair (int w8) (number w32)))))
 
 unfoldable pub head : Codec BatchHead
 head = made
-    (λ p. record { producer_id = p.0; epoch = p.1.0; base_sequence = p.1.1 })
+    (λ (producer_id, (epoch, base_sequence)). record { producer_id = producer_id; epoch = epoch; base_sequence = base_sequence })
     (λ h. (h.producer_id, (h.epoch, h.base_sequence)))
     (pair (int w64) (pair (int w16) (int w32)))
 
 unfoldable pub summary : Codec Summary
 summary = made
-    (λ p. record { attributes = p.0; last_offset_delta = p.1.0; base_timestamp = p.1.1.0; max_timestamp = p.1.1.1.0; head = p.1.1.1.1.0; count = p.1.1.1.1.1 })
+    (λ (attributes, (last_offset_delta, (base_timestamp, (max_timestamp, (head, count))))). record { attributes = attributes; last_offset_delta = last_offset_delta; base_timestamp = base_timestamp; max_timestamp = max_timestamp; head = head; count = count })
     (λ s. (s.attributes, (s.last_offset_delta, (s.base_timestamp, (s.max_timestamp, (s.head, s.count))))))
     (pair (int w16) (pair (int w32) (pair (int w64) (pair (int w64) (pair head (int w32))))))
 

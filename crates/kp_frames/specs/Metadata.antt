@@ -17,24 +17,24 @@ metadata_request = made (λ p. record { topics = p }) (λ r. r.topics) (nullable
 
 unfoldable pub broker : Codec Broker
 broker = made
-    (λ p. record { node_id = p.0; host = p.1.0; port = p.1.1.0; rack = p.1.1.1 })
+    (λ (node_id, (host, (port, rack))). record { node_id = node_id; host = host; port = port; rack = rack })
     (λ b. (b.node_id, (b.host, (b.port, b.rack))))
     (pair int32 (pair string (pair int32 nullable_string)))
 
 unfoldable pub partition_metadata : Codec PartitionMetadata
 partition_metadata = made
-    (λ p. record { error_code = p.0; partition = p.1.0; leader = p.1.1.0; replicas = p.1.1.1.0; isr = p.1.1.1.1 })
+    (λ (error_code, (partition, (leader, (replicas, isr)))). record { error_code = error_code; partition = partition; leader = leader; replicas = replicas; isr = isr })
     (λ m. (m.error_code, (m.partition, (m.leader, (m.replicas, m.isr)))))
     (pair int16 (pair int32 (pair int32 (pair (array_of int32) (array_of int32)))))
 
 unfoldable pub topic_metadata : Codec TopicMetadata
 topic_metadata = made
-    (λ p. record { error_code = p.0; name = p.1.0; is_internal = p.1.1.0; partitions = p.1.1.1 })
+    (λ (error_code, (name, (is_internal, partitions))). record { error_code = error_code; name = name; is_internal = is_internal; partitions = partitions })
     (λ m. (m.error_code, (m.name, (m.is_internal, m.partitions))))
     (pair int16 (pair string (pair boolean (array_of partition_metadata))))
 
 unfoldable pub metadata_response : Codec MetadataResponse
 metadata_response = made
-    (λ p. record { brokers = p.0; controller_id = p.1.0; topics = p.1.1 })
+    (λ (brokers, (controller_id, topics)). record { brokers = brokers; controller_id = controller_id; topics = topics })
     (λ r. (r.brokers, (r.controller_id, r.topics)))
     (pair (array_of broker) (pair int32 (array_of topic_metadata)))

@@ -13,19 +13,19 @@ use Rattle.kp_frames.specs.declared.produce.PartitionProduceResponse.{PartitionP
 
 unfoldable pub partition_data : Codec PartitionProduceData
 partition_data = made
-    (λ p. record { partition = p.0; records = p.1 })
+    (λ (partition, records). record { partition = partition; records = records })
     (λ d. (d.partition, d.records))
     (pair int32 records)
 
 unfoldable pub topic_data : Codec TopicProduceData
 topic_data = made
-    (λ p. record { topic = p.0; partitions = p.1 })
+    (λ (topic, partitions). record { topic = topic; partitions = partitions })
     (λ d. (d.topic, d.partitions))
     (pair string (array_of partition_data))
 
 unfoldable pub produce_request : Codec ProduceRequest
 produce_request = made
-    (λ p. record { transactional_id = p.0; acks = p.1.0; timeout_ms = p.1.1.0; topics = p.1.1.1 })
+    (λ (transactional_id, (acks, (timeout_ms, topics))). record { transactional_id = transactional_id; acks = acks; timeout_ms = timeout_ms; topics = topics })
     (λ r. (r.transactional_id, (r.acks, (r.timeout_ms, r.topics))))
     (pair nullable_string (pair int16 (pair int32 (array_of topic_data))))
 
@@ -33,18 +33,18 @@ produce_request = made
 
 unfoldable pub partition_response : Codec PartitionProduceResponse
 partition_response = made
-    (λ p. record { partition = p.0; error_code = p.1.0; base_offset = p.1.1.0; log_append_time_ms = p.1.1.1 })
+    (λ (partition, (error_code, (base_offset, log_append_time_ms))). record { partition = partition; error_code = error_code; base_offset = base_offset; log_append_time_ms = log_append_time_ms })
     (λ r. (r.partition, (r.error_code, (r.base_offset, r.log_append_time_ms))))
     (pair int32 (pair int16 (pair int64 int64)))
 
 unfoldable pub topic_response : Codec TopicProduceResponse
 topic_response = made
-    (λ p. record { topic = p.0; partitions = p.1 })
+    (λ (topic, partitions). record { topic = topic; partitions = partitions })
     (λ r. (r.topic, r.partitions))
     (pair string (array_of partition_response))
 
 unfoldable pub produce_response : Codec ProduceResponse
 produce_response = made
-    (λ p. record { topics = p.0; throttle_time_ms = p.1 })
+    (λ (topics, throttle_time_ms). record { topics = topics; throttle_time_ms = throttle_time_ms })
     (λ r. (r.topics, r.throttle_time_ms))
     (pair (array_of topic_response) int32)

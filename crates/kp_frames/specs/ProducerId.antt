@@ -7,12 +7,12 @@ use Rattle.kp_frames.specs.declared.producer_id.InitProducerIdResponse.{InitProd
 
 unfoldable pub init_producer_id_request : Codec InitProducerIdRequest
 init_producer_id_request = made
-    (λ p. record { transactional_id = p.0; transaction_timeout_ms = p.1 })
+    (λ (transactional_id, transaction_timeout_ms). record { transactional_id = transactional_id; transaction_timeout_ms = transaction_timeout_ms })
     (λ r. (r.transactional_id, r.transaction_timeout_ms))
     (pair nullable_string int32)
 
 unfoldable pub init_producer_id_response : Codec InitProducerIdResponse
 init_producer_id_response = made
-    (λ p. record { throttle_time_ms = p.0; error_code = p.1.0; producer_id = p.1.1.0; producer_epoch = p.1.1.1 })
+    (λ (throttle_time_ms, (error_code, (producer_id, producer_epoch))). record { throttle_time_ms = throttle_time_ms; error_code = error_code; producer_id = producer_id; producer_epoch = producer_epoch })
     (λ r. (r.throttle_time_ms, (r.error_code, (r.producer_id, r.producer_epoch))))
     (pair int32 (pair int16 (pair int64 int16)))

@@ -49,7 +49,7 @@ body a = record { Fits = λ b. (api_of b ≡ a) × FitsBody b; spell = spell_bod
 -- what stands behind the version
 unfoldable pub known : Api → Codec Request
 known a = made
-    (λ p. record { correlation = p.0; client = p.1.0; body = p.1.1 })
+    (λ (correlation, (client, body)). record { correlation = correlation; client = client; body = body })
     (λ r. (r.correlation, (r.client, r.body)))
     (pair int32 (pair nullable_string (body a)))
 

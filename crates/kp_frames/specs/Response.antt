@@ -45,7 +45,7 @@ body a = record { Fits = λ b. (api_of b ≡ a) × FitsBody b; spell = spell_bod
 -- the response to a request of an api
 unfoldable pub answer : Api → Codec Response
 answer a = made
-    (λ p. record { correlation = p.0; body = p.1 })
+    (λ (correlation, body). record { correlation = correlation; body = body })
     (λ r. (r.correlation, r.body))
     (pair int32 (body a))
 
