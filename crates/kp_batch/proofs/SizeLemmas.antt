@@ -1,6 +1,9 @@
 -- Sizes of fields, of records and of batches.
-use Rattle.std.proofs.Common.{◌≡◌, ℕ, zero, suc, ◌+◌, ◌-◌, ◌/◌, ◌<◌, ◌≤◌, List, [], ◌∷◌, ◌++◌, length, get_or, drop, ℤ, pos, negsuc, Some, None, inl, inr, refl, ap, ◌∙◌, arith}
-use Rattle.std.specs.List.{flat_map}
+use Rattle.std.proofs.Common.{◌≡◌, ℕ, zero, suc, ◌+◌, ◌-◌, ◌/◌, ◌<◌, ◌≤◌, List, [], ◌∷◌, ◌++◌, length, get_or, drop, ℤ, pos, negsuc, Option, Some, None, inl, inr, refl, sym, ap, subst, ◌∙◌, arith}
+use Rattle.std.specs.Prelude.{FitsSigned}
+use Rattle.std.specs.Int.{w32, w64}
+use Rattle.std.specs.List.{flat_map, AllByRecursion}
+use Rattle.std.specs.Str.{IsUtf8}
 use Rattle.std.proofs.lemmas.Bool.{cases_lt}
 use Rattle.std.proofs.lemmas.Bool.Decides.{nat_tests}
 use Rattle.std.proofs.lemmas.List.{length-append, drop_all, append-nil, nil_from_length}
@@ -96,6 +99,41 @@ pub room_for_none : length ((bytes_or_null 0).spell None) ≤ 5
 unfolding bytes_or_null length_field
 room_for_none = varint_few (negsuc 0)
 
+-- what is within the limit has a length that can be told
+pub nullable_fits : (b : Option (List ℕ)) → length ((bytes_or_null 0).spell b) ≤ 2147483647 → (bytes_or_null 0).Fits b
+unfolding bytes_or_null length_field
+nullable_fits None small = let none : FitsSigned w32 (negsuc 0) = record { sfits = omega arith } in none
+nullable_fits (Some s) small = let len : FitsSigned w32 (pos (length s)) = record { sfits = omega (arith, length-some s) } in (len, refl)
+
+pub no_headers_fit : (hs : List Header) → length hs ≡ 0 → (headers 0).Fits hs
+unfolding headers length_field
+no_headers_fit [] none = let len : FitsSigned w32 (pos 0) = record { sfits = omega arith } in (len, (refl, tt))
+no_headers_fit (h ∷ hs) none = absurd (omega arith)
+
+pub key_is_short : (h : Header) → (header 0).Fits h → length h.key ≤ 2147483647
+unfolding header text length_field
+key_is_short h fits = omega (arith, fits.0.0.sfits)
+
+pub value_fits : (h : Header) → (header 0).Fits h → (bytes_or_null 0).Fits h.value
+unfolding header
+value_fits h fits = fits.1
+
+pub header_fits : (h : Header) → length h.key ≤ 2147483647 → IsUtf8 h.key → (bytes_or_null 0).Fits h.value → (header 0).Fits h
+unfolding header text length_field
+header_fits h short text value = let len : FitsSigned w32 (pos (length h.key)) = record { sfits = omega arith } in ((len, (refl, text)), value)
+
+-- one header more that fits
+pub header_more : (hs : List Header) (k : ℕ) (h : Header) (P : Type 0) → k < length hs → h ≡ get_or hs k h → (header 0).Fits h
+    → (AllByRecursion (header 0).Fits (drop k hs) → P) → AllByRecursion (header 0).Fits (drop (k + 1) hs) → P
+header_more hs k h P lt e here so_far rest = so_far (subst (AllByRecursion (header 0).Fits) (sym (drop_here hs k h lt e)) (here, rest))
+
+pub headers_fit : (hs : List Header) (k : ℕ) → length hs ≤ 2147483647 → length hs ≤ k → (AllByRecursion (header 0).Fits (drop k hs) → AllByRecursion (header 0).Fits hs)
+    → (headers 0).Fits hs
+unfolding headers length_field
+headers_fit hs k few end fits =
+    let len : FitsSigned w32 (pos (length hs)) = record { sfits = omega arith } in
+    (len, (refl, fits (subst (AllByRecursion (header 0).Fits) (sym (drop_all k hs end)) tt)))
+
 pub ruleset room_laws = (room_for_some, room_for_none)
 
 pub fields_size-parts : (r : RelativeRecord) → fields_size r ≡ 1 + length (varlong.spell r.timestamp_delta) + length (varint.spell r.offset_delta) + ((length ((bytes_or_null 0).spell r.key) + length ((bytes_or_null 0).spell r.value)) + length ((headers 0).spell r.headers))
@@ -107,6 +145,12 @@ fields_size-parts r =
     let i = varint.spell r.offset_delta in
     let t = varlong.spell r.timestamp_delta in
     omega (arith, length-append (0 ∷ []) (t ++ (i ++ (k ++ (v ++ h)))), length-append t (i ++ (k ++ (v ++ h))), length-append i (k ++ (v ++ h)), length-append k (v ++ h), length-append v h)
+
+pub fields_fit : (r : RelativeRecord) → FitsSigned w64 r.timestamp_delta → FitsSigned w32 r.offset_delta → (headers 0).Fits r.headers → fields_size r ≤ 2147483647 → (fields 0).Fits r
+unfolding fields attributes
+fields_fit r delta offset fit small =
+    let parts = fields_size-parts r in
+    (tt, (delta, (offset, (nullable_fits r.key (omega (arith, parts, small)), (nullable_fits r.value (omega (arith, parts, small)), fit)))))
 
 -- ---- records
 

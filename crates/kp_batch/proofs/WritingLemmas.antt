@@ -22,14 +22,6 @@ use Rattle.kp_batch.specs.Spelling.{front, head, summary, summary_of, covered, f
 use Rattle.kp_batch.proofs.RelativeLemmas.{HasMoment, relatives_from-here}
 use Rattle.kp_batch.proofs.SizeLemmas.{length-headers}
 
-pub long_headers : (hs : List Header) → Any (λ h. 2147483647 < length ((header 0).spell h)) hs → 2147483647 < length ((headers 0).spell hs)
-long_headers hs any = omega (arith, length-flat_map-take (header 0).spell hs any.0 any.1 any.2, ap (λ (h : Header). length ((header 0).spell h)) any.3, any.4, length-headers hs)
-
-pub no_headers_fit : (hs : List Header) → length hs ≡ 0 → (headers 0).Fits hs
-unfolding headers length_field
-no_headers_fit [] none = let len : FitsSigned w32 (pos 0) = record { sfits = omega arith } in (len, (refl, tt))
-no_headers_fit (h ∷ hs) none = absurd (omega arith)
-
 pub fields_spelled : (r : RelativeRecord) (o0 o1 o2 o3 o4 o5 o6 : List ℕ) → o1 ≡ o0 ++ 0 ∷ [] → o2 ≡ o1 ++ varlong.spell r.timestamp_delta → o3 ≡ o2 ++ varint.spell r.offset_delta
     → o4 ≡ o3 ++ (bytes_or_null 0).spell r.key → o5 ≡ o4 ++ (bytes_or_null 0).spell r.value → o6 ≡ o5 ++ (headers 0).spell r.headers → o6 ≡ o0 ++ (fields 0).spell r
 unfolding fields attributes
@@ -57,10 +49,9 @@ pub fits_more : (base k : ℕ) (rs : List Record) (r : Record) (P : Type 0) → 
     → (AllByRecursion relative_record.Fits (relatives_from base k (drop k rs)) → P) → AllByRecursion relative_record.Fits (relatives_from base (k + 1) (drop (k + 1) rs)) → P
 fits_more base k rs r P lt e here so_far rest = so_far (subst (AllByRecursion relative_record.Fits) (sym (relatives_from-here base k rs r lt e)) (here, rest))
 
-pub moments_further : (k : ℕ) (rs : List Record) (r : Record) (P : Type 0) → k < length rs → r ≡ get_or rs k r → HasMoment r
-    → (AllByRecursion HasMoment (drop k rs) → P) → AllByRecursion HasMoment (drop (k + 1) rs) → P
-moments_further k rs r P lt e here so_far rest =
-    so_far (subst (AllByRecursion HasMoment) (sym (drop_here rs k r lt e)) (here, rest))
+pub moments_up_to : (rs : List Record) → max_timestamp rs < 2 ^ 63 → AllByRecursion HasMoment rs
+moments_up_to [] late = tt
+moments_up_to (r ∷ rs) late = (omega (arith, late), moments_up_to rs (omega (arith, late)))
 
 pub latest_further : (rs : List Record) (k : ℕ) (r : Record) (latest next whole : ℕ) → k < length rs → r ≡ get_or rs k r → next ≡ max latest r.timestamp → max latest (max_timestamp (drop k rs)) ≡ whole → max next (max_timestamp (drop (k + 1) rs)) ≡ whole
 latest_further rs k r latest next whole lt e is so_far =

@@ -105,6 +105,11 @@ pub record Spells (bytes : List ℕ) (b : Batch) : Type 0 where
 
 -- ---- what a writer writes
 
+-- The value, which fits its format, was put behind what was there.
+pub record Puts (Fits : Type 0) (spelling old new : List ℕ) : Type 0 where
+  pub fits : Fits
+  pub spelled : new ≡ old ++ spelling
+
 abbrev pub written : BatchHead → List Record → Batch
 written h rs = record { base_offset = pos 0; leader_epoch = negsuc 0; head = h; records = rs }
 

@@ -1,15 +1,16 @@
 //! The sizes of records and of batches, in bytes.
 
-ghost use Rattle.std.specs.Prelude.{◌≡◌, ℕ, ◌+◌, ◌*◌, ◌≤◌, List, [], ◌∷◌, ◌++◌, length, map, pos, ℤ};
+ghost use Rattle.std.specs.Prelude.{◌≡◌, ℕ, ◌+◌, ◌<◌, ◌≤◌, List, [], ◌∷◌, ◌++◌, length, map, pos, ℤ, IsSome, IsNone, IfSome};
 ghost use Rattle.std.specs.List.{flat_map};
+ghost use Rattle.kp_wire.specs.Sizes.{IsSize};
 ghost use Rattle.kp_wire.specs.Varint.{varint};
-ghost use Rattle.kp_batch.specs.Record.{bytes_or_null, header, headers, fields_size, relative_record};
+ghost use Rattle.kp_batch.specs.Record.{bytes_or_null, header, headers, fields, fields_size, relative_record};
 ghost use Rattle.kp_batch.specs.Spelling.{relative_by, base_timestamp, measured, up_to_limit, size_of_batch};
 
 use crate::as_record::AsRecord;
 use crate::layout::RECORDS_AT;
 use crate::record::{Header, Record, Timestamp};
-use kp_wire::{Blob, varint_len, varlong_len};
+use kp_wire::{Blob, add_sizes as add_wire_sizes, varint_len, varlong_len};
 
 /// The greatest size of a batch, and so of a record: the greatest int32.
 pub const SIZE_LIMIT: u64 = 2147483647;
@@ -46,7 +47,7 @@ pub(crate) fn add_sizes(a: u64, b: u64) -> u64
 #[inline]
 fn sized_len(len: usize) -> u64
     ensures told { up_to_limit result ≡ up_to_limit (length (varint.spell (pos len)) + len) }
-    ensures fits { result ≤ SIZE_LIMIT + 5 }
+    ensures few { result ≤ SIZE_LIMIT + 5 }
 {
     if len as u64 > SIZE_LIMIT {
         return TOO_LARGE;
@@ -58,7 +59,7 @@ fn sized_len(len: usize) -> u64
 #[tactic(auto, unfolding(crate::specs::Record::bytes_or_null, crate::specs::Record::length_field))]
 fn nullable_size(bytes: &Option<Blob>) -> u64
     ensures told { up_to_limit result ≡ up_to_limit (length ((bytes_or_null 0).spell bytes.now)) }
-    ensures fits { result ≤ SIZE_LIMIT + 5 }
+    ensures few { result ≤ SIZE_LIMIT + 5 }
 {
     match bytes {
         None => varint_len(-1),
@@ -66,24 +67,56 @@ fn nullable_size(bytes: &Option<Blob>) -> u64
     }
 }
 
-fn header_size(h: &Header) -> u64
-    ensures told { up_to_limit result ≡ up_to_limit (length ((header 0).spell h.now)) }
-    ensures fits { result ≤ 2 * (SIZE_LIMIT + 5) }
+/// The size of so many bytes with their length before them. None where they are more than a length can say.
+#[inline]
+fn size_of_sized(len: usize) -> Option<u64>
+    ensures short { IsSome result → len ≤ SIZE_LIMIT }
+    ensures long { IsNone result → SIZE_LIMIT < len }
+    ensures value { IfSome result (λ size. size ≡ length (varint.spell (pos len)) + len) }
 {
-    sized_len(h.key.len()) + nullable_size(&h.value)
+    if len as u64 > SIZE_LIMIT {
+        return None;
+    }
+    Some(varint_len(len as i32) + len as u64)
+}
+
+#[inline]
+#[tactic(auto, unfolding(crate::specs::Record::bytes_or_null, crate::specs::Record::length_field))]
+fn size_of_nullable(bytes: &Option<Blob>) -> Option<u64>
+    ensures size { IsSize ((bytes_or_null 0).Fits bytes.now) ((bytes_or_null 0).spell bytes.now) result }
+    ensures long { IsNone result → SIZE_LIMIT < length ((bytes_or_null 0).spell bytes.now) }
+{
+    match bytes {
+        None => Some(varint_len(-1)),
+        Some(bytes) => size_of_sized(bytes.len()),
+    }
+}
+
+/// The size of the header. None where its key or its value is more than its length can say.
+pub(crate) fn header_size(h: &Header) -> Option<u64>
+    ensures size { IsSize ((header 0).Fits h.now) ((header 0).spell h.now) result }
+    ensures long { IsNone result → SIZE_LIMIT < length ((header 0).spell h.now) }
+{
+    let key = size_of_sized(h.key.as_str().len())?;
+    let value = size_of_nullable(&h.value)?;
+    Some(add_wire_sizes(key, value))
 }
 
 /// The size of the headers with their count before them, or the least size above the limit where it is above.
 #[inline(never)]
 fn some_headers_size(hs: &[Header]) -> u64
-    ensures { result ≡ up_to_limit (length ((headers 0).spell hs.now)) }
+    ensures told { result ≡ up_to_limit (length ((headers 0).spell hs.now)) }
+    ensures fits { result ≤ SIZE_LIMIT → (headers 0).Fits hs.now }
 {
     if hs.len() as u64 > SIZE_LIMIT {
         return TOO_LARGE;
     }
     let mut size = varint_len(hs.len() as i32);
     for h in hs {
-        size = (size + header_size(h)).min(TOO_LARGE);
+        match header_size(h) {
+            None => return TOO_LARGE,
+            Some(more) => size = add_wire_sizes(size, more).min(TOO_LARGE),
+        }
     }
     size
 }
@@ -92,7 +125,8 @@ fn some_headers_size(hs: &[Header]) -> u64
 #[inline]
 fn headers_size(hs: &[Header]) -> u64
     ensures told { up_to_limit result ≡ up_to_limit (length ((headers 0).spell hs.now)) }
-    ensures fits { result ≤ SIZE_LIMIT + 5 }
+    ensures few { result ≤ SIZE_LIMIT + 5 }
+    ensures fits { result ≤ SIZE_LIMIT → (headers 0).Fits hs.now }
 {
     if hs.is_empty() {
         varint_len(0)
@@ -104,7 +138,8 @@ fn headers_size(hs: &[Header]) -> u64
 /// The size of what stands behind a record's length, or a size above the limit where it is above.
 #[inline(always)]
 pub(crate) fn record_fields_size(body: &Record, timestamp_delta: i64, offset_delta: i32) -> u64
-    ensures { up_to_limit result ≡ up_to_limit (fields_size (relative_by timestamp_delta offset_delta body.now)) }
+    ensures fits { result ≤ SIZE_LIMIT → (fields 0).Fits (relative_by timestamp_delta offset_delta body.now) }
+    ensures told { up_to_limit result ≡ up_to_limit (fields_size (relative_by timestamp_delta offset_delta body.now)) }
 {
     1 + varlong_len(timestamp_delta)
         + varint_len(offset_delta)

@@ -1,37 +1,33 @@
 //! A batch into bytes.
 
-ghost use Rattle.std.specs.Prelude.{◌≡◌, ℕ, ◌+◌, ◌<◌, ◌≤◌, ◌++◌, ◌^◌, ◌-◌, List, pos, length, map, take, drop, max, IfOk, OnOk, IsErrOf};
+ghost use Rattle.std.specs.Prelude.{◌≡◌, ℕ, ◌+◌, ◌<◌, ◌≤◌, ◌++◌, ◌^◌, ◌-◌, List, pos, length, map, take, drop, max, IfOk, OnOk};
 ghost use Rattle.std.specs.Int.{w32, to_be_bytes};
 ghost use Rattle.std.specs.List.{flat_map, AllByRecursion};
 ghost use Rattle.kp_wire.specs.Checksum.{crc};
 ghost use Rattle.kp_wire.specs.Codec.{int};
 ghost use Rattle.kp_wire.specs.Varint.{varint};
 ghost use Rattle.kp_batch.specs.declared.summary.Front.{Front};
-ghost use Rattle.kp_batch.specs.Record.{bytes_or_null, header, headers, fields, fields_size, relative_record};
-ghost use Rattle.kp_batch.specs.Spelling.{front, head, summary, relative_by, relatives_from, max_timestamp, size_of_batch, covered, HasFields, written, Spells};
+ghost use Rattle.kp_batch.specs.Record.{bytes_or_null, headers, fields, relative_record};
+ghost use Rattle.kp_batch.specs.Spelling.{front, head, summary, relative_by, relatives_from, max_timestamp, size_of_batch, covered, HasFields, Puts, written, Spells};
 
 use crate::as_record::AsRecord;
 use crate::batch::BatchHead;
 use crate::layout::{CHECKSUM_AT, COVERED_AT, LENGTH_AT, LENGTH_END, MAGIC};
 use crate::record::{Header, Record, Timestamp};
-use crate::size::{SIZE_LIMIT, record_fields_size, room_for};
+use crate::size::{SIZE_LIMIT, header_size, record_fields_size, room_for};
 use crate::summary::{Front, Summary};
 use kp_wire::{
-    Blob, WriteError, WriteField, crc32c, put_all, put_i8, put_i16, put_i32, put_i64, put_u32,
-    put_varint, put_varlong,
+    Blob, MeasuredField, crc32c, put_each, put_i8, put_i16, put_i32, put_i64, put_u32, put_varint,
+    put_varlong,
 };
 use std::alloc::{AllocError, Global};
 
 /// Appends the bytes behind their length. An `Err` may leave a part.
 #[inline(always)]
-fn put_sized(out: &mut Vec<u8>, bytes: &[u8]) -> Result<(), WriteError>
-    ensures spelled { OnOk result (out.new.items ≡ out.old.items ++ (varint.spell (pos (length bytes.now)) ++ bytes.now)) }
-    ensures fits { OnOk result (length bytes.now ≤ SIZE_LIMIT) }
-    ensures long_only { IsErrOf result WriteError.BadLength → SIZE_LIMIT < length bytes.now }
+fn put_sized(out: &mut Vec<u8>, bytes: &[u8]) -> Result<(), AllocError>
+    requires { length bytes.now ≤ SIZE_LIMIT }
+    ensures { OnOk result (out.new.items ≡ out.old.items ++ (varint.spell (pos (length bytes.now)) ++ bytes.now)) }
 {
-    if bytes.len() as u64 > SIZE_LIMIT {
-        return Err(WriteError::BadLength);
-    }
     put_varint(out, bytes.len() as i32)?;
     out.extend_from_slice(bytes)?;
     Ok(())
@@ -40,10 +36,9 @@ fn put_sized(out: &mut Vec<u8>, bytes: &[u8]) -> Result<(), WriteError>
 /// Appends the bytes behind their length, or the length -1 where there are none. An `Err` may leave a part.
 #[inline(always)]
 #[tactic(auto, unfolding(crate::specs::Record::bytes_or_null, crate::specs::Record::length_field))]
-fn put_nullable(out: &mut Vec<u8>, bytes: &Option<Blob>) -> Result<(), WriteError>
-    ensures spelled { OnOk result (out.new.items ≡ out.old.items ++ (bytes_or_null 0).spell bytes.now) }
-    ensures fits { OnOk result ((bytes_or_null 0).Fits bytes.now) }
-    ensures long_only { IsErrOf result WriteError.BadLength → SIZE_LIMIT < length ((bytes_or_null 0).spell bytes.now) }
+fn put_nullable(out: &mut Vec<u8>, bytes: &Option<Blob>) -> Result<(), AllocError>
+    requires { (bytes_or_null 0).Fits bytes.now }
+    ensures { OnOk result (out.new.items ≡ out.old.items ++ (bytes_or_null 0).spell bytes.now) }
 {
     match bytes {
         None => put_varint(out, -1)?,
@@ -52,19 +47,19 @@ fn put_nullable(out: &mut Vec<u8>, bytes: &Option<Blob>) -> Result<(), WriteErro
     Ok(())
 }
 
-impl WriteField for Header {
-    ghost use Rattle.std.specs.Prelude.{length, ◌<◌};
-    ghost use Rattle.kp_batch.specs.declared.size.TheConstants.{SIZE_LIMIT};
+impl MeasuredField for Header {
     ghost use Rattle.kp_batch.specs.Record.{header};
 
     ghost spells = { (header 0).spell };
 
     ghost fits = { (header 0).Fits };
 
-    ghost is_long = { λ h. SIZE_LIMIT < length ((header 0).spell h) };
+    fn size(&self) -> Option<u64> {
+        header_size(self)
+    }
 
-    #[tactic(auto, using(crate::proofs::SizeLemmas::size_laws), unfolding(crate::specs::Record::header, crate::specs::Record::text, crate::specs::Record::length_field))]
-    fn put(&self, out: &mut Vec<u8>) -> Result<(), WriteError> {
+    #[tactic(auto, unfolding(crate::specs::Record::header, crate::specs::Record::text, crate::specs::Record::length_field))]
+    fn put(&self, out: &mut Vec<u8>) -> Result<(), AllocError> {
         put_sized(out, self.key.as_str().as_bytes())?;
         put_nullable(out, &self.value)?;
         Ok(())
@@ -73,26 +68,21 @@ impl WriteField for Header {
 
 /// Appends the headers behind their count. An `Err` may leave a part.
 #[inline(never)]
-#[tactic(auto, using(crate::proofs::SizeLemmas::size_laws), unfolding(crate::specs::Record::headers, crate::specs::Record::length_field))]
-fn put_some_headers(out: &mut Vec<u8>, hs: &[Header]) -> Result<(), WriteError>
-    ensures spelled { OnOk result (out.new.items ≡ out.old.items ++ (headers 0).spell hs.now) }
-    ensures fits { OnOk result ((headers 0).Fits hs.now) }
-    ensures long_only { IsErrOf result WriteError.BadLength → SIZE_LIMIT < length ((headers 0).spell hs.now) }
+#[tactic(auto, unfolding(crate::specs::Record::headers, crate::specs::Record::length_field))]
+fn put_some_headers(out: &mut Vec<u8>, hs: &[Header]) -> Result<(), AllocError>
+    requires { (headers 0).Fits hs.now }
+    ensures { OnOk result (out.new.items ≡ out.old.items ++ (headers 0).spell hs.now) }
 {
-    if hs.len() as u64 > SIZE_LIMIT {
-        return Err(WriteError::BadLength);
-    }
     put_varint(out, hs.len() as i32)?;
-    put_all(out, hs)?;
+    put_each(out, hs)?;
     Ok(())
 }
 
 /// As `put_some_headers`, at once where there is no header, as in most records.
 #[inline]
-fn put_headers(out: &mut Vec<u8>, hs: &[Header]) -> Result<(), WriteError>
-    ensures spelled { OnOk result (out.new.items ≡ out.old.items ++ (headers 0).spell hs.now) }
-    ensures fits { OnOk result ((headers 0).Fits hs.now) }
-    ensures long_only { IsErrOf result WriteError.BadLength → SIZE_LIMIT < length ((headers 0).spell hs.now) }
+fn put_headers(out: &mut Vec<u8>, hs: &[Header]) -> Result<(), AllocError>
+    requires { (headers 0).Fits hs.now }
+    ensures { OnOk result (out.new.items ≡ out.old.items ++ (headers 0).spell hs.now) }
 {
     if !hs.is_empty() {
         return put_some_headers(out, hs);
@@ -103,17 +93,15 @@ fn put_headers(out: &mut Vec<u8>, hs: &[Header]) -> Result<(), WriteError>
 
 /// Appends what stands behind a record's length. An `Err` may leave a part.
 #[inline]
-#[tactic(auto, using(crate::proofs::SizeLemmas::size_laws), unfolding(crate::specs::Record::fields, crate::specs::Record::attributes))]
+#[tactic(auto, unfolding(crate::specs::Record::fields, crate::specs::Record::attributes))]
 fn put_fields(
     out: &mut Vec<u8>,
     body: &Record,
     timestamp_delta: i64,
     offset_delta: i32,
-) -> Result<(), WriteError>
-    ensures spelled { OnOk result (out.new.items ≡ out.old.items ++ (fields 0).spell (relative_by timestamp_delta offset_delta body.now)) }
-    ensures fits { OnOk result ((fields 0).Fits (relative_by timestamp_delta offset_delta body.now)) }
-    ensures long_only { IsErrOf result WriteError.BadLength
-        → SIZE_LIMIT < fields_size (relative_by timestamp_delta offset_delta body.now) }
+) -> Result<(), AllocError>
+    requires { (fields 0).Fits (relative_by timestamp_delta offset_delta body.now) }
+    ensures { OnOk result (out.new.items ≡ out.old.items ++ (fields 0).spell (relative_by timestamp_delta offset_delta body.now)) }
 {
     out.push(0)?;
     put_varlong(out, timestamp_delta)?;
@@ -124,41 +112,34 @@ fn put_fields(
     Ok(())
 }
 
-/// Appends a record. An `Err` may leave a part.
+/// Appends a record, whose size is at most `SIZE_LIMIT`. An `Err` may leave a part.
 #[inline]
-#[tactic(auto, using(crate::proofs::SizeLemmas::size_laws), unfolding(crate::specs::Record::relative_record))]
 fn put_record(
     out: &mut Vec<u8>,
     body: &Record,
     timestamp_delta: i64,
     offset_delta: i32,
-) -> Result<(), WriteError>
-    ensures spelled { OnOk result (out.new.items ≡ out.old.items ++ relative_record.spell (relative_by timestamp_delta offset_delta body.now)) }
-    ensures fits { OnOk result (relative_record.Fits (relative_by timestamp_delta offset_delta body.now)) }
-    ensures long_only { IsErrOf result WriteError.BadLength
-        → SIZE_LIMIT < length (relative_record.spell (relative_by timestamp_delta offset_delta body.now)) }
+) -> Result<(), AllocError>
+    requires { length (relative_record.spell (relative_by timestamp_delta offset_delta body.now)) ≤ SIZE_LIMIT }
+    ensures { let r = relative_by timestamp_delta offset_delta body.now in
+        OnOk result (Puts (relative_record.Fits r) (relative_record.spell r) out.old.items out.new.items) }
 {
     let size = record_fields_size(body, timestamp_delta, offset_delta);
-    if size > SIZE_LIMIT {
-        return Err(WriteError::BadLength);
-    }
     put_varint(out, size as i32)?;
     put_fields(out, body, timestamp_delta, offset_delta)?;
     Ok(())
 }
 
-/// Appends the records of a batch with this base timestamp. An `Err` may leave a part.
+/// Appends the records of a batch with this base timestamp, whose sizes are `SIZE_LIMIT` at most together. An `Err`
+/// may leave a part.
 fn put_records<T: AsRecord>(
     out: &mut Vec<u8>,
     base: Timestamp,
     records: &[T],
-) -> Result<(), WriteError>
-    requires { length records.now ≤ SIZE_LIMIT }
-    ensures spelled { OnOk result (out.new.items ≡ out.old.items ++ flat_map relative_record.spell (relatives_from base 0 (map T.body records.now))) }
-    ensures fits { OnOk result (AllByRecursion relative_record.Fits (relatives_from base 0 (map T.body records.now))) }
-    ensures moments { OnOk result (AllByRecursion (λ r. r.timestamp < 2 ^ 63) (map T.body records.now)) }
-    ensures long_only { IsErrOf result WriteError.BadLength
-        → SIZE_LIMIT < length (flat_map relative_record.spell (relatives_from base 0 (map T.body records.now))) }
+) -> Result<(), AllocError>
+    requires { length (flat_map relative_record.spell (relatives_from base 0 (map T.body records.now))) ≤ SIZE_LIMIT }
+    ensures { let rs = relatives_from base 0 (map T.body records.now) in
+        OnOk result (Puts (AllByRecursion relative_record.Fits rs) (flat_map relative_record.spell rs) out.old.items out.new.items) }
 {
     for (k, item) in records.iter().enumerate() {
         let body = item.as_record();
@@ -251,12 +232,11 @@ fn put_covered<T: AsRecord>(
     out: &mut Vec<u8>,
     h: BatchHead,
     records: &[T],
-) -> Result<(), WriteError>
+) -> Result<(), AllocError>
     requires some { 0 < length records.now }
-    requires few { length records.now ≤ SIZE_LIMIT }
-    ensures spelled { OnOk result (out.new.items ≡ out.old.items ++ covered h (map T.body records.now)) }
-    ensures fits { OnOk result (HasFields h (map T.body records.now)) }
-    ensures long_only { IsErrOf result WriteError.BadLength → SIZE_LIMIT < size_of_batch (map T.body records.now) }
+    requires fits { size_of_batch (map T.body records.now) ≤ SIZE_LIMIT }
+    ensures { let rs = map T.body records.now in
+        OnOk result (Puts (HasFields h rs) (covered h rs) out.old.items out.new.items) }
 {
     let base = records[0].as_record().timestamp;
     let count = records.len() as i32;
@@ -293,12 +273,7 @@ pub fn write_batch<T: AsRecord>(
         checksum: 0,
     };
     put_front(&mut out, &front)?;
-    match put_covered(&mut out, h, records) {
-        Ok(()) => {
-            seal(&mut out);
-            Ok(out)
-        }
-        Err(WriteError::Memory) => Err(AllocError),
-        Err(WriteError::BadLength) => unreachable!(),
-    }
+    put_covered(&mut out, h, records)?;
+    seal(&mut out);
+    Ok(out)
 }

@@ -1,8 +1,7 @@
-//! What is wrong with bytes, and what else stops a reader or a writer.
+//! What is wrong with bytes, and what else stops a reader.
 
 ghost use Rattle.std.specs.Prelude.{◌≡◌};
 ghost use Rattle.kp_wire.specs.declared.fault.ReadError.TheVariants.{Memory, Fault};
-ghost use Rattle.kp_wire.specs.declared.fault.WriteError.TheVariants as write;
 
 use std::alloc::{AllocError, AllocFailed};
 use thiserror::Error;
@@ -62,32 +61,5 @@ impl<T: Drop> From<AllocFailed<T>> for ReadError {
 
     fn from(_error: AllocFailed<T>) -> ReadError {
         ReadError::Memory
-    }
-}
-
-/// Why a value was not written.
-#[derive(Clone, Copy, Debug, PartialEq, Eq, Error)]
-pub enum WriteError {
-    /// A growth was refused.
-    #[error("out of memory")]
-    Memory,
-    /// The value is longer than its format can say.
-    #[error("a value is too long for its format")]
-    BadLength,
-}
-
-impl From<AllocError> for WriteError {
-    ghost from_gives = { λ _ e. e ≡ write.Memory };
-
-    fn from(_error: AllocError) -> WriteError {
-        WriteError::Memory
-    }
-}
-
-impl<T: Drop> From<AllocFailed<T>> for WriteError {
-    ghost from_gives = { λ _ e. e ≡ write.Memory };
-
-    fn from(_error: AllocFailed<T>) -> WriteError {
-        WriteError::Memory
     }
 }

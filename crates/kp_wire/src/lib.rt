@@ -25,11 +25,11 @@ pub use array::{
 pub use blob::Blob;
 pub use boolean::{put_bool, read_bool, size_of_bool};
 pub use checksum::crc32c;
-pub use codec::{ReadField, WriteField, put_all, read_into, read_many};
-pub use fault::{ReadError, WireFault, WriteError};
+pub use codec::{ReadField, read_into, read_many};
+pub use fault::{ReadError, WireFault};
 pub use field::{end_before, read_bytes, read_utf8};
 pub use hash::{murmur2, partition_of_key};
-pub use measured::{MeasuredField, add_sizes};
+pub use measured::{MeasuredField, add_sizes, put_each};
 pub use number::{
     put_i8, put_i16, put_i32, put_i64, put_u32, read_i8, read_i16, read_i32, read_i64, read_u32,
     size_of_i16, size_of_i32, size_of_i64,

@@ -3,15 +3,15 @@ mod hash;
 mod string;
 
 use kp_wire::{
-    Blob, ReadError, ReadField, Seq, Text, WireFault, WriteError, WriteField, add_sizes, crc32c,
-    end_before, murmur2, partition_of_key, put_all, put_array, put_bool, put_i8, put_i16, put_i32,
-    put_i64, put_nullable, put_nullable_array, put_nullable_text, put_records, put_string,
-    put_text, put_u32, put_varint, put_varlong, read_array, read_bool, read_bytes, read_i8,
-    read_i16, read_i32, read_i64, read_many, read_nullable, read_nullable_array,
-    read_nullable_text, read_records, read_string, read_text, read_u32, read_utf8, read_varint,
-    read_varlong, size_of_array, size_of_bool, size_of_i16, size_of_i32, size_of_i64,
-    size_of_nullable_array, size_of_nullable_text, size_of_records, size_of_text, take_nullable,
-    take_string, take_varint, take_varlong, varint_len, varlong_len,
+    Blob, ReadError, ReadField, Seq, Text, WireFault, add_sizes, crc32c, end_before, murmur2,
+    partition_of_key, put_array, put_bool, put_each, put_i8, put_i16, put_i32, put_i64,
+    put_nullable, put_nullable_array, put_nullable_text, put_records, put_string, put_text,
+    put_u32, put_varint, put_varlong, read_array, read_bool, read_bytes, read_i8, read_i16,
+    read_i32, read_i64, read_many, read_nullable, read_nullable_array, read_nullable_text,
+    read_records, read_string, read_text, read_u32, read_utf8, read_varint, read_varlong,
+    size_of_array, size_of_bool, size_of_i16, size_of_i32, size_of_i64, size_of_nullable_array,
+    size_of_nullable_text, size_of_records, size_of_text, take_nullable, take_string, take_varint,
+    take_varlong, varint_len, varlong_len,
 };
 use std::alloc::Global;
 use std::test::Fail;
@@ -136,7 +136,7 @@ fn small_lists_give_back_what_they_were_made_of(rt: HostRuntime) -> Result<(), F
     Ok(())
 }
 
-/// A field for the two loops over lists.
+/// A field for the loop that reads a list.
 #[derive(Debug, Drop)]
 struct Word(i16);
 
@@ -154,29 +154,18 @@ impl ReadField for Word {
     }
 }
 
-impl WriteField for Word {
-    ghost use Rattle.std.specs.Int.{w16};
-    ghost use Rattle.kp_wire.specs.Codec.{int};
-
-    ghost spells = { λ word. (int w16).spell word.0 };
-
-    ghost fits = { λ _. Unit {0} };
-
-    ghost is_long = { λ _. ⊥ };
-
-    fn put(&self, out: &mut Vec<u8>) -> Result<(), WriteError> {
-        put_i16(out, self.0)?;
-        Ok(())
-    }
-}
-
 #[test]
 fn lists_are_read_and_written_in_order(rt: HostRuntime) -> Result<(), Fail> {
     let bytes = [0, 1, 0, 2, 9];
     let (words, rest) = read_many::<Word>(rt.alloc(), 2, &bytes, 0)?;
     assert_eq!(rt; rest, [9].as_slice());
+    assert_eq!(rt; words.len(), 2);
+    assert_eq!(rt; words.as_slice()[1].0, 2);
     let mut out = Vec::new(rt.alloc());
-    put_all(&mut out, words.as_slice())?;
-    assert_eq!(rt; out.as_slice(), [0, 1, 0, 2].as_slice());
+    put_each(&mut out, &[1i32, -2])?;
+    assert_eq!(rt;
+        out.as_slice(),
+        [0, 0, 0, 1, 0xff, 0xff, 0xff, 0xfe].as_slice()
+    );
     Ok(())
 }

@@ -14,7 +14,7 @@ returns-then-fields-gt-SIZE_LIMIT c =
     let delta : FitsSigned w64 c.args.timestamp_delta = c.ranges.timestamp_delta in
     let offset : FitsSigned w32 c.args.offset_delta = c.ranges.offset_delta in
     let r = relative_by c.args.timestamp_delta c.args.offset_delta c.args.body.now in
-    let fields : up_to_limit c.record_fields_size-fields.result ≡ up_to_limit (fields_size r) = rw (to_z-of_z, to_z-of_z) at c.record_fields_size-fields.ensures in
+    let fields : up_to_limit c.record_fields_size-fields.result ≡ up_to_limit (fields_size r) = rw (to_z-of_z, to_z-of_z) at c.record_fields_size-fields.ensures.told in
     let large = told_large _ (fields_size r) fields c.if-fields-gt-SIZE_LIMIT.true in
     sym (measured_large _ (omega (arith, large, length-relative_record r)))
 
@@ -23,7 +23,7 @@ returns c =
     let delta : FitsSigned w64 c.args.timestamp_delta = c.ranges.timestamp_delta in
     let offset : FitsSigned w32 c.args.offset_delta = c.ranges.offset_delta in
     let r = relative_by c.args.timestamp_delta c.args.offset_delta c.args.body.now in
-    let fields : up_to_limit c.record_fields_size-fields.result ≡ up_to_limit (fields_size r) = rw (to_z-of_z, to_z-of_z) at c.record_fields_size-fields.ensures in
+    let fields : up_to_limit c.record_fields_size-fields.result ≡ up_to_limit (fields_size r) = rw (to_z-of_z, to_z-of_z) at c.record_fields_size-fields.ensures.told in
     let small : c.record_fields_size-fields.result ≡ fields_size r = told_small _ (fields_size r) fields c.if-fields-gt-SIZE_LIMIT.false in
     let widened : to_z w32 c.record_fields_size-fields.result ≡ pos (fields_size r) = omega (arith, ints, small) in
     let len : c.varint_len.result ≡ length (varint.spell (pos (fields_size r))) = c.varint_len.ensures.value ∙ ap (λ (z : ℤ). length (varint.spell z)) widened in
