@@ -78,7 +78,7 @@ module _ {S : Type 0} (answers : Told S) (o : Opening) (calls : List Call) (x : 
   pub now_senders : senders_of x ≡ o.senders
   now_senders = served.lanes.senders ∙ first_senders
 
-  now_sized : IsSized x
+  pub now_sized : IsSized x
   now_sized = sized_then p.first x calls first_sized served
 
   first_held : (k : ℕ) → (side_of p.first k).held ≡ None

@@ -2,6 +2,8 @@ pub mod OfferLemmas
 pub mod FeedingLemmas
 pub mod InTurnLemmas
 pub mod AroundLemmas
+pub mod SettledLemmas
+pub mod ClosedLemmas
 pub mod AlongLemmas
 pub mod NameLemmas
 pub mod StreamLemmas

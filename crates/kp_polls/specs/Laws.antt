@@ -1,10 +1,16 @@
 -- What is said of any polls.
-use Rattle.std.specs.Prelude.{◌≡◌, ℕ, ◌<◌, true, List, ◌∷◌, ◌++◌}
+use Rattle.std.specs.Prelude.{◌≡◌, ◌≢◌, ℕ, ◌<◌, true, All, Contains, List, ◌∷◌, ◌++◌}
+use Rattle.atomic_table.specs.Table.{Step}
+use Rattle.kp_engine.specs.Closing.{ClosedBetween}
 use Rattle.kp_engine.specs.Serving.{reports_of}
 use Rattle.kp_engine.specs.declared.exchange.Exchange.{Exchange}
 use Rattle.kp_headline.specs.Moves.{Move, Calling, led}
 use Rattle.kp_headline.specs.Outside.{State, known}
-use Rattle.kp_rules.specs.Calls.{Flush}
+use Rattle.kp_lanes.specs.Gate.{Entering, Gated, Looking, Leaving, Sat, Shutting, refused}
+use Rattle.kp_lanes.specs.Intake.{intake_view}
+use Rattle.kp_lanes.specs.declared.gate.view.Stage.TheVariants.{Inside}
+use Rattle.kp_lanes.specs.declared.gate.view.View.{View}
+use Rattle.kp_rules.specs.Calls.{Call, Flush}
 use Rattle.kp_rules.specs.Flush.{is_flushed}
 use Rattle.kp_rules.specs.Records.{Core}
 use Rattle.kp_rules.specs.Reports.{reports_to}
@@ -29,3 +35,23 @@ AreToldByAnyFlush a ms =
     → ms ≡ before ++ Calling Flush t ∷ later
     → is_flushed (led a ms).core ≡ true
     → IsToldBy (known (led a ms)) (known (led a before))
+
+-- ---- after the close
+
+-- The gate has this word, and its seats know this: none of them is inside, and one that tries to enter is refused.
+pub record LetsNobodyIn (word : ℕ) (views : List View) : Type 0 where
+  pub nobody_inside : All (λ v. v.stage ≢ Inside) views
+  pub refuses : (step : Step (Unit {0})) (m m' : Sat) → Entering step m word m' → m'.0 ≡ refused m.0
+
+-- The core was closed by a poll after which the engine's seat at the gate knew this: and so it is in every state of the gate
+-- in which a seat does.
+pub record ClosedToAll (x : Exchange) (calls : List Call) (y : Exchange) : Type 0 where
+  pub close : ClosedBetween x calls y
+  pub lets_nobody_in : (word : ℕ) (views : List View) → Gated word views → Contains views (intake_view close.at.intake) → LetsNobodyIn word views
+
+-- Whatever a seat does at the gate, it goes on to know that the gate is quiet.
+pub record KnowsForGood (step : Step (Unit {0})) (m : Sat) (word : ℕ) (m' : Sat) : Type 0 where
+  pub entering : Entering step m word m' → m'.0.knows_quiet ≡ true
+  pub leaving : Leaving step m word m' → m'.0.knows_quiet ≡ true
+  pub shutting : Shutting step m word m' → m'.0.knows_quiet ≡ true
+  pub looking : Looking step m word m' → m'.0.knows_quiet ≡ true

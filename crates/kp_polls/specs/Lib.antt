@@ -2,3 +2,4 @@ pub mod Polling
 pub mod Around
 pub mod Laws
 pub mod Bytes
+pub mod Settled

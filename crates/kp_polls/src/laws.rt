@@ -1,12 +1,14 @@
 //! Laws of every run, of any polls: of what is known after them, with any brokers and any network around them.
 
-ghost use Rattle.std.specs.Prelude.{◌≡◌, ℕ, ◌<◌, List};
+ghost use Rattle.std.specs.Prelude.{◌≡◌, ℕ, ◌<◌, true, List};
+ghost use Rattle.atomic_table.specs.Table.{Step};
 ghost use Rattle.kp_engine.specs.Closing.{ClosesOnce};
 ghost use Rattle.kp_engine.specs.declared.exchange.Exchange.{Exchange};
 ghost use Rattle.kp_headline.specs.Laws.{NoDuplicateIsAwaited};
 ghost use Rattle.kp_headline.specs.Outside.{known};
 ghost use Rattle.kp_polls.specs.Around.{AfterAnyPolls, AroundAnyPolls};
-ghost use Rattle.kp_polls.specs.Laws.{AreToldByAnyFlush, GrowsAllAlong, ReportsAreOfTold};
+ghost use Rattle.kp_lanes.specs.Gate.{Sat};
+ghost use Rattle.kp_polls.specs.Laws.{AreToldByAnyFlush, ClosedToAll, GrowsAllAlong, KnowsForGood, ReportsAreOfTold};
 ghost use Rattle.kp_polls.specs.Polling.{Polling};
 ghost use Rattle.kp_rules.specs.Calls.{Call};
 ghost use Rattle.kp_world.specs.Accounts.{AreAccountedFor, AreInOrder, IsNeverSent, IsToldOnce, IsUsedByUntold};
@@ -126,4 +128,13 @@ pub fn reports_are_of_all_that_was_told<S: Stream>()
 pub fn the_core_is_closed_where_nobody_can_send<S: Stream>()
     ensures { (o : Opening) (calls : List Call) (x : Exchange) → (polling : Polling S.answers o calls x)
         → ClosesOnce polling.first calls x }
+{}
+
+/// Once the core is closed nobody is within `send` or `flush`, and none gets in any more: in each state of the gate in which
+/// the engine's seat knows what it then knew, and a seat knows it for good. Since a push into a lane
+/// (`kp_lanes::laws::Lane::push`) asks for a seat that is inside, nothing is accepted any more.
+pub fn nothing_is_accepted_after_close<S: Stream>()
+    ensures closed { (o : Opening) (calls : List Call) (x : Exchange) → (polling : Polling S.answers o calls x)
+        → x.closed ≡ true → ClosedToAll polling.first calls x }
+    ensures for_good { (step : Step (Unit {0})) (m : Sat) (word : ℕ) (m1 : Sat) → m.0.knows_quiet ≡ true → KnowsForGood step m word m1 }
 {}

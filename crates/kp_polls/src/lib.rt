@@ -5,3 +5,4 @@
 pub mod bytes;
 pub mod laws;
 pub mod polling;
+pub mod settled;
