@@ -1,12 +1,11 @@
 -- What was appended field by field.
 use Rattle.std.proofs.Common.{◌≡◌, ℕ, ◌+◌, ◌-◌, ◌<◌, ◌≤◌, ◌^◌, max, List, [], ◌∷◌, ◌++◌, length, get_or, take, drop, ℤ, pos, negsuc, refl, sym, ap, subst, ◌∙◌, append_assoc, arith}
-use Rattle.std.specs.Prelude.{FitsSigned, Any, ◌-ℤ◌}
+use Rattle.std.specs.Prelude.{FitsSigned, ◌-ℤ◌}
 use Rattle.std.proofs.lemmas.Int.{ints}
 use Rattle.std.specs.Int.{w8, w16, w32, w64, to_be_bytes}
 use Rattle.kp_wire.specs.Checksum.{crc}
 use Rattle.kp_wire.proofs.ReadLemmas.{then_put}
 use Rattle.kp_wire.proofs.ListLemmas.{drop_here}
-use Rattle.std.proofs.lemmas.List.Folds.{length-flat_map-take}
 use Rattle.kp_wire.specs.Codec.{int, number}
 use Rattle.kp_batch.specs.declared.batch.BatchHead.{BatchHead}
 use Rattle.kp_batch.specs.declared.summary.Front.{Front}
@@ -14,13 +13,11 @@ use Rattle.kp_batch.specs.declared.summary.Summary.{Summary}
 use Rattle.std.specs.List.{flat_map, AllByRecursion}
 use Rattle.std.proofs.lemmas.List.Concat.{flat_map-cons}
 use Rattle.kp_wire.specs.Varint.{varint, varlong}
-use Rattle.kp_batch.specs.declared.record.Header.{Header}
 use Rattle.kp_batch.specs.declared.relative.RelativeRecord.{RelativeRecord}
-use Rattle.kp_batch.specs.Record.{attributes, length_field, bytes_or_null, header, headers, fields, fields_size, relative_record}
+use Rattle.kp_batch.specs.Record.{attributes, bytes_or_null, headers, fields, fields_size, relative_record}
 use Rattle.kp_batch.specs.declared.record.Record.{Record}
 use Rattle.kp_batch.specs.Spelling.{front, head, summary, summary_of, covered, front_of, spelling, HasFields, Spells, written, relative, relatives_from, base_timestamp, max_timestamp}
 use Rattle.kp_batch.proofs.RelativeLemmas.{HasMoment, relatives_from-here}
-use Rattle.kp_batch.proofs.SizeLemmas.{length-headers}
 
 pub fields_spelled : (r : RelativeRecord) (o0 o1 o2 o3 o4 o5 o6 : List ℕ) → o1 ≡ o0 ++ 0 ∷ [] → o2 ≡ o1 ++ varlong.spell r.timestamp_delta → o3 ≡ o2 ++ varint.spell r.offset_delta
     → o4 ≡ o3 ++ (bytes_or_null 0).spell r.key → o5 ≡ o4 ++ (bytes_or_null 0).spell r.value → o6 ≡ o5 ++ (headers 0).spell r.headers → o6 ≡ o0 ++ (fields 0).spell r

@@ -10,7 +10,7 @@ ghost use Rattle.kp_batch.specs.Spelling.{relative_by, base_timestamp, measured,
 use crate::as_record::AsRecord;
 use crate::layout::RECORDS_AT;
 use crate::record::{Header, Record, Timestamp};
-use kp_wire::{Blob, add_sizes as add_wire_sizes, varint_len, varlong_len};
+use kp_wire::{Blob, varint_len, varlong_len};
 
 /// The greatest size of a batch, and so of a record: the greatest int32.
 pub const SIZE_LIMIT: u64 = 2147483647;
@@ -43,36 +43,13 @@ pub(crate) fn add_sizes(a: u64, b: u64) -> u64
     if sum > SIZE_LIMIT { u64::MAX } else { sum }
 }
 
-/// The size of so many bytes with their length before them, or a size above the limit where it is above.
-#[inline]
-fn sized_len(len: usize) -> u64
-    ensures told { up_to_limit result ≡ up_to_limit (length (varint.spell (pos len)) + len) }
-    ensures few { result ≤ SIZE_LIMIT + 5 }
-{
-    if len as u64 > SIZE_LIMIT {
-        return TOO_LARGE;
-    }
-    varint_len(len as i32) + len as u64
-}
-
-#[inline]
-#[tactic(auto, unfolding(crate::specs::Record::bytes_or_null, crate::specs::Record::length_field))]
-fn nullable_size(bytes: &Option<Blob>) -> u64
-    ensures told { up_to_limit result ≡ up_to_limit (length ((bytes_or_null 0).spell bytes.now)) }
-    ensures few { result ≤ SIZE_LIMIT + 5 }
-{
-    match bytes {
-        None => varint_len(-1),
-        Some(bytes) => sized_len(bytes.len()),
-    }
-}
-
 /// The size of so many bytes with their length before them. None where they are more than a length can say.
 #[inline]
 fn size_of_sized(len: usize) -> Option<u64>
     ensures short { IsSome result → len ≤ SIZE_LIMIT }
     ensures long { IsNone result → SIZE_LIMIT < len }
     ensures value { IfSome result (λ size. size ≡ length (varint.spell (pos len)) + len) }
+    ensures few { IfSome result (λ size. size ≤ SIZE_LIMIT + 5) }
 {
     if len as u64 > SIZE_LIMIT {
         return None;
@@ -84,12 +61,23 @@ fn size_of_sized(len: usize) -> Option<u64>
 #[tactic(auto, unfolding(crate::specs::Record::bytes_or_null, crate::specs::Record::length_field))]
 fn size_of_nullable(bytes: &Option<Blob>) -> Option<u64>
     ensures size { IsSize ((bytes_or_null 0).Fits bytes.now) ((bytes_or_null 0).spell bytes.now) result }
+    ensures few { IfSome result (λ size. size ≤ SIZE_LIMIT + 5) }
     ensures long { IsNone result → SIZE_LIMIT < length ((bytes_or_null 0).spell bytes.now) }
 {
     match bytes {
         None => Some(varint_len(-1)),
         Some(bytes) => size_of_sized(bytes.len()),
     }
+}
+
+/// The size of the bytes with their length before them, or of the length of null; a size above the limit where it is
+/// above.
+#[inline]
+fn nullable_size(bytes: &Option<Blob>) -> u64
+    ensures told { up_to_limit result ≡ up_to_limit (length ((bytes_or_null 0).spell bytes.now)) }
+    ensures few { result ≤ SIZE_LIMIT + 5 }
+{
+    size_of_nullable(bytes).unwrap_or(TOO_LARGE)
 }
 
 /// The size of the header. None where its key or its value is more than its length can say.
@@ -99,7 +87,7 @@ pub(crate) fn header_size(h: &Header) -> Option<u64>
 {
     let key = size_of_sized(h.key.as_str().len())?;
     let value = size_of_nullable(&h.value)?;
-    Some(add_wire_sizes(key, value))
+    Some(key + value)
 }
 
 /// The size of the headers with their count before them, or the least size above the limit where it is above.
@@ -115,7 +103,7 @@ fn some_headers_size(hs: &[Header]) -> u64
     for h in hs {
         match header_size(h) {
             None => return TOO_LARGE,
-            Some(more) => size = add_wire_sizes(size, more).min(TOO_LARGE),
+            Some(more) => size = size.saturating_add(more).min(TOO_LARGE),
         }
     }
     size

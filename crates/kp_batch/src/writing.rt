@@ -228,6 +228,7 @@ fn seal(bytes: &mut [u8])
 }
 
 /// Appends what the checksum covers: the fields behind it, and the records. An `Err` may leave a part.
+#[tactic(auto, using(crate::proofs::SizeLemmas::many_items))]
 fn put_covered<T: AsRecord>(
     out: &mut Vec<u8>,
     h: BatchHead,

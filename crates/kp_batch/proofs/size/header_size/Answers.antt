@@ -26,4 +26,4 @@ returns-clause-size c =
     let key : c.in_ok-key.key ≡ length (varint.spell (pos (length h.key))) + length h.key = rw c.as_str.ensures.value at c.in_ok-key.ensures.value in
     let short : length h.key ≤ 2147483647 = omega (arith, ap length c.as_str.ensures.value, c.in_ok-key.ensures.short refl) in
     let text : IsUtf8 h.key = subst IsUtf8 c.as_str.ensures.value c.as_str.ensures.utf8 in
-    (header_fits h short text c.in_ok-value.ensures.size.0, omega (arith, length-header h, key, c.in_ok-value.ensures.size.1, c.add_sizes.ensures))
+    (header_fits h short text c.in_ok-value.ensures.size.0, omega (arith, length-header h, key, c.in_ok-value.ensures.size.1, c.in_ok-key.ensures.few, c.in_ok-value.ensures.few))

@@ -25,7 +25,7 @@ loop-h-preserved c =
     record {
       fits = header_more c.args.hs.now c.loop-h.h-index c.h-item.result _ (omega arith) c.h-item.is c.in-Some.ensures.size.0 c.loop-h.invariant.fits;
       left = omega (arith, step, c.loop-h.invariant.left);
-      so_far = omega (arith, step, c.loop-h.invariant.left, c.loop-h.invariant.so_far, c.in-Some.ensures.size.1, c.add_sizes.ensures, c.min-size.ensures);
+      so_far = omega (arith, step, c.loop-h.invariant.left, c.loop-h.invariant.so_far, c.in-Some.ensures.size.1, c.saturating_add.ensures, c.min-size.ensures);
     }
 
 pub returns-clause-fits : goal.returns-clause-fits

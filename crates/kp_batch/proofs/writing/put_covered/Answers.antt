@@ -1,31 +1,14 @@
-use Rattle.std.proofs.Common.{◌≡◌, ◌++◌, ◌-◌, ◌<◌, ◌≤◌, ◌^◌, List, length, map, pos, arith, rules}
+use Rattle.std.proofs.Common.{◌≡◌, ◌++◌, ◌<◌, ◌≤◌, ◌^◌, length, map, pos, arith, rules}
 use Rattle.std.specs.Prelude.{◌-ℤ◌, FitsSigned}
 use Rattle.std.specs.Int.{w16, w32, w64}
 use mir.Val.{to_z, of_z}
 use Rattle.std.proofs.lemmas.Int.{ints}
 use Rattle.std.proofs.lemmas.List.{length-map}
-use Rattle.kp_batch.specs.declared.record.Record.{Record}
-use Rattle.kp_batch.specs.Spelling.{summary, summary_of, base_timestamp, max_timestamp, size_of_batch}
-use Rattle.kp_batch.proofs.SizeLemmas.{size_of_batch-is, many_records}
+use Rattle.kp_batch.specs.Spelling.{summary, summary_of, base_timestamp, max_timestamp}
+use Rattle.kp_batch.proofs.SizeLemmas.{size_of_batch-is, many_items}
 use Rattle.kp_batch.proofs.ListedLemmas.{first_timestamp, latest_timestamp}
 use Rattle.kp_batch.proofs.WritingLemmas.{moments_up_to, summary_fits, covered_spelled}
 use Rattle.kp_batch.proofs.writing.put_covered.Goals as goal
-
--- records of such a size are few
-few_records : (rs : List Record) → size_of_batch rs ≤ 2147483647 → length rs ≤ 2147483647
-few_records rs fits = omega (arith, size_of_batch-is rs, many_records (base_timestamp rs) 0 rs)
-
-pub overflow_cast-count : goal.overflow_cast-count
-overflow_cast-count g c =
-    let items = c.args.records.now in
-    record { sfits = omega (arith, few_records (map g.T.AsRecord.body items) c.requires.fits, length-map items g.T.AsRecord.body) }
-
-pub overflow_sub-s : goal.overflow_sub-s
-overflow_sub-s g c =
-    let items = c.args.records.now in
-    let few : length items ≤ 2147483647 = omega (arith, few_records (map g.T.AsRecord.body items) c.requires.fits, length-map items g.T.AsRecord.body) in
-    let less : to_z w32 (length items) -ℤ pos 1 ≡ pos (length items - 1) = omega (arith, ints, few, c.requires.some) in
-    rw less (record { sfits = omega (arith, few) })
 
 pub put_records-requires : goal.put_records-requires
 put_records-requires g c =
@@ -40,7 +23,7 @@ returns g c =
     let rs = map g.T.AsRecord.body items in
     let many = length-map items g.T.AsRecord.body in
     let some : 0 < length rs = omega (arith, many, c.requires.some) in
-    let few = few_records rs c.requires.fits in
+    let few : length rs ≤ 2147483647 = omega (arith, many, many_items g.T.AsRecord.body items, c.requires.fits) in
     let first = first_timestamp g.T.AsRecord.body items _ _ c.requires.some c.index-records-0.is c.as_record.ensures in
     let latest = latest_timestamp rs in
     let last-is : to_z w32 (of_z w32 (to_z w32 (length items) -ℤ pos 1)) ≡ pos (length rs) -ℤ pos 1 = omega (arith, ints, many, some, few) in

@@ -1,7 +1,7 @@
 use Rattle.std.proofs.Common.{map, ◌≡◌, ◌∙◌, ◌+◌, ◌++◌, length, take, drop, [], ap, sym, subst, refl, List, ℕ, arith}
-use Rattle.kp_batch.specs.Spelling.{front, Spells, written, covered, base_timestamp}
-use Rattle.kp_batch.proofs.SizeLemmas.{size_of_batch-is, many_records}
-use Rattle.std.proofs.lemmas.List.{take_at, length-map}
+use Rattle.kp_batch.specs.Spelling.{front, Spells, written, covered}
+use Rattle.kp_batch.proofs.SizeLemmas.{size_of_batch-is}
+use Rattle.std.proofs.lemmas.List.{take_at}
 use Rattle.kp_batch.proofs.BatchLemmas.{length-covered, length-before}
 use Rattle.kp_batch.proofs.WritingLemmas.{unsealed, sealed, batch_spelled}
 use Rattle.kp_batch.proofs.writing.write_batch.Goals as goal
