@@ -8,3 +8,4 @@ pub mod AlongLemmas
 pub mod NameLemmas
 pub mod StreamLemmas
 pub mod BytesLemmas
+pub mod RunningLemmas

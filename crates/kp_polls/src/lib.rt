@@ -5,4 +5,5 @@
 pub mod bytes;
 pub mod laws;
 pub mod polling;
+pub mod running;
 pub mod settled;

@@ -1,0 +1,27 @@
+//! What runs an engine makes such polls: those of one run go on from those before it.
+
+ghost use Rattle.std.specs.Prelude.{◌++◌, List};
+ghost use Rattle.kp_connection.specs.Answers.{Answer};
+ghost use Rattle.kp_engine.specs.Clocked.{PollsOnce};
+ghost use Rattle.kp_engine.specs.declared.engine.Engine.{Engine as Polled};
+ghost use Rattle.kp_engine.specs.declared.exchange.Exchange.{Exchange};
+ghost use Rattle.kp_engine.specs.declared.stop.Stop.{Stop};
+ghost use Rattle.kp_polls.specs.Bytes.{OverStream};
+ghost use Rattle.kp_polls.specs.Polling.{Polling};
+ghost use Rattle.kp_rules.specs.Calls.{Call};
+ghost use Rattle.kp_running.specs.Running.{Reaches};
+ghost use Rattle.kp_world.specs.World.{Opening};
+
+use kp_connection::Stream;
+use kp_engine::Clock;
+
+/// Where an engine was polled any number of times, and was then run to its stop, all these are polls; and so are they over
+/// the stream that it had, from when this was given.
+pub fn a_run_s_polls_are_polls<S: Stream, C: Clock>()
+    ensures polling { (o : Opening) (calls : List Call) (old new : Polled S C) (stop : Stop)
+        → Polling S.answers o calls old.exchange → Reaches (PollsOnce S.answers C.moments) old stop new
+        → (more : List Call) × Polling S.answers o (calls ++ more) new.exchange }
+    ensures over_stream { (x : Exchange) (given : S) (calls : List Call) (xs : List Answer) (old new : Polled S C) (stop : Stop)
+        → OverStream S.answers given x calls xs old.exchange old.line → Reaches (PollsOnce S.answers C.moments) old stop new
+        → (more : List Call) × (ys : List Answer) × OverStream S.answers given x (calls ++ more) (xs ++ ys) new.exchange new.line }
+{}
