@@ -51,6 +51,7 @@ known_for_good step m word m' quiet = record {
   leaving = λ is. ap (λ (u : View). u.knows_quiet) is ∙ quiet;
   shutting = λ is. ap (λ (u : View). u.knows_quiet) is ∙ quiet;
   looking = λ is. ap (λ (u : View). u.knows_quiet) is ∙ or_so m.0.knows_quiet (word == 1) quiet;
+  parting = λ senders. quiet;
 }
 
 -- ---- a core that is closed

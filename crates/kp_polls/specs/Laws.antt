@@ -6,7 +6,7 @@ use Rattle.kp_engine.specs.Serving.{reports_of}
 use Rattle.kp_engine.specs.declared.exchange.Exchange.{Exchange}
 use Rattle.kp_headline.specs.Moves.{Move, Calling, led}
 use Rattle.kp_headline.specs.Outside.{State, known}
-use Rattle.kp_lanes.specs.Gate.{Entering, Gated, Looking, Leaving, Sat, Shutting, refused}
+use Rattle.kp_lanes.specs.Gate.{Entering, Gated, Looking, Leaving, Sat, Shutting, less_room, refused}
 use Rattle.kp_lanes.specs.Intake.{intake_view}
 use Rattle.kp_lanes.specs.declared.gate.view.Stage.TheVariants.{Inside}
 use Rattle.kp_lanes.specs.declared.gate.view.View.{View}
@@ -49,9 +49,11 @@ pub record ClosedToAll (x : Exchange) (calls : List Call) (y : Exchange) : Type 
   pub close : ClosedBetween x calls y
   pub lets_nobody_in : (word : ℕ) (views : List View) → Gated word views → Contains views (intake_view close.at.intake) → LetsNobodyIn word views
 
--- Whatever a seat does at the gate, it goes on to know that the gate is quiet.
+-- Whatever a seat does at the gate, also where it gives room for senders to a new seat, it goes on to know that the gate is
+-- quiet.
 pub record KnowsForGood (step : Step (Unit {0})) (m : Sat) (word : ℕ) (m' : Sat) : Type 0 where
   pub entering : Entering step m word m' → m'.0.knows_quiet ≡ true
   pub leaving : Leaving step m word m' → m'.0.knows_quiet ≡ true
   pub shutting : Shutting step m word m' → m'.0.knows_quiet ≡ true
   pub looking : Looking step m word m' → m'.0.knows_quiet ≡ true
+  pub parting : (senders : ℕ) → (less_room senders m.0).knows_quiet ≡ true
