@@ -7,6 +7,8 @@ pub mod KindLemmas
 pub mod ReachedLemmas
 pub mod OrderLemmas
 pub mod HearingLemmas
+pub mod EachLemmas
+pub mod SendLemmas
 pub mod OtherLemmas
 mod LineLemmas
 mod PlaceLemmas

@@ -2,5 +2,6 @@ pub mod Accepted
 pub mod Bounds
 pub mod Fetching
 pub mod Line
+pub mod Packets
 pub mod Shown
 pub mod Text

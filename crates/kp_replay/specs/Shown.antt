@@ -8,7 +8,7 @@ use Rattle.kp_frames.specs.Stream.{frame}
 use Rattle.kp_log.specs.KeptBatches.{IsHistoryOf}
 use Rattle.kp_log.specs.Log.{Log}
 use Rattle.kp_rules.specs.Flush.{is_flushed}
-use Rattle.kp_rules.specs.Framing.{frame_of}
+use Rattle.kp_rules.specs.Framing.{FitsPacket, frame_of}
 use Rattle.kp_rules.specs.Records.{Core}
 use Rattle.kp_rules.specs.Reports.{reports_to}
 use Rattle.kp_rules.specs.Requesting.{Packet}
@@ -63,10 +63,11 @@ Each R (x ∷ xs) (y ∷ ys) = R x y × Each R xs ys
 Each R [] (y ∷ ys) = ⊥
 Each R (x ∷ xs) [] = ⊥
 
--- A packet is kept as the frame of its message.
+-- A packet is kept as the frame of its message, which has one.
 pub record IsSent (c : Config) (packet : Packet) (o : Outgoing) : Type 0 where
   pub correlation : o.correlation ≡ packet.correlation
   pub bytes : o.bytes ≡ frame_of c names packet
+  pub fits : FitsPacket c names packet
 
 -- and so is a reply
 pub record IsReplied (r : Reply) (frame_bytes : List ℕ) : Type 0 where

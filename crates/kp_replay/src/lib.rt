@@ -6,6 +6,7 @@ mod fetching;
 mod happened;
 mod line;
 mod opening;
+mod packets;
 mod text;
 mod world;
 

@@ -8,6 +8,7 @@ mod accepting;
 mod hearing;
 mod lines;
 mod others;
+mod sending;
 mod taking;
 
 use crate::accepted::Accepted;

@@ -1,18 +1,16 @@
 //! A reply comes to the producer.
 
-ghost use Rattle.std.specs.Prelude.{◌≡◌, ◌≢◌, drop, true, Err, IfOk, OnOk};
+ghost use Rattle.std.specs.Prelude.{◌≡◌, ◌≢◌, true, Err, IfOk, OnOk};
 ghost use Rattle.kp_replay.specs.Line.{lines_of};
 ghost use Rattle.kp_replay.specs.Shown.{LeadsOn, is_there};
 ghost use Rattle.kp_world.specs.Client.{reply_line};
 ghost use Rattle.kp_world.specs.declared.event.Event.TheVariants as event;
 
 use crate::line::Line;
+use crate::packets::content_of;
 use crate::world::World;
 use kp_rules::{CoreFault, Replied};
 use std::alloc::AllocError;
-
-/// How many bytes a frame's size takes.
-const SIZE_LENGTH: usize = 4;
 
 impl World {
     /// The reply's bytes come to the producer.
@@ -26,13 +24,6 @@ impl World {
         let line = reply_line(reply, answer)?;
         self.note(was_flushed, line)
     }
-}
-
-/// What stands in a frame.
-pub(super) fn content_of(frame: &[u8]) -> &[u8]
-    ensures { result.now ≡ drop 4 frame.now }
-{
-    &frame[SIZE_LENGTH.min(frame.len())..]
 }
 
 /// What is told of a reply that the core answered so, where it had memory for it.
