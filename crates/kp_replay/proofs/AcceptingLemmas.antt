@@ -1,5 +1,5 @@
 -- What is accepted and taken in the world that is seen is what is so in its world.
-use Rattle.std.proofs.Common.{◌≡◌, ℕ, suc, ◌+◌, ◌<◌, Bool, true, false, cond, List, [], ◌∷◌, ◌++◌, length, get_or, set, map, OnOk, None, Some, refl, sym, ap, subst, ◌∙◌}
+use Rattle.std.proofs.Common.{◌≡◌, ℕ, suc, ◌+◌, ◌<◌, Bool, true, false, List, [], ◌∷◌, ◌++◌, length, get_or, set, map, OnOk, None, Some, refl, sym, ap, subst, ◌∙◌}
 use Rattle.std.specs.Prelude.{Option, Result, Ok, Err, nat_lt, slice_get, ◌&&◌, ◌||◌}
 use Rattle.std.proofs.lemmas.List.{get_or_read, length-set}
 use Rattle.kp_batch.specs.declared.record.Record.{Record}
@@ -8,13 +8,11 @@ use Rattle.kp_accum.specs.declared.config.Config.{Config}
 use Rattle.kp_accum.specs.declared.fault.AppendFault.{AppendFault}
 use Rattle.kp_accum.specs.declared.fault.AppendFault.TheVariants as append
 use Rattle.kp_accum.specs.declared.item.Item.{Item}
-use Rattle.kp_log.specs.History.{History}
 use Rattle.kp_log.specs.KeptBatches.{IsHistoryOf}
-use Rattle.kp_log.specs.Log.{Log}
 use Rattle.kp_rules.specs.Appending.{append_step}
-use Rattle.kp_rules.specs.Calls.{Append, Gives, Step}
+use Rattle.kp_rules.specs.Calls.{Append, Step}
 use Rattle.kp_rules.specs.Flush.{is_flushed}
-use Rattle.kp_rules.specs.Records.{Core, Called, quietly}
+use Rattle.kp_rules.specs.Records.{Core, quietly}
 use Rattle.kp_rules.proofs.FetchedLemmas.{append_behind}
 use Rattle.kp_world.specs.Accepting.{accepted_by, accepting, for_partition, is_large, item_for, taken_by, taking, taking_of, with_accepted, with_taken}
 use Rattle.kp_world.specs.Client.{client, only_if}
@@ -26,7 +24,6 @@ use Rattle.kp_world.specs.Replay.{stepped}
 use Rattle.kp_world.specs.World.{World}
 use Rattle.kp_world.specs.declared.event.Event.{Event}
 use Rattle.kp_world.specs.declared.event.Event.TheVariants as event
-use Rattle.kp_replay.specs.Fetching.{all_fetched}
 use Rattle.kp_replay.specs.Shown.{Each, LeadsOn, Seen, Shows, is_there, noted_of, with_noted}
 use Rattle.kp_replay.proofs.ShownLemmas.{lead-on, same-answer, shows-noted}
 use Rattle.kp_replay.proofs.TellingLemmas.{tells-append, tells-quietly}

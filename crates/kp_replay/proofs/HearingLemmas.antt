@@ -1,14 +1,13 @@
 -- A reply's bytes are heard as its message.
 use Rattle.std.proofs.Common.{◌≡◌, ◌≢◌, ℕ, zero, suc, ◌<◌, Bool, true, List, [], ◌∷◌, drop, get_or, Some, Ok, Err, OnOk, refl, sym, ap, subst, ◌∙◌, arith}
-use Rattle.std.specs.Prelude.{Option, Result, nat_lt, slice_get, length}
+use Rattle.std.specs.Prelude.{Result, slice_get, length}
 use Rattle.std.proofs.lemmas.Bool.{ltb-true}
 use Rattle.kp_accum.specs.declared.config.Config.{Config}
 use Rattle.kp_frames.specs.Response as response
 use Rattle.kp_frames.specs.Stream.{frame}
-use Rattle.kp_log.proofs.PlaceLemmas.{In}
 use Rattle.kp_rules.specs.Calls.{Reply, Gives, Step}
 use Rattle.kp_rules.specs.Flush.{is_flushed}
-use Rattle.kp_rules.specs.Records.{Core, Called}
+use Rattle.kp_rules.specs.Records.{Core}
 use Rattle.kp_rules.specs.Replies.{Replies, reply_step, response_step}
 use Rattle.kp_rules.specs.declared.fault.CoreFault.{CoreFault}
 use Rattle.kp_rules.specs.declared.fault.CoreFault.TheVariants as fault
@@ -24,7 +23,7 @@ use Rattle.kp_world.specs.World as world
 use Rattle.kp_world.specs.declared.event.Event.TheVariants as event
 use Rattle.kp_world.proofs.ListLemmas.{in_at}
 use Rattle.kp_replay.specs.Bounds.{IsInBounds}
-use Rattle.kp_replay.specs.Shown.{Each, IsReplayed, IsReplied, LeadsOn, Seen, Shows, is_there, with_noted}
+use Rattle.kp_replay.specs.Shown.{Each, IsReplied, LeadsOn, Seen, Shows, is_there, with_noted}
 use Rattle.kp_replay.proofs.KindLemmas.{read-as}
 use Rattle.kp_replay.proofs.ReachedLemmas.{replayed-kinds}
 use Rattle.kp_replay.proofs.ShownLemmas.{lead-on, same-answer, shows-noted, within}

@@ -1,6 +1,6 @@
 -- What is in flight, and what was answered, is of the kind of the packet that went out.
-use Rattle.std.proofs.Common.{◌≡◌, ◌⊎◌, ℕ, ◌+◌, ◌<◌, List, [], ◌∷◌, ◌++◌, filter, pos, Some, None, refl, sym, ap, ◌∙◌, subst, ⊎_elim, arith}
-use Rattle.std.specs.Prelude.{ℤ, Option, not, slice_get}
+use Rattle.std.proofs.Common.{◌≡◌, ℕ, List, [], ◌∷◌, ◌++◌, pos, Some, None, refl, sym, ap, ◌∙◌, subst, ⊎_elim, arith}
+use Rattle.std.specs.Prelude.{Option, not}
 use Rattle.kp_accum.specs.declared.item.Item.{Item}
 use Rattle.kp_frames.specs.declared.api.Api.{Api}
 use Rattle.kp_frames.specs.declared.api.Api.TheVariants as api
@@ -8,22 +8,21 @@ use Rattle.kp_frames.specs.declared.response.Response.{Response}
 use Rattle.kp_frames.specs.declared.response.ResponseBody.{ResponseBody}
 use Rattle.kp_frames.specs.declared.response.ResponseBody.TheVariants as body
 use Rattle.kp_frames.specs.Response as response
-use Rattle.kp_log.proofs.PlaceLemmas.{In, In-nil, In-head, In-append_left, In-append_right}
+use Rattle.kp_log.proofs.PlaceLemmas.{In, In-append_left}
 use Rattle.kp_rules.specs.Appending.{append_step}
 use Rattle.kp_rules.specs.Attempts.{asks_for_id, is_live}
 use Rattle.kp_rules.specs.Next.{Sending}
-use Rattle.kp_rules.specs.Records.{Demand, Produce, InitProducerId, Request, Core, HandedBatch}
-use Rattle.kp_rules.specs.Replies.{Replies, IsReadAs, api_of, awaited, response_step, settle_id}
+use Rattle.kp_rules.specs.Records.{Demand, Produce, InitProducerId, Request, Core}
+use Rattle.kp_rules.specs.Replies.{Replies, IsReadAs, api_of, awaited, response_step}
 use Rattle.kp_rules.specs.Requesting.{Packet, Requested, go_out, partitions_in, request_of, request_step}
 use Rattle.kp_rules.specs.Telling.{at_these, with_partitions}
 use Rattle.kp_rules.proofs.CallLemmas.{at_id, at_request, at_response}
-use Rattle.kp_world.specs.Accepting.{taking}
-use Rattle.kp_world.specs.Client.{reply_line, sending}
+use Rattle.kp_world.specs.Client.{sending}
 use Rattle.kp_world.specs.Delivering.{Delivers, Delivery, IsError}
 use Rattle.kp_world.specs.Events.{WorldEvent}
 use Rattle.kp_world.specs.Message.{SaysContent}
 use Rattle.kp_world.specs.Noting.{noted}
-use Rattle.kp_world.specs.Run.{Steps, Run, with_delivery}
+use Rattle.kp_world.specs.Run.{Steps, with_delivery}
 use Rattle.kp_world.specs.World.{Reply, ReplyContent, Batches, Id, World}
 use Rattle.kp_world.proofs.EventLemmas.{OfEvent, OfStep, at_step, at_taken}
 use Rattle.kp_world.proofs.HearingLemmas.{names_its, same_correlation}

@@ -10,6 +10,8 @@ pub mod HearingLemmas
 pub mod EachLemmas
 pub mod SendLemmas
 pub mod OtherLemmas
+pub mod ServingLemmas
+pub mod DeliverLemmas
 mod LineLemmas
 mod PlaceLemmas
 mod TextLemmas

@@ -1,6 +1,6 @@
 -- The core of a world to which a schedule leads is in order.
-use Rattle.std.proofs.Common.{◌≡◌, ◌⊎◌, ℕ, zero, suc, ◌<◌, ◌^◌, Bool, true, false, List, [], ◌∷◌, ◌++◌, length, get_or, set, replicate, Some, None, Ok, Err, refl, sym, ap, ◌∙◌, subst, ⊎_elim, arith}
-use Rattle.std.specs.Prelude.{Option, codes, slice_get}
+use Rattle.std.proofs.Common.{◌≡◌, ℕ, zero, suc, ◌<◌, ◌^◌, List, [], ◌∷◌, ◌++◌, get_or, replicate, Some, refl, sym, subst, ⊎_elim, arith}
+use Rattle.std.specs.Prelude.{codes}
 use lib.Utf8.{encode}
 use Rattle.std.specs.List.{AllByRecursion}
 use Rattle.std.specs.Str.{IsUtf8}
@@ -12,14 +12,12 @@ use Rattle.kp_frames.specs.Response as response
 use Rattle.kp_frames.proofs.ResponseLemmas.{response_only}
 use Rattle.kp_log.proofs.PlaceLemmas.{In, In-append_left, In-nil}
 use Rattle.kp_rules.specs.Appending.{Appends, append_step}
-use Rattle.kp_rules.specs.Auditing.{opened}
 use Rattle.kp_rules.specs.Calls as call
 use Rattle.kp_rules.specs.Closing.{close_step, end_step}
 use Rattle.kp_rules.specs.Dropping.{disconnect_step}
 use Rattle.kp_rules.specs.Flush.{flush_step}
 use Rattle.kp_rules.specs.Held.{IsRecord}
 use Rattle.kp_rules.specs.InOrder.{IsInOrder}
-use Rattle.kp_rules.specs.Opening.{MayOpen, new_core}
 use Rattle.kp_rules.specs.Records.{Core}
 use Rattle.kp_rules.specs.Replies.{response_step}
 use Rattle.kp_rules.specs.Requesting.{Requested, request_step}

@@ -1,9 +1,9 @@
 -- Records of another producer in the log that is seen are in its history.
-use Rattle.std.proofs.Common.{◌≡◌, ℕ, zero, suc, ◌+◌, ◌<◌, Bool, true, List, [], ◌∷◌, length, get_or, set, replicate, OnOk, refl, sym, ap, subst, ◌∙◌, arith}
+use Rattle.std.proofs.Common.{◌≡◌, ℕ, zero, suc, ◌<◌, Bool, true, List, [], ◌∷◌, length, get_or, set, replicate, OnOk, sym, ap, subst, ◌∙◌, arith}
 use Rattle.std.specs.Prelude.{Result, codes, nat_lt}
 use Rattle.std.proofs.lemmas.Bool.{ltb-true}
 use Rattle.kp_accum.specs.declared.config.Config.{Config}
-use Rattle.kp_log.specs.History.{History, empty_history, with_others}
+use Rattle.kp_log.specs.History.{empty_history, with_others}
 use Rattle.kp_log.specs.KeptBatches.{IsHistoryOf}
 use Rattle.kp_log.specs.Log.{Log, others_appended}
 use Rattle.kp_log.proofs.TieLemmas.{others_are_of_others}

@@ -1,7 +1,6 @@
 -- What a schedule leads to is what a run reaches.
-use Rattle.std.proofs.Common.{◌≡◌, ℕ, ◌<◌, Bool, true, false, [], pos, arith, subst}
+use Rattle.std.proofs.Common.{ℕ, ◌<◌, Bool, true, false, [], pos, arith, subst}
 use Rattle.std.specs.Prelude.{ℤ, ◌≤ℤ◌, length, All}
-use Rattle.std.specs.List.{AllByRecursion}
 use Rattle.kp_accum.specs.declared.config.Config.{Config}
 use Rattle.kp_log.specs.HandedOver.{IsStored}
 use Rattle.kp_log.proofs.PlaceLemmas.{In-nil}

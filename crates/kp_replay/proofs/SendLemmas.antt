@@ -1,5 +1,5 @@
 -- A packet that goes out is one of the world that is seen.
-use Rattle.std.proofs.Common.{◌≡◌, ◌≢◌, ℕ, ◌+◌, Bool, List, [], ◌∷◌, ◌++◌, length, Some, None, Ok, Err, OnOk, ⊎_elim, refl, sym, ap, subst, ◌∙◌}
+use Rattle.std.proofs.Common.{◌≡◌, ◌≢◌, ℕ, Bool, List, [], ◌∷◌, ◌++◌, length, Some, None, Ok, Err, OnOk, ⊎_elim, refl, sym, ap, subst, ◌∙◌}
 use Rattle.std.specs.Prelude.{Option, Result, drop, map, nat_abs}
 use Rattle.kp_accum.specs.declared.config.Config.{Config}
 use Rattle.std.specs.List.{AllByRecursion}
@@ -23,7 +23,7 @@ use Rattle.kp_rules.specs.Calls.{Request, Step, answered_as}
 use Rattle.kp_rules.specs.Flush.{is_flushed}
 use Rattle.kp_rules.specs.Framing.{FitBatches, FitsPacket, batch_of, body_for, content_of, data_of, frame_of, message_of}
 use Rattle.kp_rules.specs.Next.{Sending}
-use Rattle.kp_rules.specs.Records.{Core, Called, Demand, Produce, InitProducerId}
+use Rattle.kp_rules.specs.Records.{Core, Demand, Produce, InitProducerId}
 use Rattle.kp_rules.specs.declared.names.Names.{Names}
 use Rattle.kp_rules.specs.Requesting.{Packet, Requested, request_step}
 use Rattle.kp_rules.specs.declared.fault.CoreFault.{CoreFault}
@@ -44,7 +44,7 @@ use Rattle.kp_replay.specs.Bounds.{IsInBounds}
 use Rattle.kp_replay.specs.Line.{sent_part}
 use Rattle.kp_replay.specs.Packets.{AreParts, IsAsked, IsPart, Tells, fault_line}
 use Rattle.kp_replay.specs.declared.line.SentPart.{SentPart}
-use Rattle.kp_replay.specs.Shown.{Each, IsReplayed, IsReplied, IsSent, LeadsOn, Seen, Shows, with_noted}
+use Rattle.kp_replay.specs.Shown.{Each, IsReplied, IsSent, LeadsOn, Seen, Shows, with_noted}
 use Rattle.kp_replay.proofs.AcceptingLemmas.{each-length}
 use Rattle.kp_replay.proofs.EachLemmas.{each-more}
 use Rattle.kp_replay.proofs.HearingLemmas.{content-is}
@@ -127,7 +127,7 @@ by-read : (b : Batch) (x : Sending) → HasSpelling (batch_of x.batch) → batch
 by-read b x fits read =
     let same : ◌≡◌ {A = Result Batch BatchFault} (Ok b) (Ok (batch_of x.batch)) = sym read ∙ batch_again (batch.spelling (batch_of x.batch)) (batch_of x.batch) (record { is_batch = fits; is_spelling = refl }) in cc
 
-only-topic : (topic topic' : TopicProduceData) → topic ∷ [] ≡ topic' ∷ [] → topic'.partitions ≡ topic.partitions
+pub only-topic : (topic topic' : TopicProduceData) → topic ∷ [] ≡ topic' ∷ [] → topic'.partitions ≡ topic.partitions
 only-topic topic topic' e = let same : topic ≡ topic' = cc in ap (λ (t : TopicProduceData). t.partitions) (sym same)
 
 -- what is told of any packet of which these are the frame's bytes
@@ -156,13 +156,17 @@ told-of k l c n (Produce xs) fit tells =
     tells.2 ∙ ap (line.SentBatches k) (parts-are xs tells.0 fit (subst (λ ds. Each IsPart ds tells.0) topic parts.each))
 told-of k l c n (InitProducerId p) fit tells = tells
 
-pub tells-of : (bytes : List ℕ) (k : ℕ) (l : Line) → ((body : RequestBody) × IsAsked bytes body × Tells k body l) → TellsOf bytes k l
+-- what was read of a packet's frame is what its message asks
+pub asked-is : (bytes : List ℕ) (body : RequestBody) (c : Config) (n : Names) (o : Packet) → IsAsked bytes body → FitsPacket c n o → bytes ≡ frame_of c n o → body ≡ body_for c n o.demand
 unfolding message_of
-tells-of bytes k l said = λ c n o fits is.
-    let asked : IsAsked bytes said.0 = said.1 in
+asked-is bytes body c n o asked fits is =
     let content : drop 4 bytes ≡ content_of c n o = ap (drop 4) is ∙ content-is (content_of c n o) in
     let same : asked.request ≡ message_of c n o = one-request (drop 4 bytes) asked.request (message_of c n o) asked.read (request_only (drop 4 bytes) (message_of c n o) (record { fits = fits.message; is_spelling = content })) in
-    let body : said.0 ≡ body_for c n o.demand = asked.is ∙ ap (λ (r : Message). r.body) same in
+    asked.is ∙ ap (λ (r : Message). r.body) same
+
+pub tells-of : (bytes : List ℕ) (k : ℕ) (l : Line) → ((body : RequestBody) × IsAsked bytes body × Tells k body l) → TellsOf bytes k l
+tells-of bytes k l said = λ c n o fits is.
+    let body : said.0 ≡ body_for c n o.demand = asked-is bytes said.0 c n o said.1 fits is in
     told-of k l c n o.demand fits.batches (subst (λ b. Tells k b l) body said.2)
 
 pub out-leads : (a b : Seen) (o : Outgoing) (t : Core) (l : Line) → TellsOf o.bytes (length a.packets) l → answered_as a.core (request_step a.moment a.core).answer ≡ Ok (Some o) → t ≡ (request_step a.moment a.core).after

@@ -2,6 +2,7 @@
 #![tactic(auto)]
 
 mod accepted;
+mod broker;
 mod fetching;
 mod happened;
 mod line;

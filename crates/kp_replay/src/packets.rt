@@ -55,6 +55,7 @@ fn sent_parts(alloc: Global, request: &ProduceRequest) -> Result<Seq<SentPart>, 
     }
 }
 
+/// What is told of the batches of a request.
 fn parts_in(alloc: Global, partitions: &[PartitionProduceData]) -> Result<Seq<SentPart>, AllocError>
     ensures { IfOk result (λ parts. Each IsPart partitions.now parts) }
 {

@@ -5,6 +5,7 @@ ghost use Rattle.kp_replay.specs.Line.{line_of, lines_of};
 ghost use Rattle.kp_world.specs.Line as line;
 
 mod accepting;
+mod delivering;
 mod hearing;
 mod lines;
 mod others;
@@ -12,6 +13,7 @@ mod sending;
 mod taking;
 
 use crate::accepted::Accepted;
+use crate::broker::FIRST_ID;
 use crate::fetching::fetch_all;
 use crate::happened::Happened;
 use crate::line::Line;
@@ -22,9 +24,6 @@ use kp_log::PartitionLog;
 use kp_wire::Blob;
 use std::alloc::{AllocError, Global};
 use std::marker::Model;
-
-/// The first producer id: those that are drawn follow it.
-const FIRST_ID: u64 = 1000;
 
 /// The correlation id of the first request: a handshake uses 0 and 1.
 const FIRST_CORRELATION: u32 = 2;
