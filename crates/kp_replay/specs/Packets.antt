@@ -37,7 +37,8 @@ pub record AreParts (topics : List TopicProduceData) (parts : List SentPart) : T
 
 -- The line of a packet with this number tells what its request is.
 abbrev pub Tells : ℕ → RequestBody → line.Line → Type 0
-Tells k (Produce r) l = (parts : List SentPart) × AreParts r.topics parts × (l ≡ line.SentBatches k (map sent_part parts))
+Tells k (Produce r) l =
+    (parts : List SentPart) × AreParts r.topics parts × (l ≡ line.SentBatches k (map sent_part parts))
 Tells k (InitProducerId r) l = l ≡ line.SentInit k
 Tells k (Metadata r) l = l ≡ line.SentInit k
 

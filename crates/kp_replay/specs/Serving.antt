@@ -38,7 +38,8 @@ taken (Refused code) log batch = record { answer = error_of code; log = log }
 taken (Late code) log batch = record { answer = error_of code; log = (offered log batch).log }
 
 abbrev pub taken_at : Treatment → List Log → PartitionProduceData → Taken
-taken_at how logs d = taken how (slice_index_or logs (nat_abs d.partition) empty) (batch_at d.records)
+taken_at how logs d =
+    taken how (slice_index_or logs (nat_abs d.partition) empty) (batch_at d.records)
 
 abbrev pub with_taken : Treatment → List Log → PartitionProduceData → List Log
 with_taken how logs d = slice_set logs (nat_abs d.partition) (taken_at how logs d).log
@@ -56,7 +57,8 @@ entry_of d a = record {
   log_append_time_ms = negsuc 0;
 }
 
-abbrev pub entries_after : Treatment → List Log → List PartitionProduceData → List PartitionProduceResponse
+abbrev pub entries_after : Treatment → List Log → List PartitionProduceData
+    → List PartitionProduceResponse
 entries_after how logs [] = []
 entries_after how logs (d ∷ ds) =
     entry_of d (taken_at how logs d).answer ∷ entries_after how (with_taken how logs d) ds
@@ -116,7 +118,8 @@ pub record IsIdServed (how : Treatment) (j before after : ℕ) (answer : Respons
 -- ---- a request
 
 -- The request is answered so by the reply with this number.
-abbrev pub IsServed : Treatment → ℕ → List Log → ℕ → RequestBody → List Log → ℕ → ResponseBody → line.Line → Type 0
+abbrev pub IsServed : Treatment → ℕ → List Log → ℕ → RequestBody
+    → List Log → ℕ → ResponseBody → line.Line → Type 0
 IsServed how j logs drawn (request.Produce r) logs' drawn' body l =
     AreServed how j logs r.topics logs' body l × (drawn' ≡ drawn)
 IsServed how j logs drawn (request.InitProducerId r) logs' drawn' body l =
@@ -126,7 +129,8 @@ IsServed how j logs drawn (request.Metadata r) logs' drawn' body l =
 
 -- ---- a packet
 
--- A packet comes: the request in it is served, and the frame of what is answered is the reply with this number.
+-- A packet comes: the request in it is served, and the frame of what is answered is the reply with this
+-- number.
 pub record Serves (how : Treatment) (j : ℕ) (before : List Log) (drawn : ℕ) (packet : Outgoing)
     (after : List Log) (count : ℕ) (bytes : List ℕ) (l : line.Line) : Type 0 where
   pub request : RequestBody
@@ -134,4 +138,5 @@ pub record Serves (how : Treatment) (j : ℕ) (before : List Log) (drawn : ℕ) 
   pub asked : IsAsked packet.bytes request
   pub served : IsServed how j before drawn request after count answer l
   pub fits : FitsResponse (record { correlation = pos packet.correlation; body = answer })
-  pub spelled : bytes ≡ frame.spell (spelling (record { correlation = pos packet.correlation; body = answer }))
+  pub spelled : bytes
+      ≡ frame.spell (spelling (record { correlation = pos packet.correlation; body = answer }))

@@ -64,7 +64,8 @@ fn serve_request(
 
 /// The frame of the response under this correlation id. It is small, so that only memory may be wanting.
 fn reply_frame(alloc: Global, correlation: u32, body: ResponseBody) -> Result<Blob, AllocError>
-    ensures { IfOk result (λ bytes. FitsResponse (record { correlation = pos correlation; body = body })
+    ensures { IfOk result (λ bytes.
+        FitsResponse (record { correlation = pos correlation; body = body })
         × (bytes ≡ frame.spell (spelling (record { correlation = pos correlation; body = body })))) }
 {
     let Ok(correlation) = i32::try_from(correlation) else {
@@ -84,7 +85,8 @@ fn serve_batches(
     reply: u64,
     treatment: Treatment,
 ) -> Result<(ResponseBody, Line), AllocError>
-    ensures { IfOk result (λ x. AreServed treatment reply logs.old request.now.topics logs.new x.0 (line_of x.1)) }
+    ensures { IfOk result (λ x. AreServed treatment reply logs.old request.now.topics
+        logs.new x.0 (line_of x.1)) }
 {
     let [topic] = request.topics.as_slice() else {
         return Err(AllocError);
@@ -102,7 +104,8 @@ fn take_each(
     parts: &[PartitionProduceData],
     treatment: Treatment,
 ) -> Result<Vec<PartitionProduceResponse>, AllocError>
-    ensures entries { IfOk result (λ entries. entries.items ≡ entries_after treatment logs.old parts.now) }
+    ensures entries { IfOk result
+        (λ entries. entries.items ≡ entries_after treatment logs.old parts.now) }
     ensures logs { OnOk result (logs.new ≡ logs_after treatment logs.old parts.now) }
 {
     let mut entries = Vec::with_capacity(alloc, parts.len())?;

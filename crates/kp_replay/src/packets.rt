@@ -34,7 +34,8 @@ pub(crate) fn read_packet(alloc: Global, frame: &[u8]) -> Result<RequestBody, Al
 
 /// What is told of a packet that goes out.
 pub(crate) fn sent_line(alloc: Global, packet: u64, frame: &[u8]) -> Result<Line, AllocError>
-    ensures { IfOk result (λ line. (body : RequestBody) × IsAsked frame.now body × Tells packet body (line_of line)) }
+    ensures { IfOk result (λ line.
+        (body : RequestBody) × IsAsked frame.now body × Tells packet body (line_of line)) }
 {
     match read_packet(alloc, frame)? {
         RequestBody::Produce(request) => Ok(Line::SentBatches {
