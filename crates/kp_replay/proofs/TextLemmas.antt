@@ -3,7 +3,6 @@ use Rattle.std.proofs.Common.{◌≡◌, ℕ, ◌+◌, Bool, true, false, List, 
 use Rattle.std.specs.List.{enumerate_from, flat_map, list_any, range_with_len}
 use Rattle.std.proofs.lemmas.Grind.{flat_map-append}
 use Rattle.std.proofs.lemmas.List.Folds.{flat_map-map}
-use Rattle.kp_accum.specs.declared.config.Config.{Config}
 use Rattle.kp_log.specs.History.{History}
 use Rattle.kp_log.specs.KeptBatches.{IsHistoryOf}
 use Rattle.kp_log.specs.Log.{Log}
@@ -12,13 +11,12 @@ use Rattle.kp_rules.specs.Partitions.{partition_at}
 use Rattle.kp_rules.specs.Records.{Core, Partition, Told}
 use Rattle.kp_rules.specs.Reports.{reports_to}
 use Rattle.kp_rules.specs.declared.outcome.Report.{Report}
-use Rattle.kp_rules.specs.declared.run.Run.{Run}
-use Rattle.kp_world.specs.Line.{Line, Reported, Audited, Flushed}
+use Rattle.kp_world.specs.Line.{Reported, Audited, Flushed}
 use Rattle.kp_world.specs.Lines.{lines, lines_of, log_line, log_lines, audit_lines, reports_in}
-use Rattle.kp_world.specs.Text.{line_text, text}
-use Rattle.kp_world.specs.World.{World, Happened}
-use Rattle.kp_replay.specs.Shown.{Each, Noted, Seen, Shows, noted_of}
-use Rattle.kp_replay.specs.Text.{Tells, told, noted_text, flushed_text, records_text, log_text, audit_text, seen_text, stored_line}
+use Rattle.kp_world.specs.Text.{text}
+use Rattle.kp_world.specs.World.{Happened}
+use Rattle.kp_replay.specs.Shown.{Each, Noted, Seen, noted_of}
+use Rattle.kp_replay.specs.Text.{Tells, told, noted_text, flushed_text, records_text, log_text, audit_text, seen_text}
 
 -- ---- texts of texts
 

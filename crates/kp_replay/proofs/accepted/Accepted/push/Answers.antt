@@ -1,7 +1,7 @@
-use Rattle.std.proofs.Common.{◌≡◌, ◌<◌, length, get_or, ◌∙◌, arith, rules}
+use Rattle.std.proofs.Common.{◌≡◌, ◌<◌, length, ◌∙◌, arith, rules}
 use Rattle.std.proofs.lemmas.List.{get_or_read}
 use Rattle.kp_world.specs.Accepting.{for_partition}
-use Rattle.kp_replay.proofs.AcceptedLemmas.{few-for, one-more}
+use Rattle.kp_replay.proofs.AcceptedLemmas.{few-for}
 use Rattle.kp_replay.proofs.accepted.Accepted.push.Goals as goal
 
 pub overflow_add-index_mut : goal.overflow_add-index_mut

@@ -1,4 +1,4 @@
-use Rattle.std.proofs.Common.{◌≡◌, ℕ, ◌<◌, ◌≤◌, List, [], ◌++◌, ◌∙◌, ap, sym, length, get_or, arith}
+use Rattle.std.proofs.Common.{ℕ, ◌<◌, ◌≤◌, List, [], ◌++◌, ◌∙◌, ap, sym, length, arith}
 use Rattle.std.specs.Prelude.{Option, flat_map, unwrap_or}
 use Rattle.std.specs.List.{enumerate_from}
 use Rattle.std.proofs.lemmas.List.FromFn.{length-enumerate_from}

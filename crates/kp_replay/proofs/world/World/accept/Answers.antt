@@ -1,12 +1,11 @@
-use Rattle.std.proofs.Common.{◌≡◌, ◌<◌, false, true, [], ◌∷◌, ◌++◌, length, get_or, sym, ap, ◌∙◌, subst}
+use Rattle.std.proofs.Common.{◌<◌, false, true, [], ◌∷◌, ◌++◌, length, ap, ◌∙◌}
 use Rattle.std.specs.Prelude.{nat_lt}
 use Rattle.std.proofs.lemmas.Bool.{and_parts, ltb-true}
 use Rattle.std.proofs.lemmas.List.{get_or_read}
-use Rattle.kp_accum.specs.declared.item.Item.{Item}
 use Rattle.kp_world.specs.Line as line
 use Rattle.kp_replay.specs.Shown.{Seen}
 use Rattle.kp_replay.specs.contracts.world.World.{the_view}
-use Rattle.kp_replay.proofs.AcceptingLemmas.{accepting-returns, closed-returns, item-read, item_of, large-read, large-returns, still-seen}
+use Rattle.kp_replay.proofs.AcceptingLemmas.{accepting-returns, closed-returns, item-read, large-read, large-returns, still-seen}
 use Rattle.kp_replay.proofs.world.World.accept.Goals as goal
 
 pub returns-then-self : goal.returns-then-self

@@ -1,5 +1,4 @@
-use Rattle.std.proofs.Common.{◌≡◌, ◌<◌, length, replicate, ap, ◌∙◌}
-use Rattle.std.specs.Prelude.{codes, nat_lt}
+use Rattle.std.proofs.Common.{ap, ◌∙◌}
 use Rattle.kp_log.specs.Log.{others_appended}
 use Rattle.kp_replay.specs.contracts.world.World.{the_view}
 use Rattle.kp_replay.proofs.OtherLemmas.{others-returns}

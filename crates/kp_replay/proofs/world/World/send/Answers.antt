@@ -1,4 +1,4 @@
-use Rattle.std.proofs.Common.{◌≡◌, [], ◌∷◌, length, Ok, Some, None, Err, OnOk, ap, subst, ◌∙◌}
+use Rattle.std.proofs.Common.{◌≡◌, [], ◌∷◌, length, Ok, None, Err, OnOk, subst, ◌∙◌}
 use Rattle.std.specs.Prelude.{Option}
 use Rattle.kp_rules.specs.Calls.{Request, Step}
 use Rattle.kp_rules.specs.declared.outgoing.Outgoing.{Outgoing}
