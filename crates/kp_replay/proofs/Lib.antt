@@ -14,4 +14,6 @@ pub mod ServingLemmas
 pub mod DeliverLemmas
 mod LineLemmas
 mod PlaceLemmas
+mod ReplayLawLemmas
+mod ReplayingLemmas
 mod TextLemmas

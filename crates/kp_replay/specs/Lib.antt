@@ -3,6 +3,7 @@ pub mod Bounds
 pub mod Fetching
 pub mod Line
 pub mod Packets
+pub mod Replaying
 pub mod Serving
 pub mod Shown
 pub mod Text

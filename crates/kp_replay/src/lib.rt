@@ -8,9 +8,11 @@ mod happened;
 mod line;
 mod opening;
 mod packets;
+mod replaying;
 mod text;
 mod world;
 
 pub use happened::Happened;
 pub use line::{AnswerPart, Line, SentPart};
+pub use replaying::replay;
 pub use world::World;

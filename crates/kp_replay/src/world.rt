@@ -6,6 +6,7 @@ ghost use Rattle.kp_world.specs.Line as line;
 
 mod accepting;
 mod delivering;
+mod happening;
 mod hearing;
 mod lines;
 mod others;
