@@ -12,7 +12,8 @@ use std::time::{Clock, Duration};
 /// How often a sender looks whether the others are as far as it is.
 const TURNS: u32 = 10_000;
 
-/// No sender makes its send before all others are as far.
+/// No sender makes its send before all others are as far, and the first sender not its first one before they are one
+/// further.
 #[derive(Drop)]
 struct Together<'a, R> {
     rt: &'a R,
@@ -22,10 +23,11 @@ struct Together<'a, R> {
 }
 
 impl<R: Clock> Together<'_, R> {
-    fn are_all_at(&self, k: u64) -> bool {
-        self.sends
-            .iter()
-            .all(|sends| sends.load(Ordering::SeqCst) > k)
+    /// Whether each sender but this one is at send `k` or behind it.
+    fn are_others_at(&self, sender: u32, k: u64) -> bool {
+        self.sends.iter().enumerate().all(|(other, sends)| {
+            other == sender as usize || sends.load(Ordering::SeqCst) > k
+        })
     }
 }
 
@@ -34,8 +36,9 @@ impl<R: Clock> Gate for Together<'_, R> {
         if let Some(sends) = self.sends.get(sender as usize) {
             sends.store(k.saturating_add(1), Ordering::SeqCst);
         }
+        let far = if sender == 0 && k == 0 { 1 } else { k };
         for _ in 0..TURNS {
-            if self.are_all_at(k) || self.in_turn.load(Ordering::SeqCst) {
+            if self.are_others_at(sender, far) || self.in_turn.load(Ordering::SeqCst) {
                 return;
             }
             thread::sleep(self.rt, Duration::from_millis(1));
