@@ -6,9 +6,10 @@ mod numbers;
 mod timestamps;
 mod writing;
 
+use crate::tests::{is, is_at};
 use kp_batch::{
-    AsRecord, BatchFault, BatchHead, Header, Record, SIZE_LIMIT, Timestamp, batch_size, charge,
-    read_batch, record_size, write_batch,
+    AsRecord, Batch, BatchFault, BatchHead, Header, Record, SIZE_LIMIT, Timestamp, batch_size,
+    charge, read_batch, record_size, write_batch,
 };
 use kp_wire::{Blob, Seq, Text, WireFault, crc32c};
 use std::alloc::{AllocError, Global};
@@ -30,6 +31,9 @@ const HEAD: BatchHead = BatchHead {
     epoch: 0,
     base_sequence: 0,
 };
+
+/// The record of value "a", as it stands first in a batch.
+const FIRST: [u8; 8] = [0x0e, 0, 0, 0, 0x01, 0x02, 0x61, 0];
 
 /// A record of value "b", as it stands second in a batch: eight bytes.
 const SECOND: [u8; 8] = [0x0e, 0, 0, 0x02, 0x01, 0x02, 0x62, 0];
@@ -66,28 +70,49 @@ struct Fields {
     count: i32,
 }
 
+/// These bytes, one behind the other.
+fn joined(alloc: Global, parts: &[&[u8]]) -> Result<Vec<u8>, AllocError> {
+    let mut bytes = Vec::new(alloc);
+    for part in parts {
+        bytes.extend_from_slice(part)?;
+    }
+    Ok(bytes)
+}
+
+/// What the checksum of such a batch covers.
+fn covered_with(alloc: Global, fields: &Fields, records: &[&[u8]]) -> Result<Vec<u8>, AllocError> {
+    let records = joined(alloc, records)?;
+    joined(
+        alloc,
+        &[
+            &[0; 2], // the attributes
+            &fields.last_offset_delta.to_be_bytes(),
+            &fields.base_timestamp.to_be_bytes(),
+            &fields.max_timestamp.to_be_bytes(),
+            &1000i64.to_be_bytes(), // the producer
+            &[0; 6], // its epoch and the base sequence
+            &fields.count.to_be_bytes(),
+            &records,
+        ],
+    )
+}
+
 /// A batch of records that are written by hand, behind these fields, with the length and the checksum that the
 /// format asks for.
 fn batch_with(alloc: Global, fields: &Fields, records: &[&[u8]]) -> Result<Vec<u8>, Fail> {
-    let mut covered = Vec::new(alloc);
-    covered.extend_from_slice(&[0; 2])?; // the attributes
-    covered.extend_from_slice(&fields.last_offset_delta.to_be_bytes())?;
-    covered.extend_from_slice(&fields.base_timestamp.to_be_bytes())?;
-    covered.extend_from_slice(&fields.max_timestamp.to_be_bytes())?;
-    covered.extend_from_slice(&1000i64.to_be_bytes())?; // the producer
-    covered.extend_from_slice(&[0; 6])?; // its epoch and the base sequence
-    covered.extend_from_slice(&fields.count.to_be_bytes())?;
-    for record in records {
-        covered.extend_from_slice(record)?;
-    }
+    let covered = covered_with(alloc, fields, records)?;
     let length = i32::try_from(covered.len())?.saturating_add(9);
-    let mut bytes = Vec::new(alloc);
-    bytes.extend_from_slice(&[0; 8])?; // the base offset
-    bytes.extend_from_slice(&length.to_be_bytes())?;
-    bytes.extend_from_slice(&[0xff; 4])?; // the leader's epoch
-    bytes.push(2)?; // the magic byte
-    bytes.extend_from_slice(&crc32c(&covered).to_be_bytes())?;
-    bytes.extend_from_slice(&covered)?;
+    let bytes = joined(
+        alloc,
+        &[
+            &[0; 8], // the base offset
+            &length.to_be_bytes(),
+            &[0xff; 4], // the leader's epoch
+            &[2], // the magic byte
+            &crc32c(&covered).to_be_bytes(),
+            &covered,
+        ],
+    )?;
     Ok(bytes)
 }
 
@@ -123,14 +148,74 @@ fn resealed(alloc: Global, changes: &[(usize, u8)]) -> Result<Vec<u8>, AllocErro
     Ok(bytes)
 }
 
+/// The batch of these records, which is within the limit.
+fn written<T: AsRecord>(alloc: Global, records: &[T]) -> Result<Vec<u8>, Fail> {
+    if records.is_empty() || batch_size(records) > SIZE_LIMIT {
+        return Err(Fail::new("no batch, or one beyond the limit"));
+    }
+    Ok(write_batch(alloc, HEAD, records)?)
+}
+
+/// The batch that these bytes hold.
+fn read_back(alloc: Global, bytes: &[u8]) -> Result<Batch, Fail> {
+    let batch = read_batch(alloc, bytes).ok();
+    Ok(batch.ok_or("the batch is whole")?)
+}
+
+fn bytes_of(blob: &Option<Blob>) -> Option<&[u8]> {
+    blob.as_ref().map(|blob| blob.as_slice())
+}
+
+/// The headers are these, each a key and a value.
+fn are_headers(rt: &impl Abort, headers: &[Header], wanted: &[(&[u8], Option<&[u8]>)]) {
+    is(rt, "the number of headers", headers.len(), wanted.len());
+    for (header, (key, value)) in headers.iter().zip(wanted) {
+        is(rt, "a header's key", header.key.as_str().as_bytes(), *key);
+        is(rt, "a header's value", bytes_of(&header.value), *value);
+    }
+}
+
+/// The record is of this moment, this key and value, and these headers.
+fn is_record(
+    rt: &impl Abort,
+    record: &Record,
+    millis: i64,
+    key: Option<&[u8]>,
+    value: Option<&[u8]>,
+    headers: &[(&[u8], Option<&[u8]>)],
+) {
+    is(rt, "a record's moment", record.timestamp.millis(), millis);
+    is(rt, "its key", bytes_of(&record.key), key);
+    is(rt, "its value", bytes_of(&record.value), value);
+    are_headers(rt, record.headers.as_slice(), headers);
+}
+
 fn fault_of(alloc: Global, bytes: &[u8]) -> Option<BatchFault> {
     read_batch(alloc, bytes).err()
 }
 
-/// The fault of a batch of this record alone.
-fn fault_alone(alloc: Global, record: &[u8]) -> Result<Option<BatchFault>, Fail> {
-    let bytes = batch_of(alloc, &[record])?;
-    Ok(fault_of(alloc, &bytes))
+/// These bytes have this fault, or none.
+fn has_fault<R: Abort + AllocGlobal>(
+    rt: &R,
+    shows: &str,
+    place: usize,
+    bytes: &[u8],
+    fault: Option<BatchFault>,
+) {
+    is_at(rt, shows, place, fault_of(rt.alloc(), bytes), fault);
+}
+
+/// A batch of these records, of which each timestamp is 0, has this fault, or none.
+fn records_have<R: Abort + AllocGlobal>(
+    rt: &R,
+    shows: &str,
+    place: usize,
+    records: &[&[u8]],
+    fault: Option<BatchFault>,
+) -> Result<(), Fail> {
+    let bytes = batch_of(rt.alloc(), records)?;
+    has_fault(rt, shows, place, &bytes, fault);
+    Ok(())
 }
 
 /// Asserts that each of these records, alone in a batch, has the fault.
@@ -140,11 +225,8 @@ fn each_alone<R: Abort + AllocGlobal>(
     fault: WireFault,
 ) -> Result<(), Fail> {
     for (k, record) in records.iter().enumerate() {
-        assert_eq!(rt;
-            fault_alone(rt.alloc(), record)?,
-            Some(BatchFault::BadRecord(fault)),
-            "at {k}"
-        );
+        let fault = Some(BatchFault::BadRecord(fault));
+        records_have(rt, "alone", k, &[*record], fault)?;
     }
     Ok(())
 }
@@ -156,42 +238,28 @@ fn each_before_second<R: Abort + AllocGlobal>(
     fault: WireFault,
 ) -> Result<(), Fail> {
     for (k, record) in records.iter().enumerate() {
-        let bytes = batch_of(rt.alloc(), &[*record, &SECOND])?;
-        assert_eq!(rt;
-            fault_of(rt.alloc(), &bytes),
-            Some(BatchFault::BadRecord(fault)),
-            "at {k}"
-        );
+        let fault = Some(BatchFault::BadRecord(fault));
+        records_have(rt, "before a second", k, &[*record, &SECOND], fault)?;
     }
     Ok(())
 }
 
 #[test]
 fn the_builder_by_hand_gives_the_batch_by_hand(rt: HostRuntime) -> Result<(), Fail> {
-    let bytes = batch_of(rt.alloc(), &[&[0x0e, 0, 0, 0, 0x01, 0x02, 0x61, 0]])?;
-    assert_eq!(rt; bytes.as_slice(), BATCH.as_slice());
-    let two = batch_of(
-        rt.alloc(),
-        &[&[0x0e, 0, 0, 0, 0x01, 0x02, 0x61, 0], &SECOND],
-    )?;
-    assert_eq!(rt; fault_of(rt.alloc(), &two), None);
-    Ok(())
+    let bytes = batch_of(rt.alloc(), &[&FIRST])?;
+    is(&rt, "one record", bytes.as_slice(), BATCH.as_slice());
+    records_have(&rt, "records", 2, &[&FIRST, &SECOND], None)
 }
 
 #[test]
 fn the_record_is_given_back(rt: HostRuntime) -> Result<(), Fail> {
-    let batch = read_batch(rt.alloc(), &BATCH)
-        .ok()
-        .ok_or("the batch is whole")?;
-    assert_eq!(rt; batch.base_offset, 0);
-    assert_eq!(rt; batch.leader_epoch, -1);
-    assert_eq!(rt; batch.head, HEAD);
-    assert_eq!(rt; batch.records.len(), 1);
+    let batch = read_back(rt.alloc(), &BATCH)?;
+    is(&rt, "the base offset", batch.base_offset, 0);
+    is(&rt, "the leader's epoch", batch.leader_epoch, -1);
+    is(&rt, "the head", batch.head, HEAD);
+    is(&rt, "the number of records", batch.records.len(), 1);
     for record in batch.records.as_slice() {
-        assert_eq!(rt; record.timestamp.millis(), 0);
-        assert!(rt; record.key.is_none());
-        assert_eq!(rt; record.value.as_ref().map_or(0, |value| value.len()), 1);
-        assert_eq!(rt; record.headers.len(), 0);
+        is_record(&rt, record, 0, None, Some(b"a"), &[]);
     }
     Ok(())
 }

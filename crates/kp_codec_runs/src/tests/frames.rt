@@ -3,6 +3,7 @@ mod reading;
 mod splitter;
 mod writing;
 
+use crate::tests::{is, is_at};
 use kp_frames::{
     Api, Broker, FrameFault, InitProducerIdRequest, InitProducerIdResponse, MetadataRequest,
     MetadataResponse, PartitionMetadata, PartitionProduceData, PartitionProduceResponse,

@@ -1,6 +1,9 @@
+use crate::tests::is;
 use kp_accum::{Budget, Config, ConfigFault, Item};
 use kp_batch::{AsRecord, Record, Timestamp, charge};
 use kp_wire::{Blob, Seq};
+use std::alloc::Global;
+use std::process::Abort;
 use std::test::Fail;
 
 mod waiting;
@@ -19,13 +22,19 @@ const DEFAULTS: Config = Config {
 
 #[test]
 fn the_defaults_pass(rt: HostRuntime) {
-    assert_eq!(rt; Config::default(), DEFAULTS);
-    assert_eq!(rt; DEFAULTS.check(), Ok(()));
+    is(&rt, "the defaults", Config::default(), DEFAULTS);
+    is(&rt, "whether they pass", DEFAULTS.check(), Ok(()));
+}
+
+/// The configuration passes, or is refused by this number.
+fn is_checked(rt: &impl Abort, config: &Config, wanted: Result<(), u8>) {
+    let found = config.check().map_err(|fault| fault.number());
+    assert_eq!(rt; found, wanted, "{config:?}");
 }
 
 #[test]
 fn the_ends_of_each_range_pass(rt: HostRuntime) {
-    let rows = [
+    const ROWS: [Config; 12] = [
         Config {
             batch_size: 0,
             ..DEFAULTS
@@ -80,14 +89,14 @@ fn the_ends_of_each_range_pass(rt: HostRuntime) {
             ..DEFAULTS
         },
     ];
-    for config in rows {
-        assert_eq!(rt; config.check(), Ok(()), "{config:?}");
+    for config in &ROWS {
+        is_checked(&rt, config, Ok(()));
     }
 }
 
 #[test]
 fn what_is_beyond_an_end_is_refused_by_its_number(rt: HostRuntime) {
-    let rows = [
+    const ROWS: [(u8, Config); 16] = [
         (
             1,
             Config {
@@ -206,42 +215,43 @@ fn what_is_beyond_an_end_is_refused_by_its_number(rt: HostRuntime) {
             },
         ),
     ];
-    for (number, config) in rows {
-        let fault = config.check().map_err(|fault| fault.number());
-        assert_eq!(rt; fault, Err(number), "{config:?}");
+    for (number, config) in &ROWS {
+        is_checked(&rt, config, Err(*number));
     }
 }
 
 #[test]
 fn the_first_fault_is_told(rt: HostRuntime) {
-    let most = u64::MAX;
-    let config = Config {
-        batch_size: most,
-        linger_ms: most,
-        buffer_memory: most,
-        max_request_size: most,
-        request_timeout_ms: most,
-        delivery_timeout_ms: most,
-        retry_backoff_ms: most,
-        max_in_flight_requests_per_connection: most,
-        sequence_limit: most,
+    const MOST: Config = Config {
+        batch_size: u64::MAX,
+        linger_ms: u64::MAX,
+        buffer_memory: u64::MAX,
+        max_request_size: u64::MAX,
+        request_timeout_ms: u64::MAX,
+        delivery_timeout_ms: u64::MAX,
+        retry_backoff_ms: u64::MAX,
+        max_in_flight_requests_per_connection: u64::MAX,
+        sequence_limit: u64::MAX,
     };
-    assert_eq!(rt; config.check(), Err(ConfigFault::BatchSize));
-    let config = Config {
+    let most = MOST;
+    is(&rt, "all", most.check(), Err(ConfigFault::BatchSize));
+    let least_batch = Config {
         batch_size: 0,
-        ..config
+        ..most
     };
-    assert_eq!(rt; config.check(), Err(ConfigFault::Linger));
-    let config = Config {
+    let fault = least_batch.check();
+    is(&rt, "all but the first", fault, Err(ConfigFault::Linger));
+    let no_linger = Config {
         linger_ms: 0,
-        ..config
+        ..least_batch
     };
-    assert_eq!(rt; config.check(), Err(ConfigFault::BufferMemory));
+    let fault = no_linger.check();
+    is(&rt, "but two", fault, Err(ConfigFault::BufferMemory));
 }
 
-#[test]
-fn a_copy_of_an_item_has_all_of_it(rt: HostRuntime) -> Result<(), Fail> {
-    let item = Item {
+/// An item whose fields differ.
+fn numbered(alloc: Global) -> Result<Item, Fail> {
+    Ok(Item {
         sender: 1,
         partition: 2,
         number: 3,
@@ -249,37 +259,43 @@ fn a_copy_of_an_item_has_all_of_it(rt: HostRuntime) -> Result<(), Fail> {
         body: Record {
             timestamp: Timestamp::from_millis(5).ok_or("a timestamp")?,
             key: None,
-            value: Some(Blob::from_slice(rt.alloc(), b"a")?),
-            headers: Seq::new(Vec::new(rt.alloc())),
+            value: Some(Blob::from_slice(alloc, b"a")?),
+            headers: Seq::new(Vec::new(alloc)),
         },
-    };
-    let copy = item.copy(rt.alloc())?;
-    assert_eq!(rt;
-        (copy.sender, copy.partition, copy.number, copy.at),
-        (1, 2, 3, 4)
-    );
-    assert_eq!(rt; copy.as_record().timestamp.millis(), 5);
-    assert_eq!(rt; charge(copy.as_record()), 69);
+    })
+}
+
+#[test]
+fn a_copy_of_an_item_has_all_of_it(rt: HostRuntime) -> Result<(), Fail> {
+    let copy = numbered(rt.alloc())?.copy(rt.alloc())?;
+    let numbers = (copy.sender, copy.partition, copy.number, copy.at);
+    is(&rt, "its numbers", numbers, (1, 2, 3, 4));
+    let record = copy.as_record();
+    is(&rt, "its moment", record.timestamp.millis(), 5);
+    is(&rt, "its charge", charge(record), 69);
     Ok(())
+}
+
+/// Takes so much where there is room.
+fn take(budget: &mut Budget, charge: u64) {
+    if budget.has_room(charge) {
+        budget.take(charge);
+    }
 }
 
 #[test]
 fn a_budget_is_used_up_to_its_limit(rt: HostRuntime) {
     let mut budget = Budget::new(138);
-    assert!(rt; budget.has_room(138));
-    assert!(rt; !budget.has_room(139));
-    if budget.has_room(69) {
-        budget.take(69);
-    }
-    if budget.has_room(69) {
-        budget.take(69);
-    }
-    assert_eq!(rt; budget.used(), 138);
-    assert!(rt; !budget.has_room(1));
-    assert!(rt; budget.has_room(0));
+    is(&rt, "room for all", budget.has_room(138), true);
+    is(&rt, "room for more", budget.has_room(139), false);
+    take(&mut budget, 69);
+    take(&mut budget, 69);
+    is(&rt, "all is used", budget.used(), 138);
+    is(&rt, "room for one", budget.has_room(1), false);
+    is(&rt, "room for none", budget.has_room(0), true);
     if budget.used() >= 69 {
         budget.release(69);
     }
-    assert_eq!(rt; budget.used(), 69);
-    assert!(rt; !budget.has_room(u64::MAX));
+    is(&rt, "half is used", budget.used(), 69);
+    is(&rt, "room for the most", budget.has_room(u64::MAX), false);
 }

@@ -1,6 +1,7 @@
 ghost use Rattle.std.specs.Prelude.{◌≡◌, [], ◌∷◌, None, Some, IfOk, codes};
 ghost use Rattle.kp_accum.specs.Queue.{begun_by};
 
+use crate::tests::is;
 use kp_accum::{Config, Item, Queue};
 use kp_batch::{Record, SIZE_LIMIT, Timestamp};
 use kp_parts::{HandedBatch, Sending, id_frame, produce_frame};
@@ -110,8 +111,8 @@ fn a_batch_is_written_as_these_bytes(rt: HostRuntime) -> Result<(), Fail> {
         batch: HandedBatch::new(0, 1000, 0, front),
     };
     let data = sending.partition_data(rt.alloc())?;
-    assert_eq!(rt; data.partition, 0);
-    assert_eq!(rt; data.records.as_slice(), BATCH.as_slice());
+    is(&rt, "the partition", data.partition, 0);
+    is(&rt, "the batch", data.records.as_slice(), BATCH.as_slice());
     Ok(())
 }
 
@@ -127,8 +128,8 @@ fn a_batch_goes_out_as_these_bytes(rt: HostRuntime) -> Result<(), Fail> {
     }];
     let bytes = produce_frame(rt.alloc(), &config, &names, 2, &sendings)?;
     let (front, batch) = bytes.as_slice().split_at(bytes.len().min(FRONT.len()));
-    assert_eq!(rt; front, FRONT.as_slice());
-    assert_eq!(rt; batch, BATCH.as_slice());
+    is(&rt, "what stands before the batch", front, FRONT.as_slice());
+    is(&rt, "the batch", batch, BATCH.as_slice());
     Ok(())
 }
 
@@ -139,6 +140,6 @@ fn an_id_is_asked_for_by_these_bytes(rt: HostRuntime) -> Result<(), Fail> {
         return Err(Fail::new("a name that is too long"));
     }
     let bytes = id_frame(rt.alloc(), &names, 3)?;
-    assert_eq!(rt; bytes.as_slice(), ID.as_slice());
+    is(&rt, "the request", bytes.as_slice(), ID.as_slice());
     Ok(())
 }

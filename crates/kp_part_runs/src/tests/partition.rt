@@ -1,9 +1,11 @@
+use crate::tests::is;
 use kp_accum::{Config, Flags, Item};
 use kp_batch::{Record, SIZE_LIMIT, Timestamp};
 use kp_parts::{HandedBatch, Partition};
 use kp_rules::Attempt;
 use kp_wire::{Blob, Seq};
 use std::alloc::Global;
+use std::process::Abort;
 use std::test::Fail;
 
 const NONE: Flags = Flags {
@@ -65,7 +67,8 @@ fn with_items(alloc: Global, count: u64) -> Result<Partition, Fail> {
     Ok(partition)
 }
 
-fn is(ready: Option<HandedBatch>, id: u64, sequence: u64, number: u64) -> bool {
+/// Whether the batch goes out under this id and sequence number, and each of its items has this number.
+fn goes_out(ready: Option<HandedBatch>, id: u64, sequence: u64, number: u64) -> bool {
     match ready {
         None => false,
         Some(batch) => {
@@ -76,19 +79,44 @@ fn is(ready: Option<HandedBatch>, id: u64, sequence: u64, number: u64) -> bool {
     }
 }
 
+/// At this moment the item of this number goes out under this id, at sequence number 0; or none does.
+fn sends(
+    rt: &impl Abort,
+    partition: &Partition,
+    config: &Config,
+    now: u64,
+    wanted: Option<(u64, u64)>,
+) {
+    let ready = partition.sends(config, NONE, now);
+    let found = match wanted {
+        None => ready.is_none(),
+        Some((id, number)) => goes_out(ready, id, 0, number),
+    };
+    is(rt, "what goes out", found, true);
+}
+
+/// Whether the answer of this request is awaited.
+fn awaits(rt: &impl Abort, partition: &Partition, correlation: u32, wanted: bool) {
+    is(
+        rt,
+        "whether it awaits",
+        partition.awaits(correlation),
+        wanted,
+    );
+}
+
 #[test]
 fn a_batch_goes_out_under_the_first_id_from_sequence_number_0(rt: HostRuntime) -> Result<(), Fail> {
     let mut partition = with_items(rt.alloc(), 2)?;
-    assert!(rt; is(partition.sends(&config(), NONE, 7), 42, 0, 0));
-    assert!(rt; !partition.awaits(5));
+    sends(&rt, &partition, &config(), 7, Some((42, 0)));
+    awaits(&rt, &partition, 5, false);
     send(&mut partition, 5)?;
-    assert!(rt; partition.awaits(5));
-    assert!(rt;
-        partition
-            .awaiting(5)
-            .is_some_and(|open| open.number() == 0 && open.begun() == 7)
-    );
-    assert!(rt; partition.awaiting(6).is_none());
+    awaits(&rt, &partition, 5, true);
+    let open = partition.awaiting(5);
+    let found = open.map(|open| (open.number(), open.begun()));
+    is(&rt, "the batch that it awaits", found, Some((0, 7)));
+    let none = partition.awaiting(6).is_none();
+    is(&rt, "none of another request", none, true);
     Ok(())
 }
 
@@ -96,7 +124,7 @@ fn a_batch_goes_out_under_the_first_id_from_sequence_number_0(rt: HostRuntime) -
 fn the_second_batch_waits_until_the_first_is_acknowledged(rt: HostRuntime) -> Result<(), Fail> {
     let mut partition = with_items(rt.alloc(), 2)?;
     send(&mut partition, 5)?;
-    assert!(rt; partition.sends(&config(), NONE, 1000).is_none());
+    sends(&rt, &partition, &config(), 1000, None);
     Ok(())
 }
 
@@ -105,25 +133,26 @@ fn a_dropped_batch_goes_out_again_after_100_ms(rt: HostRuntime) -> Result<(), Fa
     let mut partition = with_items(rt.alloc(), 1)?;
     send(&mut partition, 5)?;
     partition.drop_attempts(50);
-    assert!(rt; !partition.awaits(5));
-    let waits = partition.lowest_waiting().ok_or("a batch that waits")?;
-    assert_eq!(rt; waits.attempt(), Attempt::Waiting(50));
-    assert!(rt; partition.sends(&config(), NONE, 149).is_none());
-    assert!(rt; is(partition.sends(&config(), NONE, 150), 42, 0, 0));
+    awaits(&rt, &partition, 5, false);
+    let waits = partition.lowest_waiting().map(|open| open.attempt());
+    is(&rt, "what waits", waits, Some(Attempt::Waiting(50)));
+    sends(&rt, &partition, &config(), 149, None);
+    sends(&rt, &partition, &config(), 150, Some((42, 0)));
     send(&mut partition, 6)?;
-    assert!(rt; partition.awaits(6));
-    assert!(rt; partition.lowest_waiting().is_none());
+    awaits(&rt, &partition, 6, true);
+    let none = partition.lowest_waiting().is_none();
+    is(&rt, "nothing waits", none, true);
     Ok(())
 }
 
 #[test]
 fn a_flush_waits_for_what_is_queued_and_open(rt: HostRuntime) -> Result<(), Fail> {
     let mut partition = with_items(rt.alloc(), 1)?;
-    assert!(rt; !partition.has_marks());
+    is(&rt, "no marks", partition.has_marks(), false);
     partition.mark();
-    assert!(rt; partition.has_marks());
+    is(&rt, "what is queued", partition.has_marks(), true);
     send(&mut partition, 5)?;
-    assert!(rt; partition.has_marks());
+    is(&rt, "what is open", partition.has_marks(), true);
     Ok(())
 }
 
@@ -134,8 +163,8 @@ fn it_goes_on_under_a_fresh_id(rt: HostRuntime) -> Result<(), Fail> {
         ..config()
     };
     let mut partition = with_items(rt.alloc(), 1)?;
-    assert!(rt; !partition.wants_id(&few));
+    is(&rt, "whether it wants one", partition.wants_id(&few), false);
     partition.go_on_under(43)?;
-    assert!(rt; is(partition.sends(&few, NONE, 7), 43, 0, 0));
+    sends(&rt, &partition, &few, 7, Some((43, 0)));
     Ok(())
 }

@@ -3,7 +3,7 @@
 use crate::tests::samples::{core_of, singles};
 use crate::tests::scene::Scene;
 use crate::tests::steps::Step::{
-    Append, Audit, Counts, Due, Feed, Flushed, Hear, Ids, Lose, Send, Tick, Told, Unknown,
+    self, Append, Audit, Counts, Due, Feed, Flushed, Hear, Ids, Lose, Send, Tick, Told, Unknown,
 };
 use crate::tests::steps::{play, plays};
 use kp_accum::Config;
@@ -12,7 +12,7 @@ use std::test::Fail;
 
 #[test]
 fn a_new_core_has_done_nothing(rt: HostRuntime) -> Result<(), Fail> {
-    let steps = [
+    const STEPS: &[Step<'static>] = &[
         Counts([0, 0, 0, 0, 0, 0]),
         Due(None),
         Flushed(true),
@@ -25,7 +25,7 @@ fn a_new_core_has_done_nothing(rt: HostRuntime) -> Result<(), Fail> {
         Told(0, ""),
         Told(1, ""),
     ];
-    plays(&rt, singles(), 3, 2, &steps)
+    plays(&rt, singles(), 3, 2, STEPS)
 }
 
 #[test]
@@ -39,13 +39,13 @@ fn a_core_is_as_it_was_asked_for(rt: HostRuntime) -> Result<(), Fail> {
 
 #[test]
 fn a_core_has_up_to_1024_partitions_and_64_senders(rt: HostRuntime) -> Result<(), Fail> {
-    let steps = [
+    const STEPS: &[Step<'static>] = &[
         Append(63, 1023, 0, 0, "a"),
         Send(0, "2 1023:1000/0+a"),
         Hear(0, 2, &[(1023, 0, 0)], 1),
         Told(63, "1023/0 delivered 0"),
     ];
-    plays(&rt, Config::default(), 1024, 64, &steps)
+    plays(&rt, Config::default(), 1024, 64, STEPS)
 }
 
 #[test]
@@ -61,7 +61,7 @@ fn a_close_and_an_end_are_seen(rt: HostRuntime) -> Result<(), Fail> {
 
 #[test]
 fn requests_batches_attempts_and_items_are_counted(rt: HostRuntime) -> Result<(), Fail> {
-    let steps = [
+    const STEPS: &[Step<'static>] = &[
         Feed("abc"),
         Append(0, 1, 0, 0, "dd"),
         Counts([0, 0, 0, 0, 4, 277]),
@@ -80,14 +80,13 @@ fn requests_batches_attempts_and_items_are_counted(rt: HostRuntime) -> Result<()
         Hear(300, 6, &[(0, 10, -1), (1, 0, 9)], 3),
         Counts([0, 0, 4, 7, 0, 0]),
     ];
-    plays(&rt, singles(), 2, 1, &steps)
+    plays(&rt, singles(), 2, 1, STEPS)
 }
 
 /// First in, first out, and each once; a sender has its own.
 #[test]
 fn each_sender_fetches_its_own_reports_in_their_order(rt: HostRuntime) -> Result<(), Fail> {
-    let mut scene = Scene::open(rt.alloc(), Config::default(), 1, 2)?;
-    let steps = [
+    const BEFORE: &[Step<'static>] = &[
         Append(0, 0, 0, 0, "a"),
         Append(1, 0, 0, 0, "b"),
         Append(0, 0, 1, 0, "c"),
@@ -95,7 +94,13 @@ fn each_sender_fetches_its_own_reports_in_their_order(rt: HostRuntime) -> Result
         Send(0, "2 0:1000/0+a+b+c+d"),
         Hear(0, 2, &[(0, 0, 20)], 4),
     ];
-    play(&rt, &mut scene, &steps)?;
+    const AFTER: &[Step<'static>] = &[
+        Told(0, ""),
+        Told(1, ""),
+        Audit(0, &[(0, 0, 1), (1, 0, 1), (0, 1, 1), (1, 1, 1)]),
+    ];
+    let mut scene = Scene::open(rt.alloc(), Config::default(), 1, 2)?;
+    play(&rt, &mut scene, BEFORE)?;
     for (sender, number, offset) in [(1, 0, 21), (0, 0, 20), (0, 1, 22), (1, 1, 23)] {
         let report = Report {
             sender,
@@ -105,19 +110,14 @@ fn each_sender_fetches_its_own_reports_in_their_order(rt: HostRuntime) -> Result
         };
         assert_eq!(rt; scene.fetch(sender)?, Some(report));
     }
-    let steps = [
-        Told(0, ""),
-        Told(1, ""),
-        Audit(0, &[(0, 0, 1), (1, 0, 1), (0, 1, 1), (1, 1, 1)]),
-    ];
-    play(&rt, &mut scene, &steps)
+    play(&rt, &mut scene, AFTER)
 }
 
 /// Records of one sender that were handed over one after the other are one run, over batches too; a record that
 /// expired between them was not handed over.
 #[test]
 fn an_audit_joins_neighbours(rt: HostRuntime) -> Result<(), Fail> {
-    let steps = [
+    const STEPS: &[Step<'static>] = &[
         Feed("ab"),
         Send(0, "2 0:1000/0+a"),
         Audit(0, &[(0, 0, 1)]),
@@ -131,21 +131,21 @@ fn an_audit_joins_neighbours(rt: HostRuntime) -> Result<(), Fail> {
         Send(120_000, "4 0:1000/2+d"),
         Audit(0, &[(0, 0, 2), (0, 3, 1)]),
     ];
-    plays(&rt, singles(), 1, 1, &steps)
+    plays(&rt, singles(), 1, 1, STEPS)
 }
 
 #[test]
 fn without_audits_there_is_none(rt: HostRuntime) -> Result<(), Fail> {
-    let alloc = rt.alloc();
-    let core = core_of(alloc, Config::default(), 1, 1, 2, false)?;
-    let mut scene = Scene { alloc, core };
-    let steps = [
+    const STEPS: &[Step<'static>] = &[
         Feed("a"),
         Send(0, "2 0:1000/0+a"),
         Hear(0, 2, &[(0, 0, 0)], 1),
         Told(0, "0/0 delivered 0"),
     ];
-    play(&rt, &mut scene, &steps)?;
+    let alloc = rt.alloc();
+    let core = core_of(alloc, Config::default(), 1, 1, 2, false)?;
+    let mut scene = Scene { alloc, core };
+    play(&rt, &mut scene, STEPS)?;
     if scene.core.partitions() == 0 {
         return Err(Fail::new("no partition"));
     }

@@ -2,7 +2,7 @@
 
 use crate::tests::samples::{item, singles};
 use crate::tests::steps::Step::{
-    Append, Audit, Counts, Due, Feed, Hear, Lose, Send, Stale, Tick, Told, Used,
+    self, Append, Audit, Counts, Due, Feed, Hear, Lose, Send, Stale, Tick, Told, Used,
 };
 use crate::tests::steps::plays;
 use kp_accum::Config;
@@ -11,7 +11,7 @@ use std::test::Fail;
 /// Two partitions' batches are in one request. At their deadline both partitions are fenced.
 #[test]
 fn what_was_sent_is_unknown_at_its_deadline(rt: HostRuntime) -> Result<(), Fail> {
-    let steps = [
+    const STEPS: &[Step<'static>] = &[
         Append(0, 0, 0, 0, "a"),
         Append(0, 1, 0, 0, "b"),
         Send(0, "2 0:1000/0+a 1:1000/0+b"),
@@ -23,12 +23,12 @@ fn what_was_sent_is_unknown_at_its_deadline(rt: HostRuntime) -> Result<(), Fail>
         Audit(0, &[(0, 0, 1)]),
         Audit(1, &[(0, 0, 1)]),
     ];
-    plays(&rt, Config::default(), 2, 1, &steps)
+    plays(&rt, Config::default(), 2, 1, STEPS)
 }
 
 #[test]
 fn what_was_queued_expires_at_its_deadline(rt: HostRuntime) -> Result<(), Fail> {
-    let steps = [
+    const STEPS: &[Step<'static>] = &[
         Feed("a"),
         Tick(119_999, 0, false),
         Tick(120_000, 1, false),
@@ -36,13 +36,13 @@ fn what_was_queued_expires_at_its_deadline(rt: HostRuntime) -> Result<(), Fail> 
         Used(0),
         Audit(0, &[]),
     ];
-    plays(&rt, Config::default(), 1, 1, &steps)
+    plays(&rt, Config::default(), 1, 1, STEPS)
 }
 
 /// Batch by batch from the front, as long as they are late; the partition goes on.
 #[test]
 fn late_batches_expire_up_to_the_first_that_is_not(rt: HostRuntime) -> Result<(), Fail> {
-    let steps = [
+    const STEPS: &[Step<'static>] = &[
         Feed("ab"),
         Append(0, 0, 2, 1, "c"),
         Append(0, 0, 3, 0, "d"),
@@ -50,42 +50,38 @@ fn late_batches_expire_up_to_the_first_that_is_not(rt: HostRuntime) -> Result<()
         Told(0, "0/0 expired, 0/1 expired"),
         Send(120_000, "2 0:1000/0+c"),
     ];
-    plays(&rt, singles(), 1, 1, &steps)
+    plays(&rt, singles(), 1, 1, STEPS)
 }
 
 /// A batch has its deadline from its first item on.
 #[test]
 fn an_item_expires_with_the_batch_that_it_joined(rt: HostRuntime) -> Result<(), Fail> {
-    let steps = [
+    const STEPS: &[Step<'static>] = &[
         Feed("a"),
         Append(0, 0, 1, 100_000, "b"),
         Tick(120_000, 2, false),
         Told(0, "0/0 expired, 0/1 expired"),
     ];
-    plays(&rt, Config::default(), 1, 1, &steps)
+    plays(&rt, Config::default(), 1, 1, STEPS)
 }
 
 /// What waits for a retry was sent, and may stand in the log.
 #[test]
 fn a_batch_that_waits_for_a_retry_does_not_expire(rt: HostRuntime) -> Result<(), Fail> {
-    let steps = [
+    const STEPS: &[Step<'static>] = &[
         Feed("ab"),
         Send(0, "2 0:1000/0+a"),
         Lose(10),
         Tick(120_000, 2, false),
         Told(0, "0/0 unknown, 0/1 fenced"),
     ];
-    plays(&rt, singles(), 1, 1, &steps)
+    plays(&rt, singles(), 1, 1, STEPS)
 }
 
 /// The batch that was begun later is open too, and not late.
 #[test]
 fn one_late_open_batch_fences_its_partition(rt: HostRuntime) -> Result<(), Fail> {
-    let config = Config {
-        request_timeout_ms: 120_000,
-        ..singles()
-    };
-    let steps = [
+    const STEPS: &[Step<'static>] = &[
         Feed("ab"),
         Append(0, 0, 2, 50, "c"),
         Send(0, "2 0:1000/0+a"),
@@ -95,12 +91,16 @@ fn one_late_open_batch_fences_its_partition(rt: HostRuntime) -> Result<(), Fail>
         Tick(120_000, 2, false),
         Told(0, "0/0 delivered 0, 0/1 unknown, 0/2 unknown"),
     ];
-    plays(&rt, config, 1, 1, &steps)
+    let config = Config {
+        request_timeout_ms: 120_000,
+        ..singles()
+    };
+    plays(&rt, config, 1, 1, STEPS)
 }
 
 #[test]
 fn a_request_times_out_and_all_are_dropped(rt: HostRuntime) -> Result<(), Fail> {
-    let steps = [
+    const STEPS: &[Step<'static>] = &[
         Append(0, 0, 0, 0, "a"),
         Send(0, "2 0:1000/0+a"),
         Append(0, 1, 0, 10, "b"),
@@ -113,28 +113,24 @@ fn a_request_times_out_and_all_are_dropped(rt: HostRuntime) -> Result<(), Fail> 
         Send(30_099, "idle"),
         Send(30_100, "4 0:1000/0+a 1:1000/0+b"),
     ];
-    plays(&rt, singles(), 2, 1, &steps)
+    plays(&rt, singles(), 2, 1, STEPS)
 }
 
 #[test]
 fn a_timeout_and_a_deadline_come_in_one_look(rt: HostRuntime) -> Result<(), Fail> {
-    let steps = [
+    const STEPS: &[Step<'static>] = &[
         Feed("a"),
         Send(0, "2 0:1000/0+a"),
         Tick(120_000, 1, true),
         Told(0, "0/0 unknown"),
     ];
-    plays(&rt, Config::default(), 1, 1, &steps)
+    plays(&rt, Config::default(), 1, 1, STEPS)
 }
 
 /// The end of a batch's linger, its request's timeout, the end of its backoff, and its deadline.
 #[test]
 fn the_core_is_to_be_looked_at_when_something_is_due(rt: HostRuntime) -> Result<(), Fail> {
-    let config = Config {
-        linger_ms: 5,
-        ..Config::default()
-    };
-    let steps = [
+    const STEPS: &[Step<'static>] = &[
         Due(None),
         Append(0, 0, 0, 10, "a"),
         Due(Some(15)),
@@ -147,18 +143,17 @@ fn the_core_is_to_be_looked_at_when_something_is_due(rt: HostRuntime) -> Result<
         Hear(110_000, 3, &[(0, 0, 0)], 1),
         Due(None),
     ];
-    plays(&rt, config, 1, 1, &steps)
+    let config = Config {
+        linger_ms: 5,
+        ..Config::default()
+    };
+    plays(&rt, config, 1, 1, STEPS)
 }
 
 /// The ends of three lingers, and at last the deadline of a batch whose backoff is far longer.
 #[test]
 fn the_earliest_moment_of_all_partitions_is_due(rt: HostRuntime) -> Result<(), Fail> {
-    let config = Config {
-        linger_ms: 90_000,
-        retry_backoff_ms: 200_000,
-        ..Config::default()
-    };
-    let steps = [
+    const STEPS: &[Step<'static>] = &[
         Append(0, 1, 0, 700, "a"),
         Due(Some(90_700)),
         Append(0, 2, 0, 600, "b"),
@@ -171,7 +166,12 @@ fn the_earliest_moment_of_all_partitions_is_due(rt: HostRuntime) -> Result<(), F
         Send(90_800, "3 0:1000/0+c 1:1000/0+a"),
         Due(Some(120_600)),
     ];
-    plays(&rt, config, 3, 1, &steps)
+    let config = Config {
+        linger_ms: 90_000,
+        retry_backoff_ms: 200_000,
+        ..Config::default()
+    };
+    plays(&rt, config, 3, 1, STEPS)
 }
 
 /// The deadline would be above the greatest moment, and the end of the linger is that moment, or above it too.

@@ -3,8 +3,8 @@
 use crate::tests::samples::singles;
 use crate::tests::scene::Scene;
 use crate::tests::steps::Step::{
-    Append, Audit, Close, Counts, Due, End, Feed, Flush, Hear, HearEnded, Lose, Send, Stale, Tick,
-    Told, Used,
+    self, Append, Audit, Close, Counts, Due, End, Feed, Flush, Hear, HearEnded, Lose, Send, Stale,
+    Tick, Told, Used,
 };
 use crate::tests::steps::{play, plays};
 use kp_accum::Config;
@@ -13,7 +13,7 @@ use std::test::Fail;
 /// What was in flight behind it is unknown, and its reply settles nothing.
 #[test]
 fn a_fence_ends_attempts(rt: HostRuntime) -> Result<(), Fail> {
-    let steps = [
+    const STEPS: &[Step<'static>] = &[
         Feed("abc"),
         Send(0, "2 0:1000/0+a"),
         Hear(0, 2, &[(0, 0, 0)], 1),
@@ -25,17 +25,13 @@ fn a_fence_ends_attempts(rt: HostRuntime) -> Result<(), Fail> {
         Stale(0, 4, &[(0, 45, -1)]),
         Audit(0, &[(0, 0, 3)]),
     ];
-    plays(&rt, singles(), 1, 1, &steps)
+    plays(&rt, singles(), 1, 1, STEPS)
 }
 
 /// A request whose attempts a fence has ended is none in flight: it counts neither for the window nor for a timeout.
 #[test]
 fn an_ended_attempt_does_not_time_out(rt: HostRuntime) -> Result<(), Fail> {
-    let config = Config {
-        max_in_flight_requests_per_connection: 2,
-        ..singles()
-    };
-    let steps = [
+    const STEPS: &[Step<'static>] = &[
         Feed("abc"),
         Send(0, "2 0:1000/0+a"),
         Hear(0, 2, &[(0, 0, 0)], 1),
@@ -48,7 +44,11 @@ fn an_ended_attempt_does_not_time_out(rt: HostRuntime) -> Result<(), Fail> {
         Tick(30_000, 0, false),
         Tick(50_000, 0, true),
     ];
-    plays(&rt, config, 2, 1, &steps)
+    let config = Config {
+        max_in_flight_requests_per_connection: 2,
+        ..singles()
+    };
+    plays(&rt, config, 2, 1, STEPS)
 }
 
 /// The first partition is fenced while both wait for one reply. That reply settles the second partition, and says of
@@ -78,7 +78,7 @@ fn an_answer_to_a_fenced_partition_is_ignored(rt: HostRuntime) -> Result<(), Fai
 /// What stood behind it in the queue is not sent, and what comes later is told at once, for no memory.
 #[test]
 fn what_was_queued_is_fenced(rt: HostRuntime) -> Result<(), Fail> {
-    let steps = [
+    const STEPS: &[Step<'static>] = &[
         Feed("ab"),
         Send(0, "2 0:1000/0+a"),
         Hear(0, 2, &[(0, 10, -1)], 2),
@@ -91,12 +91,12 @@ fn what_was_queued_is_fenced(rt: HostRuntime) -> Result<(), Fail> {
         Send(0, "Ended"),
         Audit(0, &[(0, 0, 1)]),
     ];
-    plays(&rt, singles(), 1, 1, &steps)
+    plays(&rt, singles(), 1, 1, STEPS)
 }
 
 #[test]
 fn a_fence_leaves_the_other_partitions(rt: HostRuntime) -> Result<(), Fail> {
-    let steps = [
+    const STEPS: &[Step<'static>] = &[
         Feed("ab"),
         Append(0, 1, 0, 0, "c"),
         Append(0, 1, 1, 0, "d"),
@@ -105,19 +105,19 @@ fn a_fence_leaves_the_other_partitions(rt: HostRuntime) -> Result<(), Fail> {
         Told(0, "0/0 rejected 10, 0/1 fenced, 1/0 delivered 0"),
         Send(0, "3 1:1000/1+d"),
     ];
-    plays(&rt, singles(), 2, 1, &steps)
+    plays(&rt, singles(), 2, 1, STEPS)
 }
 
 #[test]
 fn what_is_queued_at_the_end_is_not_sent(rt: HostRuntime) -> Result<(), Fail> {
-    let steps = [Feed("a"), End(1), Told(0, "0/0 ended"), Used(0)];
-    plays(&rt, Config::default(), 1, 1, &steps)
+    const STEPS: &[Step<'static>] = &[Feed("a"), End(1), Told(0, "0/0 ended"), Used(0)];
+    plays(&rt, Config::default(), 1, 1, STEPS)
 }
 
 /// Of each partition, upwards, first what is open and then what is queued.
 #[test]
 fn what_is_open_at_the_end_is_unknown(rt: HostRuntime) -> Result<(), Fail> {
-    let steps = [
+    const STEPS: &[Step<'static>] = &[
         Append(0, 1, 0, 0, "a"),
         Append(0, 1, 1, 0, "b"),
         Append(0, 0, 0, 0, "c"),
@@ -128,12 +128,12 @@ fn what_is_open_at_the_end_is_unknown(rt: HostRuntime) -> Result<(), Fail> {
         Counts([0, 0, 2, 2, 0, 0]),
         Due(None),
     ];
-    plays(&rt, singles(), 2, 1, &steps)
+    plays(&rt, singles(), 2, 1, STEPS)
 }
 
 #[test]
 fn after_the_end_no_reply_counts(rt: HostRuntime) -> Result<(), Fail> {
-    let steps = [
+    const STEPS: &[Step<'static>] = &[
         Feed("a"),
         Send(0, "2 0:1000/0+a"),
         End(1),
@@ -141,13 +141,13 @@ fn after_the_end_no_reply_counts(rt: HostRuntime) -> Result<(), Fail> {
         HearEnded(0, 2, &[(0, 0, 0)]),
         Send(0, "Ended"),
     ];
-    plays(&rt, Config::default(), 1, 1, &steps)
+    plays(&rt, Config::default(), 1, 1, STEPS)
 }
 
 /// Of a fenced partition too.
 #[test]
 fn what_is_appended_after_the_end_is_told_at_once(rt: HostRuntime) -> Result<(), Fail> {
-    let steps = [
+    const STEPS: &[Step<'static>] = &[
         Append(0, 0, 0, 0, "a"),
         Send(0, "2 0:1000/0+a"),
         Hear(0, 2, &[(0, 10, -1)], 1),
@@ -157,17 +157,17 @@ fn what_is_appended_after_the_end_is_told_at_once(rt: HostRuntime) -> Result<(),
         Told(0, "0/0 rejected 10, 0/1 ended, 1/0 ended"),
         Used(0),
     ];
-    plays(&rt, singles(), 2, 1, &steps)
+    plays(&rt, singles(), 2, 1, STEPS)
 }
 
 #[test]
 fn after_the_end_nothing_changes_any_more(rt: HostRuntime) -> Result<(), Fail> {
+    const UP_TO_THE_END: &[Step<'static>] = &[Feed("ab"), Send(0, "2 0:1000/0+a"), End(2)];
+    const BEHIND: &[Step<'static>] = &[Tick(1_000_000, 0, false), Lose(5), Close, Flush, End(0)];
     let mut scene = Scene::open(rt.alloc(), singles(), 1, 1)?;
-    let steps = [Feed("ab"), Send(0, "2 0:1000/0+a"), End(2)];
-    play(&rt, &mut scene, &steps)?;
+    play(&rt, &mut scene, UP_TO_THE_END)?;
     let before = scene.state()?;
-    let steps = [Tick(1_000_000, 0, false), Lose(5), Close, Flush, End(0)];
-    play(&rt, &mut scene, &steps)?;
+    play(&rt, &mut scene, BEHIND)?;
     assert_eq!(rt; scene.state()?.as_str(), before.as_str());
     Ok(())
 }

@@ -43,22 +43,22 @@ pub fn spent<R: Abort + AllocGlobal>(
 /// The third record would have joined them by its size.
 #[test]
 fn a_batch_has_no_more_records_than_there_are_numbers(rt: HostRuntime) -> Result<(), Fail> {
-    let config = Config {
-        sequence_limit: 2,
-        ..Config::default()
-    };
-    let steps = [
+    const STEPS: &[Step<'static>] = &[
         Feed("abc"),
         Send(0, "2 0:1000/0+a+b"),
         Hear(0, 2, &[(0, 0, 0)], 2),
         Send(0, "3 init"),
     ];
-    plays(&rt, config, 1, 1, &steps)
+    let config = Config {
+        sequence_limit: 2,
+        ..Config::default()
+    };
+    plays(&rt, config, 1, 1, STEPS)
 }
 
 #[test]
 fn under_the_fresh_id_the_sequence_begins_at_0(rt: HostRuntime) -> Result<(), Fail> {
-    let steps = [
+    const STEPS: &[Step<'static>] = &[
         Append(0, 0, 3, 0, "d"),
         Send(0, "4 init"),
         HearId(0, 4, (0, 1001, 0)),
@@ -70,30 +70,26 @@ fn under_the_fresh_id_the_sequence_begins_at_0(rt: HostRuntime) -> Result<(), Fa
         Told(0, "0/2 delivered 2"),
         Audit(0, &[(0, 0, 4)]),
     ];
-    spent(&rt, two(), 1, &steps)
+    spent(&rt, two(), 1, STEPS)
 }
 
 /// A batch that goes out again keeps the id under which it was handed over.
 #[test]
 fn a_batch_under_the_fresh_id_is_sent_again_under_it(rt: HostRuntime) -> Result<(), Fail> {
-    let steps = [
+    const STEPS: &[Step<'static>] = &[
         Send(0, "4 init"),
         HearId(0, 4, (0, 77, 0)),
         Send(0, "5 0:77/0+c"),
         Lose(0),
         Send(100, "6 0:77/0+c"),
     ];
-    spent(&rt, two(), 1, &steps)
+    spent(&rt, two(), 1, STEPS)
 }
 
 /// The batch that wanted it has expired when it comes; the next batch wants another.
 #[test]
 fn an_id_that_comes_too_late_is_never_used(rt: HostRuntime) -> Result<(), Fail> {
-    let config = Config {
-        request_timeout_ms: 120_000,
-        ..two()
-    };
-    let steps = [
+    const STEPS: &[Step<'static>] = &[
         Send(1, "4 init"),
         Tick(120_000, 1, false),
         Told(0, "0/2 expired"),
@@ -102,13 +98,17 @@ fn an_id_that_comes_too_late_is_never_used(rt: HostRuntime) -> Result<(), Fail> 
         Append(0, 0, 3, 120_000, "d"),
         Send(120_000, "5 init"),
     ];
-    spent(&rt, config, 1, &steps)
+    let config = Config {
+        request_timeout_ms: 120_000,
+        ..two()
+    };
+    spent(&rt, config, 1, STEPS)
 }
 
 /// Below 0, or of an epoch that is not 0. The right reply still counts afterwards.
 #[test]
 fn a_reply_that_gives_no_id_is_none_to_the_request(rt: HostRuntime) -> Result<(), Fail> {
-    let steps = [
+    const STEPS: &[Step<'static>] = &[
         Send(0, "4 init"),
         MismatchId(0, 4, (0, -1, 0)),
         MismatchId(0, 4, (0, -9_223_372_036_854_775_808, 0)),
@@ -120,5 +120,5 @@ fn a_reply_that_gives_no_id_is_none_to_the_request(rt: HostRuntime) -> Result<()
         Ids(0, &[1000, 0]),
         Send(0, "5 0:0/0+c"),
     ];
-    spent(&rt, two(), 1, &steps)
+    spent(&rt, two(), 1, STEPS)
 }

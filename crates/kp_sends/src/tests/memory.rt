@@ -3,7 +3,7 @@
 use crate::tests::samples::item;
 use crate::tests::scene::Scene;
 use crate::tests::steps::Step::{
-    Append, Audit, Counts, Due, Feed, Full, Hear, Send, Tick, Told, Used,
+    self, Append, Audit, Counts, Due, Feed, Full, Hear, Send, Tick, Told, Used,
 };
 use crate::tests::steps::{play, plays};
 use kp_accum::Config;
@@ -22,7 +22,7 @@ fn little() -> Config {
 /// taken.
 #[test]
 fn a_third_record_waits_for_memory(rt: HostRuntime) -> Result<(), Fail> {
-    let steps = [
+    const STEPS: &[Step<'static>] = &[
         Feed("ab"),
         Send(0, "idle"),
         Used(138),
@@ -37,12 +37,12 @@ fn a_third_record_waits_for_memory(rt: HostRuntime) -> Result<(), Fail> {
         Send(0, "idle"),
         Audit(0, &[(0, 0, 2)]),
     ];
-    plays(&rt, little(), 1, 1, &steps)
+    plays(&rt, little(), 1, 1, STEPS)
 }
 
 #[test]
 fn a_refused_record_is_not_counted(rt: HostRuntime) -> Result<(), Fail> {
-    let steps = [
+    const STEPS: &[Step<'static>] = &[
         Feed("ab"),
         Full(0, 0, 2, 0, "c"),
         Counts([0, 0, 0, 0, 2, 138]),
@@ -52,13 +52,13 @@ fn a_refused_record_is_not_counted(rt: HostRuntime) -> Result<(), Fail> {
         Due(Some(1000)),
         Told(0, ""),
     ];
-    plays(&rt, little(), 1, 1, &steps)
+    plays(&rt, little(), 1, 1, STEPS)
 }
 
 /// Where nothing but the refusal presses.
 #[test]
 fn expired_records_give_their_memory_back(rt: HostRuntime) -> Result<(), Fail> {
-    let steps = [
+    const STEPS: &[Step<'static>] = &[
         Feed("ab"),
         Full(0, 0, 2, 0, "c"),
         Tick(120_000, 2, false),
@@ -67,13 +67,13 @@ fn expired_records_give_their_memory_back(rt: HostRuntime) -> Result<(), Fail> {
         Send(120_000, "idle"),
         Send(121_000, "2 0:1000/0+c"),
     ];
-    plays(&rt, little(), 1, 1, &steps)
+    plays(&rt, little(), 1, 1, STEPS)
 }
 
 /// The batch is tried again, so its memory is taken still, and all else stays ready.
 #[test]
 fn a_reply_that_tells_nobody_gives_no_memory_back(rt: HostRuntime) -> Result<(), Fail> {
-    let steps = [
+    const STEPS: &[Step<'static>] = &[
         Append(0, 0, 0, 0, "a"),
         Send(1000, "2 0:1000/0+a"),
         Append(0, 1, 0, 1000, "b"),
@@ -82,14 +82,14 @@ fn a_reply_that_tells_nobody_gives_no_memory_back(rt: HostRuntime) -> Result<(),
         Used(138),
         Send(1000, "3 1:1000/0+b"),
     ];
-    plays(&rt, little(), 2, 1, &steps)
+    plays(&rt, little(), 2, 1, STEPS)
 }
 
 /// The second partition's batch is still ready for want of memory, though it lingers, after an item was told at the
 /// first.
 #[test]
 fn what_is_told_at_a_fence_gives_no_memory_back(rt: HostRuntime) -> Result<(), Fail> {
-    let steps = [
+    const STEPS: &[Step<'static>] = &[
         Append(0, 0, 0, 0, "a"),
         Send(1000, "2 0:1000/0+a"),
         Hear(1000, 2, &[(0, 10, -1)], 1),
@@ -101,13 +101,13 @@ fn what_is_told_at_a_fence_gives_no_memory_back(rt: HostRuntime) -> Result<(), F
         Used(138),
         Send(1000, "3 1:1000/0+b+c"),
     ];
-    plays(&rt, little(), 2, 2, &steps)
+    plays(&rt, little(), 2, 2, STEPS)
 }
 
 /// At a fence and after the end no memory is taken, so none can be wanting.
 #[test]
 fn what_is_told_at_once_is_never_refused_for_full_memory(rt: HostRuntime) -> Result<(), Fail> {
-    let steps = [
+    const STEPS: &[Step<'static>] = &[
         Append(0, 0, 0, 0, "a"),
         Send(1000, "2 0:1000/0+a"),
         Hear(1000, 2, &[(0, 10, -1)], 1),
@@ -116,7 +116,7 @@ fn what_is_told_at_once_is_never_refused_for_full_memory(rt: HostRuntime) -> Res
         Append(0, 0, 1, 1000, "d"),
         Told(0, "0/0 rejected 10, 0/1 fenced"),
     ];
-    plays(&rt, little(), 2, 1, &steps)
+    plays(&rt, little(), 2, 1, STEPS)
 }
 
 /// With a value of 33 bytes a record has a charge of 101, with one of 32 bytes of 100.

@@ -75,66 +75,66 @@ fn while_both<R: Abort + AllocGlobal>(rt: &R, steps: &[Step<'_>]) -> Result<(), 
 
 #[test]
 fn a_reply_has_one_topic(rt: HostRuntime) -> Result<(), Fail> {
-    let steps = [
+    const STEPS: &[Step<'static>] = &[
         MismatchTopics(0, 2, &[]),
         MismatchTopics(0, 2, &[("t", &[(0, 0, 0)]), ("t", &[])]),
         MismatchTopics(0, 2, &[("t", &[]), ("t", &[(0, 0, 0)])]),
         MismatchTopics(0, 2, &[("t", &[(0, 0, 0)]), ("u", &[])]),
         MismatchTopics(0, 2, &[("t", &[(0, 0, 0)]), ("t", &[(0, 0, 0)])]),
     ];
-    while_one(&rt, &steps)
+    while_one(&rt, STEPS)
 }
 
 #[test]
 fn a_reply_has_the_topic_of_the_request(rt: HostRuntime) -> Result<(), Fail> {
-    let steps = [
+    const STEPS: &[Step<'static>] = &[
         MismatchTopics(0, 2, &[("u", &[(0, 0, 0)])]),
         MismatchTopics(0, 2, &[("T", &[(0, 0, 0)])]),
         MismatchTopics(0, 2, &[("tt", &[(0, 0, 0)])]),
         MismatchTopics(0, 2, &[("", &[(0, 0, 0)])]),
     ];
-    while_one(&rt, &steps)
+    while_one(&rt, STEPS)
 }
 
 /// One that is there, though not in the request; one that is not; one below 0.
 #[test]
 fn a_reply_has_the_partition_of_the_request(rt: HostRuntime) -> Result<(), Fail> {
-    let steps = [
+    const STEPS: &[Step<'static>] = &[
         Mismatch(0, 2, &[(1, 0, 0)]),
         Mismatch(0, 2, &[(2, 0, 0)]),
         Mismatch(0, 2, &[(-1, 0, 0)]),
         Mismatch(0, 2, &[(i32::MIN, 0, 0)]),
         Mismatch(0, 2, &[(i32::MAX, 0, 0)]),
     ];
-    while_one(&rt, &steps)
+    while_one(&rt, STEPS)
 }
 
 #[test]
 fn a_reply_has_no_partition_beside_those_of_the_request(rt: HostRuntime) -> Result<(), Fail> {
-    let steps = [
+    const STEPS: &[Step<'static>] = &[
         Mismatch(0, 2, &[(0, 0, 0), (1, 0, 0)]),
         Mismatch(0, 2, &[(1, 0, 0), (0, 0, 0)]),
         Mismatch(0, 2, &[(0, 0, 0), (2, 0, 0)]),
         Mismatch(0, 2, &[(0, 0, 0), (-1, 0, 0)]),
     ];
-    while_one(&rt, &steps)
+    while_one(&rt, STEPS)
 }
 
 /// With one answer or with two.
 #[test]
 fn a_reply_has_a_partition_once(rt: HostRuntime) -> Result<(), Fail> {
-    let steps = [
+    const STEPS: &[Step<'static>] = &[
         Mismatch(0, 2, &[(0, 0, 0), (0, 0, 0)]),
         Mismatch(0, 2, &[(0, 0, 0), (0, 7, -1)]),
         Mismatch(0, 2, &[(0, 7, -1), (0, 0, 0)]),
         Mismatch(0, 2, &[(0, 0, 0), (0, 0, 0), (0, 0, 0)]),
     ];
-    while_one(&rt, &steps)
+    while_one(&rt, STEPS)
 }
 
 #[test]
 fn a_reply_misses_no_partition_of_the_request(rt: HostRuntime) -> Result<(), Fail> {
-    let steps = [
+    const STEPS: &[Step<'static>] = &[
         Mismatch(0, 2, &[]),
         Mismatch(0, 2, &[(0, 0, 0)]),
         Mismatch(0, 2, &[(1, 0, 0)]),
@@ -142,23 +142,23 @@ fn a_reply_misses_no_partition_of_the_request(rt: HostRuntime) -> Result<(), Fai
         Mismatch(0, 2, &[(1, 0, 0), (1, 0, 0)]),
         Mismatch(0, 2, &[(0, 0, 0), (2, 0, 0)]),
     ];
-    while_both(&rt, &steps)
+    while_both(&rt, STEPS)
 }
 
 #[test]
 fn a_reply_has_each_partition_of_the_request_once(rt: HostRuntime) -> Result<(), Fail> {
-    let steps = [
+    const STEPS: &[Step<'static>] = &[
         Mismatch(0, 2, &[(0, 0, 0), (1, 0, 0), (1, 0, 0)]),
         Mismatch(0, 2, &[(0, 0, 0), (1, 0, 0), (0, 0, 0)]),
         Mismatch(0, 2, &[(0, 0, 0), (1, 0, 0), (2, 0, 0)]),
     ];
-    while_both(&rt, &steps)
+    while_both(&rt, STEPS)
 }
 
 /// What is right of it is not settled either: a rejection, a retry, an offset.
 #[test]
 fn nothing_is_settled_by_a_reply_of_which_one_answer_is_wrong(rt: HostRuntime) -> Result<(), Fail> {
-    let steps = [
+    const STEPS: &[Step<'static>] = &[
         Mismatch(0, 2, &[(0, 10, -1), (1, 0, -1)]),
         Mismatch(0, 2, &[(0, 7, -1), (1, 0, -1)]),
         Mismatch(0, 2, &[(0, 0, 0), (1, 0, -1)]),
@@ -166,23 +166,23 @@ fn nothing_is_settled_by_a_reply_of_which_one_answer_is_wrong(rt: HostRuntime) -
         Mismatch(0, 2, &[(1, 10, -1), (0, 0, -1)]),
         Told(0, ""),
     ];
-    while_both(&rt, &steps)
+    while_both(&rt, STEPS)
 }
 
 #[test]
 fn what_is_stored_has_an_offset(rt: HostRuntime) -> Result<(), Fail> {
-    let steps = [
+    const STEPS: &[Step<'static>] = &[
         Mismatch(0, 2, &[(0, 0, -1)]),
         Mismatch(0, 2, &[(0, 0, -2)]),
         Mismatch(0, 2, &[(0, 0, i64::MIN)]),
     ];
-    while_one(&rt, &steps)
+    while_one(&rt, STEPS)
 }
 
 /// The one behind the batch's last record is an int64 too.
 #[test]
 fn a_record_has_an_offset_up_to_the_last_but_one(rt: HostRuntime) -> Result<(), Fail> {
-    let steps = [
+    const STEPS: &[Step<'static>] = &[
         Feed("ab"),
         Send(0, "2 0:1000/0+a+b"),
         Mismatch(0, 2, &[(0, 0, 9_223_372_036_854_775_807)]),
@@ -193,12 +193,12 @@ fn a_record_has_an_offset_up_to_the_last_but_one(rt: HostRuntime) -> Result<(), 
             "0/0 delivered 9223372036854775805, 0/1 delivered 9223372036854775806",
         ),
     ];
-    plays(&rt, Config::default(), 1, 1, &steps)
+    plays(&rt, Config::default(), 1, 1, STEPS)
 }
 
 #[test]
 fn where_nothing_is_stored_any_offset_will_do(rt: HostRuntime) -> Result<(), Fail> {
-    let steps = [
+    const STEPS: &[Step<'static>] = &[
         Feed("a"),
         Send(0, "2 0:1000/0+a"),
         Hear(0, 2, &[(0, 7, i64::MAX)], 0),
@@ -206,17 +206,13 @@ fn where_nothing_is_stored_any_offset_will_do(rt: HostRuntime) -> Result<(), Fai
         Hear(100, 3, &[(0, 46, i64::MIN)], 1),
         Told(0, "0/0 delivered"),
     ];
-    plays(&rt, Config::default(), 1, 1, &steps)
+    plays(&rt, Config::default(), 1, 1, STEPS)
 }
 
 /// The first partition is fenced while both wait for one reply, which has to name it, at whatever offset.
 #[test]
 fn a_reply_has_the_partitions_that_were_fenced_since(rt: HostRuntime) -> Result<(), Fail> {
-    let config = Config {
-        request_timeout_ms: 120_000,
-        ..Config::default()
-    };
-    let steps = [
+    const STEPS: &[Step<'static>] = &[
         Append(0, 0, 0, 0, "a"),
         Append(0, 1, 0, 100, "b"),
         Send(100, "2 0:1000/0+a 1:1000/0+b"),
@@ -229,19 +225,23 @@ fn a_reply_has_the_partitions_that_were_fenced_since(rt: HostRuntime) -> Result<
         Hear(120_000, 2, &[(0, 0, -1), (1, 0, 0)], 1),
         Told(0, "1/0 delivered 0"),
     ];
-    plays(&rt, config, 2, 1, &steps)
+    let config = Config {
+        request_timeout_ms: 120_000,
+        ..Config::default()
+    };
+    plays(&rt, config, 2, 1, STEPS)
 }
 
 /// Wherever it is cut; the whole is heard.
 #[test]
 fn a_reply_to_batches_that_is_cut_short_is_refused(rt: HostRuntime) -> Result<(), Fail> {
+    const STEPS: &[Step<'static>] = &[HearContent(0, STORED, 1), Told(0, "0/0 delivered 0")];
     let mut scene = Scene::open(rt.alloc(), Config::default(), 1, 1)?;
     play(&rt, &mut scene, ONE)?;
     for size in 0..STORED.len() {
         play(&rt, &mut scene, &[Refused(0, &STORED[..size], Short)])?;
     }
-    let steps = [HearContent(0, STORED, 1), Told(0, "0/0 delivered 0")];
-    play(&rt, &mut scene, &steps)
+    play(&rt, &mut scene, STEPS)
 }
 
 #[test]
@@ -281,13 +281,13 @@ fn a_reply_with_a_byte_behind_it_is_refused(rt: HostRuntime) -> Result<(), Fail>
 /// A count and a length below 0, a byte that is no text, and more topics than there are bytes.
 #[test]
 fn a_reply_with_a_faulty_field_is_refused(rt: HostRuntime) -> Result<(), Fail> {
-    let steps = [
+    const STEPS: &[Step<'static>] = &[
         Refused(0, &[0, 0, 0, 2, 255, 255, 255, 255], Wire(BadLength)),
         Refused(0, &[0, 0, 0, 2, 0, 0, 0, 1, 255, 255], Wire(BadLength)),
         Refused(0, &[0, 0, 0, 2, 0, 0, 0, 1, 0, 1, 255], Wire(NotUtf8)),
         Refused(0, &[0, 0, 0, 2, 127, 255, 255, 255], Short),
     ];
-    while_one(&rt, &steps)
+    while_one(&rt, STEPS)
 }
 
 /// What it says of the id is read as no topic, and how long the reply was held back, with 8 bytes behind.
@@ -314,7 +314,7 @@ fn a_reply_to_batches_gives_no_id(rt: HostRuntime) -> Result<(), Fail> {
 /// Whether anything is in flight or not.
 #[test]
 fn a_reply_without_a_correlation_id_is_refused(rt: HostRuntime) -> Result<(), Fail> {
-    let steps = [
+    const STEPS: &[Step<'static>] = &[
         Refused(0, &[], Short),
         Refused(0, &[0, 0, 2], Short),
         Feed("a"),
@@ -323,13 +323,13 @@ fn a_reply_without_a_correlation_id_is_refused(rt: HostRuntime) -> Result<(), Fa
         Refused(0, &[0, 0, 2], Short),
         Hear(0, 2, &[(0, 0, 0)], 1),
     ];
-    plays(&rt, Config::default(), 1, 1, &steps)
+    plays(&rt, Config::default(), 1, 1, STEPS)
 }
 
 /// Whatever stands behind its correlation id: the next one, the one before the first, 258, -1, and 2 less 2 to the 31.
 #[test]
 fn a_reply_that_names_no_request_is_not_read(rt: HostRuntime) -> Result<(), Fail> {
-    let steps = [
+    const STEPS: &[Step<'static>] = &[
         Unknown(0, &[0, 0, 0, 3]),
         Unknown(0, &[0, 0, 0, 1, 255]),
         Unknown(0, &[0, 0, 1, 2, 255, 255, 255, 255]),
@@ -337,12 +337,12 @@ fn a_reply_that_names_no_request_is_not_read(rt: HostRuntime) -> Result<(), Fail
         Unknown(0, &[128, 0, 0, 2]),
         Told(0, ""),
     ];
-    while_one(&rt, &steps)
+    while_one(&rt, STEPS)
 }
 
 #[test]
 fn a_request_is_answered_once(rt: HostRuntime) -> Result<(), Fail> {
-    let steps = [
+    const STEPS: &[Step<'static>] = &[
         Feed("a"),
         Send(0, "2 0:1000/0+a"),
         Hear(0, 2, &[(0, 0, 0)], 1),
@@ -352,12 +352,12 @@ fn a_request_is_answered_once(rt: HostRuntime) -> Result<(), Fail> {
         Unknown(0, &[0, 0, 0, 2]),
         Told(0, "0/0 delivered 0"),
     ];
-    plays(&rt, Config::default(), 1, 1, &steps)
+    plays(&rt, Config::default(), 1, 1, STEPS)
 }
 
 #[test]
 fn after_the_end_no_reply_is_read(rt: HostRuntime) -> Result<(), Fail> {
-    let steps = [
+    const STEPS: &[Step<'static>] = &[
         Feed("a"),
         Send(0, "2 0:1000/0+a"),
         End(1),
@@ -366,13 +366,13 @@ fn after_the_end_no_reply_is_read(rt: HostRuntime) -> Result<(), Fail> {
         RefusedEnded(0, &[0, 0, 0, 3]),
         RefusedEnded(0, STORED),
     ];
-    plays(&rt, Config::default(), 1, 1, &steps)
+    plays(&rt, Config::default(), 1, 1, STEPS)
 }
 
 /// It is asked for again.
 #[test]
 fn an_id_beside_an_error_code_is_not_taken(rt: HostRuntime) -> Result<(), Fail> {
-    let steps = [
+    const STEPS: &[Step<'static>] = &[
         Send(0, "4 init"),
         HearId(0, 4, (14, 1001, 0)),
         Ids(0, &[1000]),
@@ -383,28 +383,28 @@ fn an_id_beside_an_error_code_is_not_taken(rt: HostRuntime) -> Result<(), Fail> 
         Ids(0, &[1000]),
         Send(200, "6 init"),
     ];
-    spent(&rt, two(), 1, &steps)
+    spent(&rt, two(), 1, STEPS)
 }
 
 /// No broker gives one twice; the producer takes what it is given.
 #[test]
 fn an_id_that_the_partition_had_is_taken_again(rt: HostRuntime) -> Result<(), Fail> {
-    let steps = [
+    const STEPS: &[Step<'static>] = &[
         Send(0, "4 init"),
         HearId(0, 4, (0, 1000, 0)),
         Ids(0, &[1000, 1000]),
         Send(0, "5 0:1000/0+c"),
     ];
-    spent(&rt, two(), 1, &steps)
+    spent(&rt, two(), 1, STEPS)
 }
 
 #[test]
 fn the_largest_id_is_taken(rt: HostRuntime) -> Result<(), Fail> {
-    let steps = [
+    const STEPS: &[Step<'static>] = &[
         Send(0, "4 init"),
         HearId(0, 4, (0, i64::MAX, 0)),
         Ids(0, &[1000, 9_223_372_036_854_775_807]),
         Send(0, "5 0:9223372036854775807/0+c"),
     ];
-    spent(&rt, two(), 1, &steps)
+    spent(&rt, two(), 1, STEPS)
 }

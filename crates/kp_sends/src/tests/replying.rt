@@ -1,7 +1,7 @@
 //! What a reply does to the batches of its request.
 
 use crate::tests::samples::singles;
-use crate::tests::steps::Step::{Append, Audit, Feed, Hear, Lose, Send, Stale, Told, Used};
+use crate::tests::steps::Step::{self, Append, Audit, Feed, Hear, Lose, Send, Stale, Told, Used};
 use crate::tests::steps::plays;
 use kp_accum::Config;
 use std::test::Fail;
@@ -9,7 +9,7 @@ use std::test::Fail;
 /// The broker may have stored it, and said that the time ran out. It goes out again, and is answered with its offset.
 #[test]
 fn a_batch_that_is_to_be_tried_again_goes_out_the_same(rt: HostRuntime) -> Result<(), Fail> {
-    let steps = [
+    const STEPS: &[Step<'static>] = &[
         Feed("a"),
         Send(0, "2 0:1000/0+a"),
         Hear(0, 2, &[(0, 7, -1)], 0),
@@ -19,13 +19,13 @@ fn a_batch_that_is_to_be_tried_again_goes_out_the_same(rt: HostRuntime) -> Resul
         Told(0, "0/0 delivered 0"),
         Audit(0, &[(0, 0, 1)]),
     ];
-    plays(&rt, Config::default(), 1, 1, &steps)
+    plays(&rt, Config::default(), 1, 1, STEPS)
 }
 
 /// The connection is lost before the reply comes; another one to the batch's next attempt counts.
 #[test]
 fn a_stale_reply_settles_nothing(rt: HostRuntime) -> Result<(), Fail> {
-    let steps = [
+    const STEPS: &[Step<'static>] = &[
         Feed("a"),
         Send(0, "2 0:1000/0+a"),
         Lose(0),
@@ -36,13 +36,13 @@ fn a_stale_reply_settles_nothing(rt: HostRuntime) -> Result<(), Fail> {
         Hear(100, 3, &[(0, 0, 6)], 1),
         Told(0, "0/0 delivered 6"),
     ];
-    plays(&rt, Config::default(), 1, 1, &steps)
+    plays(&rt, Config::default(), 1, 1, STEPS)
 }
 
 /// After eleven batches a repeat of the first is older than those that a broker knows.
 #[test]
 fn an_answer_to_an_old_repeat_settles_nothing(rt: HostRuntime) -> Result<(), Fail> {
-    let steps = [
+    const STEPS: &[Step<'static>] = &[
         Feed("abcdefghijk"),
         Send(0, "2 0:1000/0+a"),
         Hear(0, 2, &[(0, 0, 0)], 1),
@@ -80,14 +80,14 @@ fn an_answer_to_an_old_repeat_settles_nothing(rt: HostRuntime) -> Result<(), Fai
         Stale(0, 2, &[(0, 46, -1)]),
         Send(0, "idle"),
     ];
-    plays(&rt, singles(), 1, 1, &steps)
+    plays(&rt, singles(), 1, 1, STEPS)
 }
 
 /// Another producer has two records appended between the first batch and the second, which has a record of each
 /// sender.
 #[test]
 fn each_sender_is_told_the_offsets_of_its_own_records(rt: HostRuntime) -> Result<(), Fail> {
-    let steps = [
+    const STEPS: &[Step<'static>] = &[
         Append(0, 0, 0, 0, "a"),
         Send(0, "2 0:1000/0+a"),
         Hear(0, 2, &[(0, 0, 0)], 1),
@@ -100,49 +100,49 @@ fn each_sender_is_told_the_offsets_of_its_own_records(rt: HostRuntime) -> Result
         Told(1, "0/0 delivered 3"),
         Audit(0, &[(0, 0, 1), (1, 0, 1), (0, 1, 1)]),
     ];
-    plays(&rt, Config::default(), 1, 2, &steps)
+    plays(&rt, Config::default(), 1, 2, STEPS)
 }
 
 #[test]
 fn a_duplicate_is_delivered_at_no_known_offset(rt: HostRuntime) -> Result<(), Fail> {
-    let steps = [
+    const STEPS: &[Step<'static>] = &[
         Feed("ab"),
         Send(0, "2 0:1000/0+a+b"),
         Hear(0, 2, &[(0, 46, -1)], 2),
         Told(0, "0/0 delivered, 0/1 delivered"),
         Used(0),
     ];
-    plays(&rt, Config::default(), 1, 1, &steps)
+    plays(&rt, Config::default(), 1, 1, STEPS)
 }
 
 /// The first batch is acknowledged by it, and others may follow.
 #[test]
 fn a_duplicate_acknowledges(rt: HostRuntime) -> Result<(), Fail> {
-    let steps = [
+    const STEPS: &[Step<'static>] = &[
         Feed("abc"),
         Send(0, "2 0:1000/0+a"),
         Hear(0, 2, &[(0, 46, -1)], 1),
         Send(0, "3 0:1000/1+b"),
         Send(0, "4 0:1000/2+c"),
     ];
-    plays(&rt, singles(), 1, 1, &steps)
+    plays(&rt, singles(), 1, 1, STEPS)
 }
 
 #[test]
 fn answers_come_in_any_order_of_partitions(rt: HostRuntime) -> Result<(), Fail> {
-    let steps = [
+    const STEPS: &[Step<'static>] = &[
         Append(0, 0, 0, 0, "a"),
         Append(0, 1, 0, 0, "b"),
         Send(0, "2 0:1000/0+a 1:1000/0+b"),
         Hear(0, 2, &[(1, 0, 8), (0, 0, 5)], 2),
         Told(0, "0/0 delivered 5, 1/0 delivered 8"),
     ];
-    plays(&rt, Config::default(), 2, 1, &steps)
+    plays(&rt, Config::default(), 2, 1, STEPS)
 }
 
 #[test]
 fn each_partition_is_settled_by_its_own_code(rt: HostRuntime) -> Result<(), Fail> {
-    let steps = [
+    const STEPS: &[Step<'static>] = &[
         Append(0, 0, 0, 0, "a"),
         Append(0, 1, 0, 0, "b"),
         Append(0, 2, 0, 0, "c"),
@@ -151,7 +151,7 @@ fn each_partition_is_settled_by_its_own_code(rt: HostRuntime) -> Result<(), Fail
         Told(0, "0/0 rejected 10, 2/0 delivered 4"),
         Send(100, "3 1:1000/0+b"),
     ];
-    plays(&rt, Config::default(), 3, 1, &steps)
+    plays(&rt, Config::default(), 3, 1, STEPS)
 }
 
 /// Corrupt message, unknown partition, no leader, not the leader, timed out, too few replicas (before or after the

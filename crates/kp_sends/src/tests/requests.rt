@@ -21,7 +21,7 @@ fn has(bytes: &Option<Blob>, text: &[u8]) -> bool {
 
 #[test]
 fn a_request_has_a_batch_of_each_partition(rt: HostRuntime) -> Result<(), Fail> {
-    let steps = [
+    const STEPS: &[Step<'static>] = &[
         Append(0, 0, 0, 0, "a"),
         Append(0, 1, 0, 0, "b"),
         Send(0, "2 0:1000/0+a 1:1000/0+b"),
@@ -30,18 +30,13 @@ fn a_request_has_a_batch_of_each_partition(rt: HostRuntime) -> Result<(), Fail> 
         Audit(0, &[(0, 0, 1)]),
         Audit(1, &[(0, 0, 1)]),
     ];
-    plays(&rt, Config::default(), 2, 1, &steps)
+    plays(&rt, Config::default(), 2, 1, STEPS)
 }
 
 /// The second batch has 108 bytes, and 69 more are above 150; the third, which would have fitted, waits behind it.
 #[test]
 fn a_batch_that_does_not_fit_holds_those_behind_it(rt: HostRuntime) -> Result<(), Fail> {
-    let config = Config {
-        max_request_size: 150,
-        batch_size: 0,
-        ..Config::default()
-    };
-    let steps = [
+    const STEPS: &[Step<'static>] = &[
         Append(0, 0, 0, 0, "a"),
         Append(0, 1, 0, 0, "bbbbbbbbbbbbbbbbbbbbbbbbbbbbbbbbbbbbbbbb"),
         Append(0, 2, 0, 0, "c"),
@@ -49,7 +44,12 @@ fn a_batch_that_does_not_fit_holds_those_behind_it(rt: HostRuntime) -> Result<()
         Send(0, "3 1:1000/0+bbbbbbbbbbbbbbbbbbbbbbbbbbbbbbbbbbbbbbbb"),
         Send(0, "4 2:1000/0+c"),
     ];
-    plays(&rt, config, 3, 1, &steps)
+    let config = Config {
+        max_request_size: 150,
+        batch_size: 0,
+        ..Config::default()
+    };
+    plays(&rt, config, 3, 1, STEPS)
 }
 
 /// With batches of one record, and requests of so many bytes.
@@ -80,7 +80,7 @@ fn of_five<R: Abort + AllocGlobal>(rt: &R, config: Config, steps: &[Step<'_>]) -
 /// first.
 #[test]
 fn a_request_has_as_many_batches_as_fit(rt: HostRuntime) -> Result<(), Fail> {
-    let steps = [
+    const STEPS: &[Step<'static>] = &[
         Send(0, "2 0:1000/0+a 1:1000/0+b"),
         Send(0, "3 2:1000/0+c 3:1000/0+d"),
         Hear(0, 2, &[(0, 0, 0), (1, 0, 0)], 2),
@@ -90,30 +90,30 @@ fn a_request_has_as_many_batches_as_fit(rt: HostRuntime) -> Result<(), Fail> {
         Send(0, "5 1:1000/1+g"),
         Send(0, "idle"),
     ];
-    of_five(&rt, narrow(138), &steps)
+    of_five(&rt, narrow(138), STEPS)
 }
 
 #[test]
 fn a_request_has_not_a_byte_more_than_it_may(rt: HostRuntime) -> Result<(), Fail> {
-    let steps = [Send(0, "2 0:1000/0+a"), Send(0, "3 1:1000/0+b")];
-    of_five(&rt, narrow(137), &steps)?;
-    let steps = [
+    const OF_ONE: &[Step<'static>] = &[Send(0, "2 0:1000/0+a"), Send(0, "3 1:1000/0+b")];
+    const OF_TWO: &[Step<'static>] = &[
         Send(0, "2 0:1000/0+a 1:1000/0+b"),
         Send(0, "3 2:1000/0+c 3:1000/0+d"),
         Send(0, "4 4:1000/0+e"),
     ];
-    of_five(&rt, narrow(206), &steps)?;
-    let steps = [
+    const OF_THREE: &[Step<'static>] = &[
         Send(0, "2 0:1000/0+a 1:1000/0+b 2:1000/0+c"),
         Send(0, "3 3:1000/0+d 4:1000/0+e"),
     ];
-    of_five(&rt, narrow(207), &steps)
+    of_five(&rt, narrow(137), OF_ONE)?;
+    of_five(&rt, narrow(206), OF_TWO)?;
+    of_five(&rt, narrow(207), OF_THREE)
 }
 
 /// Behind the middle one comes the last, and then the first; behind the last one the first.
 #[test]
 fn the_partitions_behind_the_last_one_used_come_first(rt: HostRuntime) -> Result<(), Fail> {
-    let steps = [
+    const STEPS: &[Step<'static>] = &[
         Append(0, 1, 0, 0, "a"),
         Send(0, "2 1:1000/0+a"),
         Hear(0, 2, &[(1, 0, 0)], 1),
@@ -132,7 +132,7 @@ fn the_partitions_behind_the_last_one_used_come_first(rt: HostRuntime) -> Result
         Append(0, 2, 3, 0, "j"),
         Send(0, "6 0:1000/2+h 1:1000/2+i 2:1000/3+j"),
     ];
-    plays(&rt, singles(), 3, 1, &steps)
+    plays(&rt, singles(), 3, 1, STEPS)
 }
 
 /// One batch fits a request.
@@ -145,7 +145,7 @@ fn at_most(requests: u64) -> Config {
 
 #[test]
 fn no_more_requests_are_in_flight_than_the_configuration_says(rt: HostRuntime) -> Result<(), Fail> {
-    let one = [
+    const UP_TO_ONE: &[Step<'static>] = &[
         Send(0, "2 0:1000/0+a"),
         Send(0, "idle"),
         Counts([1, 1, 1, 1, 5, 345]),
@@ -153,8 +153,7 @@ fn no_more_requests_are_in_flight_than_the_configuration_says(rt: HostRuntime) -
         Send(0, "3 1:1000/0+b"),
         Send(0, "idle"),
     ];
-    of_five(&rt, at_most(1), &one)?;
-    let two = [
+    const UP_TO_TWO: &[Step<'static>] = &[
         Send(0, "2 0:1000/0+a"),
         Send(0, "3 1:1000/0+b"),
         Send(0, "idle"),
@@ -163,8 +162,7 @@ fn no_more_requests_are_in_flight_than_the_configuration_says(rt: HostRuntime) -
         Send(0, "4 2:1000/0+c"),
         Send(0, "idle"),
     ];
-    of_five(&rt, at_most(2), &two)?;
-    let five = [
+    const UP_TO_FIVE: &[Step<'static>] = &[
         Append(0, 5, 0, 0, "f"),
         Send(0, "2 0:1000/0+a"),
         Send(0, "3 1:1000/0+b"),
@@ -177,14 +175,15 @@ fn no_more_requests_are_in_flight_than_the_configuration_says(rt: HostRuntime) -
         Send(0, "7 5:1000/0+f"),
         Send(0, "idle"),
     ];
-    of_five(&rt, at_most(5), &five)
+    of_five(&rt, at_most(1), UP_TO_ONE)?;
+    of_five(&rt, at_most(2), UP_TO_TWO)?;
+    of_five(&rt, at_most(5), UP_TO_FIVE)
 }
 
 /// Where nothing may be sent nothing is wanting; where something may, each id was used.
 #[test]
 fn once_the_last_correlation_id_was_used_no_request_goes_out(rt: HostRuntime) -> Result<(), Fail> {
-    let mut scene = Scene::open_from(rt.alloc(), singles(), 1, 1, 2_147_483_646)?;
-    let steps = [
+    const STEPS: &[Step<'static>] = &[
         Feed("abc"),
         Send(0, "2147483646 0:1000/0+a"),
         Hear(0, 2_147_483_646, &[(0, 0, 0)], 1),
@@ -198,25 +197,26 @@ fn once_the_last_correlation_id_was_used_no_request_goes_out(rt: HostRuntime) ->
         Send(0, "Ended"),
         Told(0, "0/2 ended"),
     ];
-    play(&rt, &mut scene, &steps)
+    let mut scene = Scene::open_from(rt.alloc(), singles(), 1, 1, 2_147_483_646)?;
+    play(&rt, &mut scene, STEPS)
 }
 
 /// Neither one for batches nor one for an id.
 #[test]
 fn once_the_last_correlation_id_was_used_no_id_is_asked_for(rt: HostRuntime) -> Result<(), Fail> {
-    let config = Config {
-        sequence_limit: 1,
-        ..singles()
-    };
-    let mut scene = Scene::open_from(rt.alloc(), config, 1, 1, 2_147_483_647)?;
-    let steps = [
+    const STEPS: &[Step<'static>] = &[
         Feed("ab"),
         Send(0, "2147483647 0:1000/0+a"),
         Send(0, "idle"),
         Hear(0, 2_147_483_647, &[(0, 0, 0)], 1),
         Send(0, "CorrelationSpent"),
     ];
-    play(&rt, &mut scene, &steps)
+    let config = Config {
+        sequence_limit: 1,
+        ..singles()
+    };
+    let mut scene = Scene::open_from(rt.alloc(), config, 1, 1, 2_147_483_647)?;
+    play(&rt, &mut scene, STEPS)
 }
 
 /// The first item, with all that a record may have.

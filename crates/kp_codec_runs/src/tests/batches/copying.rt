@@ -2,14 +2,6 @@
 
 use super::*;
 
-fn bytes_of(blob: &Option<Blob>) -> Option<&[u8]> {
-    blob.as_ref().map(|blob| blob.as_slice())
-}
-
-fn text_of(header: &Header) -> &[u8] {
-    header.key.as_str().as_bytes()
-}
-
 fn header_of(alloc: Global, key: &str, value: Option<&[u8]>) -> Result<Header, Fail> {
     let value = match value {
         None => None,
@@ -21,56 +13,49 @@ fn header_of(alloc: Global, key: &str, value: Option<&[u8]>) -> Result<Header, F
     })
 }
 
+/// A record with each of its fields, and three headers.
+fn full_record(alloc: Global) -> Result<Record, Fail> {
+    let headers = vec![in alloc;
+        header_of(alloc, "h", None)?,
+        header_of(alloc, "\u{e9}t\u{e9}", Some(b"xyz"))?,
+        header_of(alloc, "", Some(b""))?,
+    ]?;
+    Ok(Record {
+        timestamp: Timestamp::from_millis(1234).ok_or("a moment before 1970")?,
+        key: Some(Blob::from_slice(alloc, b"key")?),
+        value: Some(Blob::from_slice(alloc, b"\x00\xff")?),
+        headers: Seq::new(headers),
+    })
+}
+
 #[test]
 fn a_copy_has_each_field_of_its_record(rt: HostRuntime) -> Result<(), Fail> {
-    let headers = vec![in rt.alloc();
-        header_of(rt.alloc(), "h", None)?,
-        header_of(rt.alloc(), "\u{e9}t\u{e9}", Some(b"xyz"))?,
-        header_of(rt.alloc(), "", Some(b""))?,
-    ]?;
-    let record = Record {
-        timestamp: Timestamp::from_millis(1234).ok_or("a moment before 1970")?,
-        key: Some(Blob::from_slice(rt.alloc(), b"key")?),
-        value: Some(Blob::from_slice(rt.alloc(), b"\x00\xff")?),
-        headers: Seq::new(headers),
-    };
+    const HEADERS: [(&[u8], Option<&[u8]>); 3] = [
+        (b"h", None),
+        (b"\xc3\xa9t\xc3\xa9", Some(b"xyz")),
+        (b"", Some(b"")),
+    ];
+    let record = full_record(rt.alloc())?;
     let copy = record.copy(rt.alloc())?;
     for it in [&record, &copy] {
-        assert_eq!(rt; it.timestamp.millis(), 1234);
-        assert_eq!(rt; bytes_of(&it.key), Some(b"key".as_slice()));
-        assert_eq!(rt; bytes_of(&it.value), Some(b"\x00\xff".as_slice()));
-        assert_eq!(rt; it.headers.len(), 3);
-        let mut keys = Vec::new(rt.alloc());
-        let mut values = Vec::new(rt.alloc());
-        for header in it.headers.as_slice() {
-            keys.push(text_of(header))?;
-            values.push(bytes_of(&header.value))?;
-        }
-        assert_eq!(rt;
-            keys.as_slice(),
-            [b"h".as_slice(), b"\xc3\xa9t\xc3\xa9", b""].as_slice()
-        );
-        assert_eq!(rt;
-            values.as_slice(),
-            [None, Some(b"xyz".as_slice()), Some(b"")].as_slice()
-        );
+        is_record(&rt, it, 1234, Some(b"key"), Some(b"\x00\xff"), &HEADERS);
     }
     Ok(())
 }
 
-#[test]
-fn a_copy_of_a_record_of_nulls_has_nulls(rt: HostRuntime) -> Result<(), Fail> {
-    let record = Record {
+fn record_of_nulls(alloc: Global) -> Result<Record, Fail> {
+    Ok(Record {
         timestamp: Timestamp::from_millis(0).ok_or("a moment before 1970")?,
         key: None,
         value: None,
-        headers: Seq::new(Vec::new(rt.alloc())),
-    };
-    let copy = record.copy(rt.alloc())?;
-    assert_eq!(rt; copy.timestamp.millis(), 0);
-    assert!(rt; copy.key.is_none());
-    assert!(rt; copy.value.is_none());
-    assert_eq!(rt; copy.headers.len(), 0);
+        headers: Seq::new(Vec::new(alloc)),
+    })
+}
+
+#[test]
+fn a_copy_of_a_record_of_nulls_has_nulls(rt: HostRuntime) -> Result<(), Fail> {
+    let copy = record_of_nulls(rt.alloc())?.copy(rt.alloc())?;
+    is_record(&rt, &copy, 0, None, None, &[]);
     Ok(())
 }
 
@@ -79,7 +64,7 @@ fn a_copy_outlives_its_record(rt: HostRuntime) -> Result<(), Fail> {
     let record = keyed_record(rt.alloc())?;
     let copy = record.copy(rt.alloc())?;
     drop(record);
-    assert_eq!(rt; charge(&copy), 72);
-    assert_eq!(rt; bytes_of(&copy.key), Some(b"k".as_slice()));
+    is(&rt, "its charge", charge(&copy), 72);
+    is(&rt, "its key", bytes_of(&copy.key), Some(b"k".as_slice()));
     Ok(())
 }

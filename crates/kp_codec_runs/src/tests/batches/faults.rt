@@ -6,15 +6,10 @@ use super::*;
 fn a_part_of_a_batch_is_short_and_a_byte_behind_it_too_long(rt: HostRuntime) -> Result<(), Fail> {
     for len in 0..69usize {
         let part = BATCH.get(..len).ok_or("a prefix")?;
-        assert_eq!(rt;
-            fault_of(rt.alloc(), part),
-            Some(BatchFault::Short),
-            "at {len}"
-        );
+        has_fault(&rt, "a part", len, part, Some(BatchFault::Short));
     }
-    let mut longer = Vec::from_slice(rt.alloc(), &BATCH)?;
-    longer.push(0)?;
-    assert_eq!(rt; fault_of(rt.alloc(), &longer), Some(BatchFault::Length));
+    let longer = joined(rt.alloc(), &[&BATCH, &[0]])?;
+    has_fault(&rt, "a byte more", 70, &longer, Some(BatchFault::Length));
     Ok(())
 }
 
@@ -23,25 +18,30 @@ fn fewer_than_61_bytes_are_short_whatever_they_are(rt: HostRuntime) {
     let bytes = [0xffu8; 61];
     for len in 0..61usize {
         let part = bytes.get(..len).unwrap_or(&[]);
-        assert_eq!(rt;
-            fault_of(rt.alloc(), part),
-            Some(BatchFault::Short),
-            "at {len}"
-        );
+        has_fault(&rt, "ones", len, part, Some(BatchFault::Short));
     }
-    assert_eq!(rt; fault_of(rt.alloc(), &bytes), Some(BatchFault::Length));
+    has_fault(&rt, "ones", 61, &bytes, Some(BatchFault::Length));
+}
+
+/// The batch of one record with these bytes changed, and its checksum mended, has this fault, or none.
+fn resealed_has<R: Abort + AllocGlobal>(
+    rt: &R,
+    shows: &str,
+    place: usize,
+    changes: &[(usize, u8)],
+    fault: Option<BatchFault>,
+) -> Result<(), Fail> {
+    let bytes = resealed(rt.alloc(), changes)?;
+    has_fault(rt, shows, place, &bytes, fault);
+    Ok(())
 }
 
 #[test]
 fn a_length_below_49_is_refused_as_one(rt: HostRuntime) -> Result<(), Fail> {
-    for length in [48i32, 0, -1, i32::MIN] {
+    for (k, length) in [48i32, 0, -1, i32::MIN].iter().enumerate() {
         let [a, b, c, d] = length.to_be_bytes();
-        let bytes = resealed(rt.alloc(), &[(8, a), (9, b), (10, c), (11, d)])?;
-        assert_eq!(rt;
-            fault_of(rt.alloc(), &bytes),
-            Some(BatchFault::Length),
-            "at {length}"
-        );
+        let changes = [(8, a), (9, b), (10, c), (11, d)];
+        resealed_has(&rt, "a length", k, &changes, Some(BatchFault::Length))?;
     }
     Ok(())
 }
@@ -49,13 +49,12 @@ fn a_length_below_49_is_refused_as_one(rt: HostRuntime) -> Result<(), Fail> {
 #[test]
 fn each_magic_byte_but_2_is_refused(rt: HostRuntime) -> Result<(), Fail> {
     for magic in 0..=255u8 {
-        let bytes = resealed(rt.alloc(), &[(16, magic)])?;
         let fault = if magic == 2 {
             None
         } else {
             Some(BatchFault::Magic)
         };
-        assert_eq!(rt; fault_of(rt.alloc(), &bytes), fault, "at {magic}");
+        resealed_has(&rt, "a magic byte", magic as usize, &[(16, magic)], fault)?;
     }
     Ok(())
 }
@@ -82,7 +81,8 @@ fn each_flipped_bit_is_found_where_the_format_says(rt: HostRuntime) -> Result<()
                 *b ^= 1u8 << bit;
             }
             let fault = fault_of(rt.alloc(), &bytes);
-            assert_eq!(rt; fault, fault_at(place, bit), "at {place} {bit}");
+            let at = 8 * place + bit as usize;
+            is_at(&rt, "a flipped bit", at, fault, fault_at(place, bit));
             match fault {
                 None => found[0] = found[0].saturating_add(1),
                 Some(BatchFault::Magic) => found[1] = found[1].saturating_add(1),
@@ -91,7 +91,7 @@ fn each_flipped_bit_is_found_where_the_format_says(rt: HostRuntime) -> Result<()
             }
         }
     }
-    assert_eq!(rt; found, [96, 8, 416]);
+    is(&rt, "none, magic and checksum", found, [96, 8, 416]);
     Ok(())
 }
 
@@ -99,12 +99,9 @@ fn each_flipped_bit_is_found_where_the_format_says(rt: HostRuntime) -> Result<()
 fn each_bit_of_the_attributes_is_refused(rt: HostRuntime) -> Result<(), Fail> {
     for bit in 0..8u32 {
         for place in [21usize, 22] {
-            let bytes = resealed(rt.alloc(), &[(place, 1u8 << bit)])?;
-            assert_eq!(rt;
-                fault_of(rt.alloc(), &bytes),
-                Some(BatchFault::Attributes),
-                "at {place} {bit}"
-            );
+            let fault = Some(BatchFault::Attributes);
+            let at = 8 * place + bit as usize;
+            resealed_has(&rt, "a bit", at, &[(place, 1u8 << bit)], fault)?;
         }
     }
     Ok(())
@@ -114,7 +111,7 @@ fn each_bit_of_the_attributes_is_refused(rt: HostRuntime) -> Result<(), Fail> {
 fn a_count_below_1_or_that_is_not_of_the_last_offset_is_refused(
     rt: HostRuntime,
 ) -> Result<(), Fail> {
-    let rows = [
+    const ROWS: [(i32, i32); 7] = [
         (0, -1),
         (-1, -2),
         (i32::MIN, i32::MAX),
@@ -123,7 +120,7 @@ fn a_count_below_1_or_that_is_not_of_the_last_offset_is_refused(
         (1, -1),
         (i32::MAX, i32::MAX),
     ];
-    for (count, last_offset_delta) in rows {
+    for (k, (count, last_offset_delta)) in ROWS.into_iter().enumerate() {
         let fields = Fields {
             last_offset_delta,
             base_timestamp: 0,
@@ -131,45 +128,35 @@ fn a_count_below_1_or_that_is_not_of_the_last_offset_is_refused(
             count,
         };
         let bytes = batch_with(rt.alloc(), &fields, &[])?;
-        assert_eq!(rt;
-            fault_of(rt.alloc(), &bytes),
-            Some(BatchFault::Count),
-            "at {count}"
-        );
+        has_fault(&rt, "a count", k, &bytes, Some(BatchFault::Count));
     }
     Ok(())
 }
 
 #[test]
 fn an_offset_that_is_not_the_place_is_refused(rt: HostRuntime) -> Result<(), Fail> {
-    let at_0: [u8; 7] = [0x0c, 0, 0, 0, 0x01, 0x01, 0];
-    let at_1: [u8; 7] = [0x0c, 0, 0, 0x02, 0x01, 0x01, 0];
-    let before_0: [u8; 7] = [0x0c, 0, 0, 0x01, 0x01, 0x01, 0];
-    let at_2: [u8; 7] = [0x0c, 0, 0, 0x04, 0x01, 0x01, 0];
-    let wrong: [&[&[u8]]; 6] = [
-        &[&at_1],
-        &[&before_0],
-        &[&at_0, &at_0],
-        &[&at_1, &at_0],
-        &[&at_0, &at_2],
-        &[&at_0, &before_0],
+    const AT_0: &[u8] = &[0x0c, 0, 0, 0, 0x01, 0x01, 0];
+    const AT_1: &[u8] = &[0x0c, 0, 0, 0x02, 0x01, 0x01, 0];
+    const BEFORE_0: &[u8] = &[0x0c, 0, 0, 0x01, 0x01, 0x01, 0];
+    const AT_2: &[u8] = &[0x0c, 0, 0, 0x04, 0x01, 0x01, 0];
+    const WRONG: [&[&[u8]]; 6] = [
+        &[AT_1],
+        &[BEFORE_0],
+        &[AT_0, AT_0],
+        &[AT_1, AT_0],
+        &[AT_0, AT_2],
+        &[AT_0, BEFORE_0],
     ];
-    for (k, records) in wrong.iter().enumerate() {
-        let bytes = batch_of(rt.alloc(), records)?;
-        assert_eq!(rt;
-            fault_of(rt.alloc(), &bytes),
-            Some(BatchFault::Deltas),
-            "at {k}"
-        );
+    for (k, records) in WRONG.into_iter().enumerate() {
+        records_have(&rt, "misplaced", k, records, Some(BatchFault::Deltas))?;
     }
-    let right = batch_of(rt.alloc(), &[&at_0, &at_1, &at_2])?;
-    assert_eq!(rt; fault_of(rt.alloc(), &right), None);
-    Ok(())
+    records_have(&rt, "in place", 0, &[AT_0, AT_1, AT_2], None)
 }
 
 #[test]
 fn a_sealed_batch_is_refused_at_its_first_fault(rt: HostRuntime) -> Result<(), Fail> {
-    let rows: [(usize, u8, BatchFault); 10] = [
+    // A place, the byte there, and the fault.
+    const ROWS: [(usize, u8, BatchFault); 12] = [
         (22, 0x01, BatchFault::Attributes),
         (26, 0x01, BatchFault::Count),
         (60, 0x00, BatchFault::Count),
@@ -180,15 +167,34 @@ fn a_sealed_batch_is_refused_at_its_first_fault(rt: HostRuntime) -> Result<(), F
         (65, 0x03, BatchFault::BadRecord(WireFault::BadLength)),
         (64, 0x02, BatchFault::Deltas),
         (63, 0x02, BatchFault::Timestamps),
+        (27, 0x80, BatchFault::Timestamps),
+        (42, 0x01, BatchFault::Timestamps),
     ];
-    for (place, byte, fault) in rows {
-        let bytes = resealed(rt.alloc(), &[(place, byte)])?;
-        assert_eq!(rt; fault_of(rt.alloc(), &bytes), Some(fault), "at {place}");
+    for (k, (place, byte, fault)) in ROWS.into_iter().enumerate() {
+        resealed_has(&rt, "row", k, &[(place, byte)], Some(fault))?;
     }
-    let early = resealed(rt.alloc(), &[(27, 0x80)])?;
-    assert_eq!(rt; fault_of(rt.alloc(), &early), Some(BatchFault::Timestamps));
-    let late = resealed(rt.alloc(), &[(42, 0x01)])?;
-    assert_eq!(rt; fault_of(rt.alloc(), &late), Some(BatchFault::Timestamps));
+    Ok(())
+}
+
+/// With these bytes changed the batch has this fault where its checksum is mended, and this one where it isn't; less
+/// its last byte it is short, and with a byte more too long.
+fn whole_and_broken<R: Abort + AllocGlobal>(
+    rt: &R,
+    place: usize,
+    changes: &[(usize, u8)],
+    fault: BatchFault,
+    unsealed: BatchFault,
+) -> Result<(), Fail> {
+    let mut bytes = resealed(rt.alloc(), changes)?;
+    has_fault(rt, "sealed", place, &bytes, Some(fault));
+    if let Some(byte) = bytes.get_mut(17) {
+        *byte ^= 1;
+    }
+    has_fault(rt, "unsealed", place, &bytes, Some(unsealed));
+    let part = bytes.get(..68).unwrap_or(&[]);
+    has_fault(rt, "a part", place, part, Some(BatchFault::Short));
+    bytes.push(0)?;
+    has_fault(rt, "longer", place, &bytes, Some(BatchFault::Length));
     Ok(())
 }
 
@@ -196,7 +202,7 @@ fn a_sealed_batch_is_refused_at_its_first_fault(rt: HostRuntime) -> Result<(), F
 fn of_all_faults_the_first_of_the_table_is_told(rt: HostRuntime) -> Result<(), Fail> {
     // The magic byte, the attributes, the count, a record's attributes, its offset and its timestamp.
     let mut changes = [(16, 1u8), (22, 1), (60, 2), (62, 1), (64, 2), (63, 2)].as_slice();
-    let faults = [
+    const FAULTS: [BatchFault; 6] = [
         BatchFault::Magic,
         BatchFault::Attributes,
         BatchFault::Count,
@@ -204,45 +210,22 @@ fn of_all_faults_the_first_of_the_table_is_told(rt: HostRuntime) -> Result<(), F
         BatchFault::Deltas,
         BatchFault::Timestamps,
     ];
-    for (k, fault) in faults.iter().enumerate() {
-        let mut bytes = resealed(rt.alloc(), changes)?;
-        assert_eq!(rt; fault_of(rt.alloc(), &bytes), Some(*fault), "from {k}");
-        if let Some(byte) = bytes.get_mut(17) {
-            *byte ^= 1;
-        }
+    for (k, fault) in FAULTS.into_iter().enumerate() {
         let unsealed = if k == 0 {
             BatchFault::Magic
         } else {
             BatchFault::Checksum
         };
-        assert_eq!(rt; fault_of(rt.alloc(), &bytes), Some(unsealed), "from {k}");
-        let part = bytes.get(..68).unwrap_or(&[]);
-        assert_eq!(rt;
-            fault_of(rt.alloc(), part),
-            Some(BatchFault::Short),
-            "from {k}"
-        );
-        bytes.push(0)?;
-        assert_eq!(rt;
-            fault_of(rt.alloc(), &bytes),
-            Some(BatchFault::Length),
-            "from {k}"
-        );
+        whole_and_broken(&rt, k, changes, fault, unsealed)?;
         changes = changes.get(1..).unwrap_or(&[]);
     }
-    let bytes = resealed(rt.alloc(), changes)?;
-    assert_eq!(rt; fault_of(rt.alloc(), &bytes), None);
-    Ok(())
+    resealed_has(&rt, "with none left", 6, changes, None)
 }
 
 #[test]
 fn a_later_records_fault_comes_before_an_earlier_ones_place(rt: HostRuntime) -> Result<(), Fail> {
     let misplaced = [0x0c, 0, 0x02, 0x02, 0x01, 0x01, 0];
     let faulty = [0x0c, 0x01, 0, 0x02, 0x01, 0x01, 0];
-    let bytes = batch_of(rt.alloc(), &[&misplaced, &faulty])?;
-    assert_eq!(rt;
-        fault_of(rt.alloc(), &bytes),
-        Some(BatchFault::BadRecord(WireFault::BadByte))
-    );
-    Ok(())
+    let fault = Some(BatchFault::BadRecord(WireFault::BadByte));
+    records_have(&rt, "records", 2, &[&misplaced, &faulty], fault)
 }

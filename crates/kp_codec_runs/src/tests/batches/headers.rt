@@ -14,7 +14,7 @@ fn headers_by_hand_are_read(rt: HostRuntime) -> Result<(), Fail> {
         &[0x14, 0, 0, 0, 1, 1, 0x02, 0x02, 0x68, 0x02, 0xff],
     ];
     for (k, record) in RIGHT.iter().enumerate() {
-        assert_eq!(rt; fault_alone(rt.alloc(), record)?, None, "at {k}");
+        records_have(&rt, "a header", k, &[*record], None)?;
     }
     Ok(())
 }

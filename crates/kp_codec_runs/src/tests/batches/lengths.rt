@@ -172,11 +172,8 @@ fn a_count_above_that_of_the_records_is_short(rt: HostRuntime) -> Result<(), Fai
             count,
         };
         let one = batch_with(rt.alloc(), &fields, &[&[0x0c, 0, 0, 0, 0x01, 0x01, 0]])?;
-        assert_eq!(rt;
-            fault_of(rt.alloc(), &one),
-            Some(BatchFault::BadRecord(WireFault::Short)),
-            "at {count}"
-        );
+        let fault = Some(BatchFault::BadRecord(WireFault::Short));
+        has_fault(&rt, "a count of", count as usize, &one, fault);
     }
     Ok(())
 }

@@ -31,9 +31,7 @@ fn each_place<R: Abort + AllocGlobal>(
 ) -> Result<(), Fail> {
     for before in places {
         for number in numbers {
-            let mut record = Vec::from_slice(rt.alloc(), before)?;
-            record.extend_from_slice(number)?;
-            record.extend_from_slice(behind)?;
+            let record = joined(rt.alloc(), &[*before, *number, behind])?;
             each_alone(rt, &[&record], fault)?;
         }
     }
@@ -105,11 +103,7 @@ fn the_greatest_and_least_offsets_are_numbers(rt: HostRuntime) -> Result<(), Fai
         &[0x14, 0, 0, 0xff, 0xff, 0xff, 0xff, 0x0f, 1, 1, 0],
     ];
     for (k, record) in OFFSETS.iter().enumerate() {
-        assert_eq!(rt;
-            fault_alone(rt.alloc(), record)?,
-            Some(BatchFault::Deltas),
-            "at {k}"
-        );
+        records_have(&rt, "an offset", k, &[*record], Some(BatchFault::Deltas))?;
     }
     Ok(())
 }

@@ -2,13 +2,82 @@
 
 use super::*;
 
-/// The fault of a batch of so many records at these times less the base, whose bytes are given.
-fn fault_timed(
-    alloc: Global,
-    base_timestamp: i64,
-    max_timestamp: i64,
-    records: &[&[u8]],
-) -> Result<Option<BatchFault>, Fail> {
+/// A first record of nulls, with the base timestamp.
+const AT_BASE: &[u8] = &[0x0c, 0, 0, 0, 0x01, 0x01, 0];
+
+/// First records of nulls, a millisecond later and a millisecond earlier than the base.
+const FIRST_LATER: &[u8] = &[0x0c, 0, 0x02, 0, 0x01, 0x01, 0];
+
+const FIRST_EARLIER: &[u8] = &[0x0c, 0, 0x01, 0, 0x01, 0x01, 0];
+
+/// Second records of nulls, a millisecond later and a millisecond earlier than the base.
+const ONE_LATER: &[u8] = &[0x0c, 0, 0x02, 0x02, 0x01, 0x01, 0];
+
+const ONE_EARLIER: &[u8] = &[0x0c, 0, 0x01, 0x02, 0x01, 0x01, 0];
+
+const LATER: &[&[u8]] = &[AT_BASE, ONE_LATER];
+
+const EARLIER: &[&[u8]] = &[AT_BASE, ONE_EARLIER];
+
+const REFUSED: Option<BatchFault> = Some(BatchFault::Timestamps);
+
+/// What a batch shows, its base timestamp and its greatest, its records, and its fault.
+type Row = (
+    &'static str,
+    i64,
+    i64,
+    &'static [&'static [u8]],
+    Option<BatchFault>,
+);
+
+const BATCHES: [Row; 18] = [
+    ("the greatest is the second's", 5, 6, LATER, None),
+    ("the greatest is the first's", 5, 5, EARLIER, None),
+    ("the second is at 0", 1, 1, EARLIER, None),
+    (
+        "a first record behind the base",
+        5,
+        6,
+        &[FIRST_LATER],
+        REFUSED,
+    ),
+    (
+        "a first record before the base",
+        5,
+        4,
+        &[FIRST_EARLIER],
+        REFUSED,
+    ),
+    ("a second record below 0", 0, 0, EARLIER, REFUSED),
+    ("a base below 0", -1, 0, LATER, REFUSED),
+    ("a base below 0, alone", -1, -1, &[AT_BASE], REFUSED),
+    ("the least base", i64::MIN, i64::MIN, &[AT_BASE], REFUSED),
+    (
+        "a record above an int64",
+        i64::MAX,
+        i64::MAX,
+        LATER,
+        REFUSED,
+    ),
+    (
+        "one that wraps to the least",
+        i64::MAX,
+        i64::MIN,
+        LATER,
+        REFUSED,
+    ),
+    ("the greatest int64", i64::MAX, i64::MAX, &[AT_BASE], None),
+    ("a greatest that is not the second's", 5, 5, LATER, REFUSED),
+    ("a greatest that is no record's", 5, 7, LATER, REFUSED),
+    ("a greatest of 0", 5, 0, LATER, REFUSED),
+    ("a greatest below 0", 5, -1, LATER, REFUSED),
+    ("the greatest of all", 5, i64::MAX, LATER, REFUSED),
+    ("the least of all", 5, i64::MIN, LATER, REFUSED),
+];
+
+/// The batch of these records by hand has this fault, or none.
+fn row_holds<R: Abort + AllocGlobal>(rt: &R, place: usize, row: &Row) -> Result<(), Fail> {
+    let (shows, base_timestamp, max_timestamp, records, fault) = *row;
     let count = i32::try_from(records.len())?;
     let fields = Fields {
         last_offset_delta: count.saturating_sub(1),
@@ -16,111 +85,46 @@ fn fault_timed(
         max_timestamp,
         count,
     };
-    let bytes = batch_with(alloc, &fields, records)?;
-    Ok(fault_of(alloc, &bytes))
+    let bytes = batch_with(rt.alloc(), &fields, records)?;
+    has_fault(rt, shows, place, &bytes, fault);
+    Ok(())
 }
 
-/// A first record of nulls, with the base timestamp.
-const AT_BASE: [u8; 7] = [0x0c, 0, 0, 0, 0x01, 0x01, 0];
-
-/// A second record of nulls, a millisecond later than the base.
-const ONE_LATER: [u8; 7] = [0x0c, 0, 0x02, 0x02, 0x01, 0x01, 0];
-
-/// A second record of nulls, a millisecond before the base.
-const ONE_EARLIER: [u8; 7] = [0x0c, 0, 0x01, 0x02, 0x01, 0x01, 0];
-
-const REFUSED: Option<BatchFault> = Some(BatchFault::Timestamps);
+#[test]
+fn timestamps_are_those_of_the_records(rt: HostRuntime) -> Result<(), Fail> {
+    for (k, row) in BATCHES.iter().enumerate() {
+        row_holds(&rt, k, row)?;
+    }
+    Ok(())
+}
 
 #[test]
 fn no_moment_is_before_1970(rt: HostRuntime) {
-    assert!(rt; Timestamp::from_millis(-1).is_none());
-    assert_eq!(rt; Timestamp::from_millis(0).map(|t| t.millis()), Some(0));
-    assert_eq!(rt;
-        Timestamp::from_millis(i64::MAX).map(|t| t.millis()),
-        Some(i64::MAX)
-    );
+    const MOMENTS: [(i64, Option<i64>); 3] = [(-1, None), (0, Some(0)), (i64::MAX, Some(i64::MAX))];
+    for (k, (millis, moment)) in MOMENTS.into_iter().enumerate() {
+        let found = Timestamp::from_millis(millis).map(|t| t.millis());
+        is_at(&rt, "a moment", k, found, moment);
+    }
+}
+
+/// Records whose moments fall and rise.
+fn unordered(alloc: Global) -> Result<Vec<Record>, Fail> {
+    let first = record_of(alloc, 5, b"")?;
+    let second = record_of(alloc, i64::MAX, b"b")?;
+    let third = record_of(alloc, 0, b"c")?;
+    Ok(vec![in alloc; first, second, third]?)
 }
 
 #[test]
 fn timestamps_need_not_rise(rt: HostRuntime) -> Result<(), Fail> {
-    let first = record_of(rt.alloc(), 5, b"")?;
-    let second = record_of(rt.alloc(), i64::MAX, b"b")?;
-    let third = record_of(rt.alloc(), 0, b"c")?;
-    let records = vec![in rt.alloc(); first, second, third]?;
-    let size = batch_size(&records);
-    assert!(rt; size <= SIZE_LIMIT);
-    let bytes = write_batch(rt.alloc(), HEAD, &records)?;
-    let back = read_batch(rt.alloc(), &bytes)
-        .ok()
-        .ok_or("the batch is whole")?;
+    let records = unordered(rt.alloc())?;
+    let bytes = written(rt.alloc(), &records)?;
+    let back = read_back(rt.alloc(), &bytes)?;
     let mut moments = Vec::new(rt.alloc());
     for record in back.records.as_slice() {
         moments.push(record.timestamp.millis())?;
     }
-    assert_eq!(rt; moments.as_slice(), [5, i64::MAX, 0].as_slice());
-    Ok(())
-}
-
-#[test]
-fn the_greatest_timestamp_may_be_that_of_any_record(rt: HostRuntime) -> Result<(), Fail> {
-    let later: [&[u8]; 2] = [&AT_BASE, &ONE_LATER];
-    assert_eq!(rt; fault_timed(rt.alloc(), 5, 6, &later)?, None);
-    let earlier: [&[u8]; 2] = [&AT_BASE, &ONE_EARLIER];
-    assert_eq!(rt; fault_timed(rt.alloc(), 5, 5, &earlier)?, None);
-    assert_eq!(rt; fault_timed(rt.alloc(), 1, 1, &earlier)?, None);
-    Ok(())
-}
-
-#[test]
-fn a_first_record_that_is_not_at_the_base_is_refused(rt: HostRuntime) -> Result<(), Fail> {
-    let later = [0x0c, 0, 0x02, 0, 0x01, 0x01, 0];
-    assert_eq!(rt; fault_timed(rt.alloc(), 5, 6, &[&later])?, REFUSED);
-    let earlier = [0x0c, 0, 0x01, 0, 0x01, 0x01, 0];
-    assert_eq!(rt; fault_timed(rt.alloc(), 5, 4, &[&earlier])?, REFUSED);
-    Ok(())
-}
-
-#[test]
-fn a_timestamp_below_zero_is_refused(rt: HostRuntime) -> Result<(), Fail> {
-    let earlier: [&[u8]; 2] = [&AT_BASE, &ONE_EARLIER];
-    assert_eq!(rt; fault_timed(rt.alloc(), 0, 0, &earlier)?, REFUSED);
-    let later: [&[u8]; 2] = [&AT_BASE, &ONE_LATER];
-    assert_eq!(rt; fault_timed(rt.alloc(), -1, 0, &later)?, REFUSED);
-    assert_eq!(rt; fault_timed(rt.alloc(), -1, -1, &[&AT_BASE])?, REFUSED);
-    assert_eq!(rt;
-        fault_timed(rt.alloc(), i64::MIN, i64::MIN, &[&AT_BASE])?,
-        REFUSED
-    );
-    Ok(())
-}
-
-#[test]
-fn a_timestamp_above_an_int64_is_refused(rt: HostRuntime) -> Result<(), Fail> {
-    let later: [&[u8]; 2] = [&AT_BASE, &ONE_LATER];
-    assert_eq!(rt;
-        fault_timed(rt.alloc(), i64::MAX, i64::MAX, &later)?,
-        REFUSED
-    );
-    assert_eq!(rt;
-        fault_timed(rt.alloc(), i64::MAX, i64::MIN, &later)?,
-        REFUSED
-    );
-    assert_eq!(rt;
-        fault_timed(rt.alloc(), i64::MAX, i64::MAX, &[&AT_BASE])?,
-        None
-    );
-    Ok(())
-}
-
-#[test]
-fn a_greatest_timestamp_that_is_no_records_is_refused(rt: HostRuntime) -> Result<(), Fail> {
-    let later: [&[u8]; 2] = [&AT_BASE, &ONE_LATER];
-    for greatest in [5i64, 7, 0, -1, i64::MAX, i64::MIN] {
-        assert_eq!(rt;
-            fault_timed(rt.alloc(), 5, greatest, &later)?,
-            REFUSED,
-            "at {greatest}"
-        );
-    }
+    let wanted = [5, i64::MAX, 0];
+    is(&rt, "the moments", moments.as_slice(), wanted.as_slice());
     Ok(())
 }
