@@ -19,8 +19,12 @@ use std::sync::Wait;
 use std::thread;
 use std::time::{Clock, Duration};
 
-/// How long a wait for room or a report is at most, in milliseconds, before it is made again.
+/// How long a wait for a report is at most, in milliseconds, before it is made again.
 const PATIENCE: u64 = 100;
+
+/// How long it is until a record is sent again whose lane was full, in microseconds. The engine takes some hundred records
+/// in that time, and would take fewer if it had to wake each sender for which it made room.
+const NAP: u64 = 500;
 
 /// How long it is until a flush is asked for again, in milliseconds.
 const FLUSH_WAIT: u64 = 1;
@@ -134,14 +138,14 @@ impl Job {
     {
         let mut body = body;
         for _ in rt.forever() {
-            let patience = Duration::from_millis(PATIENCE);
-            match self.producer.send_within(rt, Target::Auto, body, patience) {
+            match self.producer.send(rt, Target::Auto, body) {
                 Ok(_) => {
                     self.accepted += 1;
                     return Ok(());
                 }
                 Err((SendFault::LaneFull, back)) if !self.is_over() => {
                     self.hear_some();
+                    thread::sleep(rt, Duration::from_micros(NAP));
                     body = back;
                 }
                 Err((fault, _)) => return Err(fault),
