@@ -4,6 +4,7 @@ pub mod Faults
 pub mod Lines
 pub mod Offered
 pub mod Packed
+pub mod Replays
 pub mod Report
 pub mod RunCommand
 pub mod RunText

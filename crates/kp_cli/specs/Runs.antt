@@ -12,7 +12,7 @@ use Rattle.kp_cli.specs.Faults.{of_run}
 use Rattle.kp_cli.specs.Lines.{lines}
 use Rattle.kp_cli.specs.RunText.{run_text}
 use Rattle.kp_cli.specs.declared.command_line.Command.{Command}
-use Rattle.kp_cli.specs.declared.command_line.Command.TheVariants.{Pack, Run}
+use Rattle.kp_cli.specs.declared.command_line.Command.TheVariants.{Pack, Replay, Run}
 use Rattle.kp_cli.specs.declared.fault.Fault.{Fault}
 
 -- ---- what is printed
@@ -46,4 +46,5 @@ LooksFirst options result =
 -- so it is with a run
 abbrev pub Looks : Command → Result (Unit {0}) Fault → Type 0
 Looks (Pack file) result = Unit {0}
+Looks (Replay file) result = Unit {0}
 Looks (Run wanted) result = LooksFirst wanted.options result

@@ -1,8 +1,8 @@
 //! The words of a call, by clap.
 
-ghost use Rattle.std.specs.Prelude.{◌≡◌, Some, List, MatchResult, codes, map, option_map};
-ghost use Rattle.clap.specs.Words.{Row, first_of, kind_of, subcommand_rows_of};
-ghost use Rattle.kp_cli.specs.CommandLine.{AskToPackInput, Packs};
+ghost use Rattle.std.specs.Prelude.{◌≡◌, Some, List, IfSome, MatchResult, codes, map, option_map};
+ghost use Rattle.clap.specs.Words.{Row, first_of, kind_of, subcommand_name_of, subcommand_rows_of};
+ghost use Rattle.kp_cli.specs.CommandLine.{AskToPackInput, AskToReplayInput, Packs, Replays};
 
 use crate::commands::kprod;
 use crate::run_words::{Wanted, wanted_of};
@@ -16,16 +16,19 @@ use std::convert::AsStr;
 pub enum Command<'a> {
     /// To pack the lines of this file; `-` is the standard input.
     Pack(&'a str),
+    /// To replay the schedule of this file; `-` is the standard input.
+    Replay(&'a str),
     /// To send the lines of a file.
     Run(Wanted<'a>),
 }
 
-/// The file of `pack`, where the matches have one.
-fn file_of<'a>(matches: &ArgMatches<'a>) -> Option<&'a str>
-    ensures { (rows : List Row) → subcommand_rows_of matches.now ≡ Some (codes "pack", rows)
+/// The file of this command, where it is the one that the matches have.
+fn file_of<'a>(matches: &ArgMatches<'a>, command: &str) -> Option<&'a str>
+    ensures file { (rows : List Row) → subcommand_rows_of matches.now ≡ Some (command.now, rows)
         → option_map (λ s. s.now) result ≡ first_of (codes "file") rows }
+    ensures its { IfSome result (λ _. subcommand_name_of matches.now ≡ Some command.now) }
 {
-    matches.subcommand_matches("pack")?.get_str("file")
+    matches.subcommand_matches(command)?.get_str("file")
 }
 
 /// The run that the matches ask for, where they ask for one.
@@ -41,11 +44,16 @@ fn run_of<'a>(alloc: Global, matches: &ArgMatches<'a>) -> Result<Command<'a>, Er
 pub fn command_of<'a, S: AsStr>(alloc: Global, words: &'a [S]) -> Result<Command<'a>, Error>
     ensures input { AskToPackInput (map S.text words.entry.now)
         → MatchResult result (Packs (codes "-")) (λ e. kind_of e ≡ ErrorKind.OutOfMemory) }
+    ensures schedule { AskToReplayInput (map S.text words.entry.now)
+        → MatchResult result (Replays (codes "-")) (λ e. kind_of e ≡ ErrorKind.OutOfMemory) }
 {
     let program = kprod(alloc)?;
     let matches = program.try_get_matches_from(words)?;
-    match file_of(&matches) {
-        Some(file) => Ok(Command::Pack(file)),
+    if let Some(file) = file_of(&matches, "pack") {
+        return Ok(Command::Pack(file));
+    }
+    match file_of(&matches, "replay") {
+        Some(file) => Ok(Command::Replay(file)),
         None => run_of(alloc, &matches),
     }
 }

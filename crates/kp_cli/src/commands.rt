@@ -2,7 +2,7 @@
 
 ghost use Rattle.std.specs.Prelude.{◌≡◌, IfOk};
 ghost use Rattle.clap.specs.Words.{app_of};
-ghost use Rattle.kp_cli.specs.Commands.{kprod_app, pack_app};
+ghost use Rattle.kp_cli.specs.Commands.{kprod_app, pack_app, replay_app};
 ghost use Rattle.kp_cli.specs.RunCommand.{IsLocal};
 
 use crate::run_command::run_command;
@@ -23,16 +23,34 @@ fn pack_command<'a>(alloc: Global) -> Result<Command<'a>, AllocError>
         .arg(file)
 }
 
+/// What replays.
+fn replay_command<'a>(alloc: Global) -> Result<Command<'a>, AllocError>
+    ensures app { IfOk result (λ command. app_of command ≡ replay_app) }
+    ensures local { IfOk result IsLocal }
+{
+    let file = Arg::new(alloc, "file")
+        .value_name("FILE")
+        .help("The file with the schedule; - is the standard input")
+        .required(true);
+    Command::new(alloc, "replay")
+        .about(
+            "Replays a schedule of sends, losses, repeats and replies, and prints what comes of it",
+        )
+        .arg(file)
+}
+
 /// The program's commands and what they take.
 pub fn kprod<'a>(alloc: Global) -> Result<Command<'a>, AllocError>
     ensures { IfOk result (λ command. app_of command ≡ kprod_app) }
 {
     let pack = pack_command(alloc)?;
+    let replay = replay_command(alloc)?;
     let run = run_command(alloc)?;
     let program = Command::new(alloc, "kprod")
         .about("Publishes lines to a Kafka broker, each once and in order")
         .subcommand_required(true)
         .disable_help_subcommand(true);
     let program = program.subcommand(pack)?;
+    let program = program.subcommand(replay)?;
     program.subcommand(run)
 }

@@ -1,14 +1,15 @@
 //! Why a call ended without its output.
 
-ghost use Rattle.std.specs.Prelude.{◌≡◌, ◌++◌, OnOk, decimal};
+ghost use Rattle.std.specs.Prelude.{◌≡◌, ◌++◌, OnOk, codes, decimal};
 ghost use Rattle.std.specs.Io.KnownBytes.{Appends};
-ghost use Rattle.kp_cli.specs.Faults.{fault_line, of_run};
+ghost use Rattle.kp_cli.specs.Faults.{fault_line, of_replay, of_run};
 ghost use Rattle.kp_text.specs.Lines.{newline};
 ghost use Rattle.kp_cli.specs.declared.fault.PackFault.TheVariants as pack_fault;
 
 use itoa::Buffer;
 use kp_log::LogFault;
 use kp_run::RunFault;
+use kp_schedule::ReplayFault;
 use std::alloc::AllocError;
 use std::io::{self, ErrorKind, Write};
 
@@ -38,6 +39,12 @@ pub enum Fault<'a> {
     Network,
     /// A fault of the handshake, by its number.
     Handshake(u8),
+    /// This line of a schedule, from 1, is not understood.
+    BadLine(u64),
+    /// The event of this line of a schedule names what isn't there.
+    NoSuch(u64),
+    /// A schedule has more lines than a schedule may have.
+    TooLong,
     /// A word of the call.
     NotText,
     /// The output took no more. Nobody is told.
@@ -84,6 +91,20 @@ impl<'a> From<RunFault> for Fault<'a> {
     }
 }
 
+impl<'a> From<ReplayFault> for Fault<'a> {
+    ghost from_gives = { λ fault e. e ≡ of_replay fault };
+
+    fn from(fault: ReplayFault) -> Fault<'a> {
+        match fault {
+            ReplayFault::BadLine(line) => Fault::BadLine(line),
+            ReplayFault::NoSuch(line) => Fault::NoSuch(line),
+            ReplayFault::Config(fault) => Fault::Config(fault.number()),
+            ReplayFault::TooLong => Fault::TooLong,
+            ReplayFault::OutOfMemory => Fault::OutOfMemory,
+        }
+    }
+}
+
 impl<'a> From<AllocError> for Fault<'a> {
     fn from(_refused: AllocError) -> Fault<'a> {
         Fault::OutOfMemory
@@ -108,6 +129,18 @@ fn put_numbered<W: Write>(err: &mut W, text: &[u8], number: u8) -> io::Result<()
     err.write_all(b"\n")
 }
 
+/// A line that tells what is wrong with a line of a schedule.
+fn put_line_fault<W: Write>(err: &mut W, line: u64, wrong: &[u8]) -> io::Result<()>
+    ensures { OnOk result (Appends (W.contents err.old) (W.contents err.new)
+        (codes "kprod: line " ++ decimal line ++ wrong.now ++ newline)) }
+{
+    let mut buffer = Buffer::new();
+    err.write_all(b"kprod: line ")?;
+    err.write_all(buffer.format(line).as_bytes())?;
+    err.write_all(wrong)?;
+    err.write_all(b"\n")
+}
+
 /// The fault's line, if it is told at all. Nothing is allocated.
 pub fn put_fault<W: Write>(err: &mut W, fault: Fault<'_>) -> io::Result<()>
     ensures { OnOk result (Appends (W.contents err.old) (W.contents err.new) (fault_line fault.entry)) }
@@ -125,6 +158,9 @@ pub fn put_fault<W: Write>(err: &mut W, fault: Fault<'_>) -> io::Result<()>
         Fault::Config(number) => put_numbered(err, b"kprod: config fault ", number),
         Fault::Network => err.write_all(b"kprod: network fault\n"),
         Fault::Handshake(number) => put_numbered(err, b"kprod: handshake fault ", number),
+        Fault::BadLine(line) => put_line_fault(err, line, b": not understood"),
+        Fault::NoSuch(line) => put_line_fault(err, line, b": no such thing"),
+        Fault::TooLong => err.write_all(b"kprod: schedule too long\n"),
         Fault::NotText => err.write_all(b"kprod: a word is not UTF-8\n"),
         Fault::CannotWrite => Ok(()),
     }

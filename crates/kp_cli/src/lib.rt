@@ -10,6 +10,7 @@ mod lines;
 mod offering;
 mod packing;
 mod program;
+mod replaying;
 mod reporting;
 mod run_command;
 mod run_words;

@@ -3,15 +3,17 @@
 ghost use Rattle.std.specs.Prelude.{◌≡◌, ◌≢◌, IfSome, OnOk, codes, map};
 ghost use Rattle.std.specs.Io.KnownBytes.{Appends};
 ghost use Rattle.clap.specs.Words.{kind_of};
-ghost use Rattle.kp_cli.specs.CommandLine.{AskToPackInput, Packs};
+ghost use Rattle.kp_cli.specs.CommandLine.{AskToPackInput, AskToReplayInput, Packs, Replays};
 ghost use Rattle.kp_cli.specs.Lines.{lines};
 ghost use Rattle.kp_cli.specs.Packed.{packed_text};
+ghost use Rattle.kp_cli.specs.Replays.{PrintsReplay};
 ghost use Rattle.kp_cli.specs.Runs.{Looks, LooksFirst, PrintsLines, PrintsRun};
 
 use crate::command_line::{Command, command_of};
 use crate::fault::{Fault, memory_or, put_fault};
 use crate::lines::slices_of;
 use crate::packing::pack;
+use crate::replaying::replay_text;
 use crate::run_words::Wanted;
 use crate::running::run_with;
 use crate::streams::{read_file, write_whole};
@@ -69,6 +71,16 @@ fn refuse<O: Write, E: Write>(error: &Error, out: &mut O, err: &mut E) -> u8
     }
 }
 
+/// Prints a text.
+fn print<'a, O: Write>(out: &mut O, text: &[u8]) -> Result<(), Fault<'a>>
+    ensures { OnOk result (Appends (O.contents out.old) (O.contents out.new) text.now) }
+{
+    match write_whole(out, text) {
+        Ok(()) => Ok(()),
+        Err(_) => Err(Fault::CannotWrite),
+    }
+}
+
 /// Packs a file's lines.
 fn pack_file<'a, R: Files + AllocGlobal, I: Read, O: Write>(
     rt: &R,
@@ -82,10 +94,23 @@ fn pack_file<'a, R: Files + AllocGlobal, I: Read, O: Write>(
 {
     let bytes = read_file(rt, file, input)?;
     let text = pack(rt.alloc(), bytes.as_slice())?;
-    match write_whole(out, text.as_slice()) {
-        Ok(()) => Ok(()),
-        Err(_) => Err(Fault::CannotWrite),
-    }
+    print(out, text.as_slice())
+}
+
+/// Replays a file's schedule.
+fn replay_file<'a, R: Files + AllocGlobal, I: Read, O: Write>(
+    rt: &R,
+    file: &'a str,
+    input: &mut I,
+    out: &mut O,
+) -> Result<(), Fault<'a>>
+    ensures input { file.entry.now ≡ codes "-"
+        → OnOk result (IfSome (I.remaining input.old) (λ bytes.
+        PrintsReplay bytes (O.contents out.old) (O.contents out.new))) }
+{
+    let bytes = read_file(rt, file, input)?;
+    let text = replay_text(rt.alloc(), bytes.as_slice())?;
+    print(out, text.as_slice())
 }
 
 /// Sends the lines of these bytes.
@@ -138,9 +163,13 @@ where
     ensures input { Packs (codes "-") command.entry
         → OnOk result (IfSome (I.remaining input.old) (λ bytes.
         Appends (O.contents out.old) (O.contents out.new) (packed_text (lines bytes)))) }
+    ensures schedule { Replays (codes "-") command.entry
+        → OnOk result (IfSome (I.remaining input.old) (λ bytes.
+        PrintsReplay bytes (O.contents out.old) (O.contents out.new))) }
 {
     match command {
         Command::Pack(file) => pack_file(rt, file, input, out),
+        Command::Replay(file) => replay_file(rt, file, input, out),
         Command::Run(wanted) => run_file(rt, wanted, input, out),
     }
 }
@@ -159,6 +188,9 @@ where
     ensures packs_input { AskToPackInput (map S.text words.now) → result ≡ DONE
         → IfSome (I.remaining input.old) (λ bytes.
         Appends (O.contents out.old) (O.contents out.new) (packed_text (lines bytes))) }
+    ensures replays_input { AskToReplayInput (map S.text words.now) → result ≡ DONE
+        → IfSome (I.remaining input.old) (λ bytes.
+        PrintsReplay bytes (O.contents out.old) (O.contents out.new)) }
 {
     match command_of(rt.alloc(), words) {
         Err(error) => refuse(&error, out, err),

@@ -15,6 +15,7 @@ use kp_run::{Came, Checked, Gate, run_lines};
 use kp_text::{put_audit, put_own, put_reports, put_totals};
 use std::alloc::{AllocError, AllocGlobal, Global};
 use std::io::Write;
+use std::mem::ManuallyDrop;
 use std::net::{Net, TcpListener, TcpStream};
 use std::random::RandomSource;
 use std::sync::Wait;
@@ -168,7 +169,8 @@ fn print_run<'a, O: Write>(
     }
 }
 
-/// Sends the lines, and prints what became of them.
+/// Sends the lines, and prints what became of them. What came of the run is left in memory: the program ends behind it, and
+/// to free the logs record by record would take as long as a tenth of the run.
 pub fn run_with<'a, R, G, O: Write>(
     rt: &R,
     checked: &Checked<'_>,
@@ -184,5 +186,7 @@ where
 {
     let came = run_lines(rt, checked, lines, gate)?;
     let options = checked.options();
-    print_run(rt.alloc(), &came, options.totals, out)
+    let printed = print_run(rt.alloc(), &came, options.totals, out);
+    let _left = ManuallyDrop::new(came);
+    printed
 }

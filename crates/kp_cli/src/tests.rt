@@ -4,6 +4,7 @@ mod addressed;
 mod failing;
 mod output;
 mod refused;
+mod replays;
 mod runs;
 mod turns;
 mod usage;

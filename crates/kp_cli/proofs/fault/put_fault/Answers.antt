@@ -28,3 +28,12 @@ returns-in-Config g c = rw c.in-Config.is c.put_numbered.ensures
 
 pub returns-in-Handshake : goal.returns-in-Handshake
 returns-in-Handshake g c = rw c.in-Handshake.is c.put_numbered-in-Handshake.ensures
+
+pub returns-in-BadLine : goal.returns-in-BadLine
+returns-in-BadLine g c = rw c.in-BadLine.is c.put_line_fault.ensures
+
+pub returns-in-NoSuch : goal.returns-in-NoSuch
+returns-in-NoSuch g c = rw c.in-NoSuch.is c.put_line_fault-in-NoSuch.ensures
+
+pub returns-in-TooLong : goal.returns-in-TooLong
+returns-in-TooLong g c = rw c.in-TooLong.is c.write_all-in-TooLong.ensures.bytes

@@ -7,12 +7,12 @@ use Rattle.kp_cli.proofs.running.run_with.Goals as goal
 
 pub returns : goal.returns
 returns g c =
-    on_ok_weaker c.print_run.result
+    on_ok_weaker c.print_run-printed.result
     (λ printed. record {
       came = c.in_ok-came.came;
       of_run = c.in_ok-came.ensures;
       printed = subst
-          (λ (o : Options). Appends (g.O.Write.contents c.args.out.now) (g.O.Write.contents c.print_run.new.out) (run_text o.totals c.in_ok-came.came))
+          (λ (o : Options). Appends (g.O.Write.contents c.args.out.now) (g.O.Write.contents c.print_run-printed.new.out) (run_text o.totals c.in_ok-came.came))
           c.options-options.ensures printed;
     })
-    c.print_run.ensures
+    c.print_run-printed.ensures
