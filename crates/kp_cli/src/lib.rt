@@ -19,6 +19,3 @@ mod streams;
 
 pub use program::{DONE, FAULT, USAGE, kprod_with, refuse_words};
 pub use running::run_with;
-
-#[cfg(test)]
-mod tests;

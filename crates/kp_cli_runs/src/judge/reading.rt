@@ -1,7 +1,7 @@
 //! Whether a text is right.
 
-use crate::lines::{LINES, PARTITIONS, Place, SENDERS};
-use crate::wrong::Wrong;
+use crate::judge::lines::{LINES, PARTITIONS, Place, SENDERS};
+use crate::judge::wrong::Wrong;
 use std::alloc::{AllocError, Global};
 
 /// How many pairs there are of a sender and a partition.

@@ -1,16 +1,21 @@
 //! Senders that wait for one another: each is in a thread of its own.
 
-use crate::lines::slices_of;
-use crate::running::run_with;
 use kp_accum::Config;
+use kp_cli::run_with;
 use kp_run::{Gate, Options, Place};
+use std::alloc::Global;
+use std::io;
+use std::net::{Net, TcpListener, TcpStream};
+use std::random::RandomSource;
+use std::sync::Wait;
 use std::sync::atomic::{AtomicBool, AtomicU64, Ordering};
-use std::test::Fail;
-use std::thread;
+use std::thread::{self, Threads};
 use std::time::{Clock, Duration};
 
 /// How often a sender looks whether the others are as far as it is.
 const TURNS: u32 = 10_000;
+
+const LINES: [&[u8]; 9] = [b"a", b"b", b"c", b"d", b"e", b"f", b"g", b"h", b"i"];
 
 /// No sender makes its send before all others are as far, and the first sender not its first one before they are one
 /// further.
@@ -47,9 +52,9 @@ impl<R: Clock> Gate for Together<'_, R> {
     }
 }
 
-#[test]
-fn senders_run_beside_one_another(rt: HostRuntime) -> Result<(), Fail> {
-    let options = Options {
+/// Three senders to two partitions.
+fn options() -> Options<'static> {
+    Options {
         topic: "t",
         partitions: Some(2),
         senders: 3,
@@ -59,26 +64,42 @@ fn senders_run_beside_one_another(rt: HostRuntime) -> Result<(), Fail> {
         audits: false,
         flush_every: None,
         totals: true,
-    };
-    let lines = slices_of(rt.alloc(), b"a\nb\nc\nd\ne\nf\ng\nh\ni\n".as_slice())?;
+    }
+}
+
+/// Whether the lines were sent by senders of which none waited in vain. What is printed of them is added to the text.
+fn sends_together<R>(rt: &R, text: &mut Vec<u8>) -> bool
+where
+    R: Wait + Threads + Clock + RandomSource + AllocGlobal + Sync,
+    R: Net<Listener = TcpListener, Stream = TcpStream>,
+{
     let sends = [AtomicU64::new(0), AtomicU64::new(0), AtomicU64::new(0)];
     let in_turn = AtomicBool::new(false);
     let gate = Together {
-        rt: &rt,
+        rt,
         sends: sends.as_slice(),
         in_turn: &in_turn,
     };
-    let mut out = Vec::new(rt.alloc());
-    let Ok(checked) = options.check(rt.alloc()) else {
-        assert!(rt; false, "the options have no fault");
-        return Ok(());
+    let Ok(checked) = options().check(rt.alloc()) else {
+        return false;
     };
-    let ran = run_with(&rt, &checked, lines.as_slice(), &gate, &mut out);
-    assert!(rt; ran.is_ok());
-    assert!(rt; !in_turn.load(Ordering::SeqCst));
-    assert_eq!(rt;
-        out.as_slice(),
-        b"total accepted 9 delivered 9 unsent 0 unknown 0 rejected 0\n".as_slice()
-    );
-    Ok(())
+    let ran = run_with(rt, &checked, LINES.as_slice(), &gate, text);
+    ran.is_ok() && !in_turn.load(Ordering::SeqCst)
+}
+
+/// Tells whether senders run beside one another.
+pub(crate) fn tell_turns<R>(rt: &R, text: &mut Vec<u8>) -> io::Result<()>
+where
+    R: Wait + Threads + Clock + RandomSource + AllocGlobal + Sync,
+    R: Net<Listener = TcpListener, Stream = TcpStream>,
+{
+    text.extend_from_slice(
+        b"# Three senders run beside one another: none makes a send before the others are as far\n",
+    )?;
+    let said = if sends_together(rt, text) {
+        b"right\n\n".as_slice()
+    } else {
+        b"wrong: a sender waited in vain\n\n".as_slice()
+    };
+    Ok(text.extend_from_slice(said)?)
 }

@@ -1,8 +1,9 @@
 //! What the program is given, and what it prints.
 
-use crate::lines::LINES;
-use crate::wrong::Wrong;
-use kp_cli::{DONE, kprod_with};
+use crate::calling::call;
+use crate::judge::lines::LINES;
+use crate::judge::wrong::Wrong;
+use kp_cli::DONE;
 use std::alloc::{AllocError, Global};
 use std::io::Write;
 use std::net::{Net, TcpListener, TcpStream};
@@ -81,7 +82,7 @@ pub(crate) fn input(alloc: Global) -> Result<Vec<u8>, AllocError> {
 }
 
 /// What the program prints of the lines.
-pub(crate) fn printed<R>(rt: &R, plan: &str, mut lines: &[u8]) -> Result<Vec<u8>, Wrong>
+pub(crate) fn printed<R>(rt: &R, plan: &str, lines: &[u8]) -> Result<Vec<u8>, Wrong>
 where
     R: Files + Wait + Threads + Clock + RandomSource + AllocGlobal + Sync,
     R: Net<Listener = TcpListener, Stream = TcpStream>,
@@ -102,15 +103,13 @@ where
         "--fault",
         plan,
     ];
-    let mut out = Vec::new(rt.alloc());
-    let mut err = Vec::new(rt.alloc());
-    let status = kprod_with(rt, words.as_slice(), &mut lines, &mut out, &mut err);
-    let what = if status != DONE {
+    let ended = call(rt, words.as_slice(), lines);
+    let what = if ended.status != DONE {
         "the program ended with a fault"
-    } else if !err.is_empty() {
+    } else if !ended.err.is_empty() {
         "something stands on the other output"
     } else {
-        return Ok(out);
+        return Ok(ended.out);
     };
     Err(Wrong { line: 0, what })
 }
