@@ -30,7 +30,7 @@ impl Model for Accepted {
 
 impl Accepted {
     /// Nothing was accepted.
-    pub fn new(alloc: Global) -> Accepted
+    pub(crate) fn new(alloc: Global) -> Accepted
         ensures { result ≡ [] }
     {
         Accepted {
@@ -40,7 +40,7 @@ impl Accepted {
     }
 
     /// How many of the items are for this partition: the number of the next.
-    pub fn number(&self, partition: u32) -> u64
+    pub(crate) fn number(&self, partition: u32) -> u64
         ensures { result ≡ length (for_partition partition self.now) }
     {
         match self.counts.get(partition as usize) {
@@ -50,7 +50,7 @@ impl Accepted {
     }
 
     /// The item at this place.
-    pub fn get(&self, place: usize) -> Option<&Item>
+    pub(crate) fn get(&self, place: usize) -> Option<&Item>
         ensures item { option_copied result ≡ slice_get self.now place }
         ensures place { IfSome result (λ item. place + 1 < 2 ^ 64) }
     {
@@ -58,7 +58,7 @@ impl Accepted {
     }
 
     /// Puts one more item behind the others.
-    pub fn push(&mut self, item: Item) -> Result<(), AllocError>
+    pub(crate) fn push(&mut self, item: Item) -> Result<(), AllocError>
         ensures { OnOk result (self.new ≡ self.old ++ item ∷ []) }
     {
         let place = item.partition as usize;

@@ -11,7 +11,7 @@ use kp_wire::Text;
 use std::alloc::{AllocError, Global};
 
 /// What a schedule's producer calls its topic and itself.
-pub fn names_of_all(alloc: Global) -> Result<Names, AllocError>
+pub(crate) fn names_of_all(alloc: Global) -> Result<Names, AllocError>
     ensures { IfOk result (λ made. made ≡ names) }
 {
     Ok(Names {
@@ -21,7 +21,7 @@ pub fn names_of_all(alloc: Global) -> Result<Names, AllocError>
 }
 
 /// Nothing was accepted of any of so many senders.
-pub fn nothing_accepted(alloc: Global, senders: u32) -> Result<Vec<Accepted>, AllocError>
+pub(crate) fn nothing_accepted(alloc: Global, senders: u32) -> Result<Vec<Accepted>, AllocError>
     ensures { IfOk result (λ lists. lists.items ≡ replicate senders []) }
 {
     let mut lists = Vec::with_capacity(alloc, senders as usize)?;
@@ -32,7 +32,7 @@ pub fn nothing_accepted(alloc: Global, senders: u32) -> Result<Vec<Accepted>, Al
 }
 
 /// Nothing was taken of any of so many senders.
-pub fn nothing_taken(alloc: Global, senders: u32) -> Result<Vec<usize>, AllocError>
+pub(crate) fn nothing_taken(alloc: Global, senders: u32) -> Result<Vec<usize>, AllocError>
     ensures { IfOk result (λ counts. counts.items ≡ replicate senders 0) }
 {
     let mut counts = Vec::with_capacity(alloc, senders as usize)?;
@@ -43,7 +43,7 @@ pub fn nothing_taken(alloc: Global, senders: u32) -> Result<Vec<usize>, AllocErr
 }
 
 /// The logs of so many partitions, with no record.
-pub fn empty_logs(alloc: Global, partitions: u32) -> Result<Vec<PartitionLog>, AllocError>
+pub(crate) fn empty_logs(alloc: Global, partitions: u32) -> Result<Vec<PartitionLog>, AllocError>
     ensures { IfOk result (λ logs. logs.items ≡ replicate partitions empty) }
 {
     let mut logs = Vec::with_capacity(alloc, partitions as usize)?;

@@ -40,7 +40,7 @@ impl Draft {
     ghost use Rattle.kp_schedule.specs.Reading.{drafted};
 
     /// No line was read.
-    pub fn new(alloc: Global) -> Draft
+    pub(crate) fn new(alloc: Global) -> Draft
         ensures { result ≡ drafted [] }
     {
         Draft {

@@ -24,7 +24,7 @@ fn cut_word(line: &str) -> (&str, Option<&str>)
 }
 
 /// The words of a line, unless they are too many. Between two words stands one blank.
-pub fn words_of(line: &str) -> Option<Words<'_>>
+pub(crate) fn words_of(line: &str) -> Option<Words<'_>>
     ensures { MatchOption result (4 < length (words line.now)) (λ ws. texts ws ≡ words line.now) }
 {
     let (first, behind) = cut_word(line);

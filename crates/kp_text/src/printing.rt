@@ -105,7 +105,7 @@ pub fn put_batch_line(out: &mut Vec<u8>, size: u64, count: u64) -> Result<(), Al
     put_number(out, size)?;
     out.extend_from_slice(b" records ")?;
     put_number(out, count)?;
-    out.extend_from_slice(b"\n")
+    end_line(out)
 }
 
 /// A log's answer: Kafka's code, and the first record's offset.
@@ -116,7 +116,7 @@ pub fn put_answer_line(out: &mut Vec<u8>, code: i16, base: i64) -> Result<(), Al
     put_number(out, code)?;
     out.extend_from_slice(b" ")?;
     put_number(out, base)?;
-    out.extend_from_slice(b"\n")
+    end_line(out)
 }
 
 /// A value of a partition's log, at its offset.
@@ -134,5 +134,5 @@ pub fn put_log_line(
     put_number(out, offset)?;
     out.extend_from_slice(b" ")?;
     put_printed(out, value)?;
-    out.extend_from_slice(b"\n")
+    end_line(out)
 }
