@@ -12,10 +12,11 @@ use std::alloc::AllocGlobal;
 use std::net::{Net, SocketAddr};
 use std::random::RandomSource;
 use std::sync::Wait;
+use std::thread::Threads;
 use std::time::{Clock, Duration};
 use std::{io, thread};
 use tokio::net::TcpStream;
-use tokio::runtime::LocalRuntime;
+use tokio::runtime::{Builder, Runtime};
 
 /// The way to a broker.
 #[derive(Clone, Copy, Debug)]
@@ -26,9 +27,9 @@ pub(crate) struct Way {
 }
 
 /// A connection to the broker.
-fn connect<R>(rt: &R, runtime: &mut LocalRuntime, way: Way) -> io::Result<TcpStream>
+fn connect<R>(rt: &R, runtime: &mut Runtime, way: Way) -> io::Result<TcpStream>
 where
-    R: Wait + Clock + RandomSource + AllocGlobal + Net,
+    R: Wait + Threads + Clock + RandomSource + AllocGlobal + Sync + Net,
 {
     let connecting = TcpStream::connect(rt, way.address, runtime.handle().reactor());
     let timed = runtime
@@ -49,12 +50,12 @@ where
 /// distances as the policy has it.
 pub(crate) fn connect_first<R>(
     rt: &R,
-    runtime: &mut LocalRuntime,
+    runtime: &mut Runtime,
     way: Way,
     again: &mut Again,
 ) -> Option<Plain<TcpStream>>
 where
-    R: Wait + Clock + RandomSource + AllocGlobal + Net,
+    R: Wait + Threads + Clock + RandomSource + AllocGlobal + Sync + Net,
     ensures spent { IfNone result (limit_of again.old.policy ≤ again.new.made) }
     ensures same { again.new.policy ≡ again.old.policy }
 {
@@ -67,12 +68,12 @@ where
 /// A new connection in place of one that was lost. None where the policy allows no more.
 pub(crate) fn connect_again<R>(
     rt: &R,
-    runtime: &mut LocalRuntime,
+    runtime: &mut Runtime,
     way: Way,
     again: &mut Again,
 ) -> Option<Plain<TcpStream>>
 where
-    R: Wait + Clock + RandomSource + AllocGlobal + Net,
+    R: Wait + Threads + Clock + RandomSource + AllocGlobal + Sync + Net,
     ensures spent { IfNone result (limit_of again.old.policy ≤ again.new.made) }
     ensures same { again.new.policy ≡ again.old.policy }
 {
@@ -91,10 +92,10 @@ where
 /// Asks the broker for the topic's partitions and for a producer id, over a connection that ends with this.
 pub(crate) fn greet<R>(rt: &R, way: Way, names: Names) -> Result<Hello, OpenFault>
 where
-    R: Wait + Clock + RandomSource + AllocGlobal + Net,
+    R: Wait + Threads + Clock + RandomSource + AllocGlobal + Sync + Net,
     ensures later { IfErr result IsLater }
 {
-    let mut runtime = LocalRuntime::new(rt)?;
+    let mut runtime = Builder::new_current_thread().build(rt)?;
     let inner = connect(rt, &mut runtime, way)?;
     let greeting = Handshake::new(rt.alloc(), Plain { inner }, names);
     let timed = runtime.handle().time().timeout(rt, way.patience, greeting)?;

@@ -22,6 +22,7 @@ use std::alloc::{AllocError, AllocFailed, AllocGlobal, Global};
 use std::net::{Net, SocketAddr};
 use std::random::RandomSource;
 use std::sync::{Arc, Wait};
+use std::thread::Threads;
 use std::time::{Clock, Instant};
 
 /// A producer: the handles of its senders, each for a thread of its own, what closes it, and the service that sends for
@@ -57,7 +58,7 @@ impl Opened {
 /// opens the lanes. Nothing is sent before the service runs.
 pub fn open<R>(rt: &R, address: SocketAddr, settings: Settings) -> Result<Opened, OpenFault>
 where
-    R: Wait + Clock + RandomSource + AllocGlobal + Net,
+    R: Wait + Threads + Clock + RandomSource + AllocGlobal + Sync + Net,
     ensures opened { IfOk result (IsOpen address settings) }
 
     // A fault of the settings is looked for first, and told just where there is one.

@@ -24,9 +24,10 @@ use std::alloc::{AllocGlobal, Global};
 use std::net::Net;
 use std::random::RandomSource;
 use std::sync::{Arc, Wait};
+use std::thread::Threads;
 use std::time::Clock;
 use tokio::net::TcpStream;
-use tokio::runtime::LocalRuntime;
+use tokio::runtime::{Builder, Runtime};
 
 /// What sends for all senders of a producer. It is run on a thread of its own, which makes its own connection.
 #[derive(Drop)]
@@ -113,7 +114,7 @@ impl Service {
     /// left comes back. Senders that wait are told that it has ended.
     pub fn run<R>(self, rt: &R) -> Result<Ended, ServiceFault>
     where
-        R: Wait + Clock + RandomSource + AllocGlobal + Net,
+        R: Wait + Threads + Clock + RandomSource + AllocGlobal + Sync + Net,
         ensures { IfOk result (λ ended. lanes_of (parts_in ended).intake ≡ lanes_of (intake_of self)) }
     {
         let Service {
@@ -142,11 +143,11 @@ fn serve<R>(
     shared: &Shared,
 ) -> Result<Ended, ServiceFault>
 where
-    R: Wait + Clock + RandomSource + AllocGlobal + Net,
+    R: Wait + Threads + Clock + RandomSource + AllocGlobal + Sync + Net,
     requires { MayTurn core intake }
     ensures { IfOk result (λ ended. lanes_of (parts_in ended).intake ≡ lanes_of intake) }
 {
-    let Ok(mut runtime) = LocalRuntime::new(rt) else {
+    let Ok(mut runtime) = Builder::new_current_thread().build(rt) else {
         return Ok(Ended::unserved(alloc, core, intake, Ending::OutOfMemory));
     };
     let mut again = again;
@@ -172,13 +173,13 @@ type Served<'a, R> = Tended<'a, Plain<TcpStream>, Millis<'a, R>>;
 /// Serves over one connection after the other.
 fn serve_on<'a, R>(
     rt: &'a R,
-    runtime: &mut LocalRuntime,
+    runtime: &mut Runtime,
     way: Way,
     shared: &'a Shared,
     tended: Served<'a, R>,
 ) -> Result<Ended, ServiceFault>
 where
-    R: Wait + Clock + RandomSource + AllocGlobal + Net,
+    R: Wait + Threads + Clock + RandomSource + AllocGlobal + Sync + Net,
     requires serves { Serves (lanes_in tended.engine) tended.engine }
     requires stream { HasStream tended.engine }
     ensures { IfOk result (λ ended. lanes_of (parts_in ended).intake ≡ lanes_in tended.entry.engine) }
@@ -207,12 +208,12 @@ where
 /// Runs the engine to its next stop. None, where there is no memory to run it in.
 fn run_once<'a, R>(
     rt: &'a R,
-    runtime: &mut LocalRuntime,
+    runtime: &mut Runtime,
     shared: &'a Shared,
     tended: Served<'a, R>,
 ) -> Result<(Served<'a, R>, Option<Stop>), ServiceFault>
 where
-    R: Wait + Clock + RandomSource + AllocGlobal + Net,
+    R: Wait + Threads + Clock + RandomSource + AllocGlobal + Sync + Net,
     requires { HasStream tended.engine }
     ensures served { IfOk result (λ out. GoesOn tended.entry.engine out.0.engine) }
     ensures stopped { IfOk result (λ out. StoppedFor out.1 out.0.engine) }

@@ -97,7 +97,7 @@ where
 /// Runs the service, once the senders run.
 fn serve<R>(rt: &R, service: Service, begun: &Begun) -> Result<Ended, RunFault>
 where
-    R: Wait + Clock + RandomSource + AllocGlobal + Net,
+    R: Wait + Threads + Clock + RandomSource + AllocGlobal + Sync + Net,
     ensures { IfOk result (λ ended. lanes_of (parts_in ended).intake ≡ lanes_of (intake_of service)) }
 {
     if !begun.wait(rt) {
