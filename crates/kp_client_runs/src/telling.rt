@@ -74,7 +74,7 @@ where
 /// Prints why a producer is not opened.
 fn tell_fault<R>(rt: &R, address: SocketAddr, settings: Settings) -> Result<(), Wrong>
 where
-    R: Wait + Clock + RandomSource + AllocGlobal + Print,
+    R: Wait + Threads + Clock + RandomSource + AllocGlobal + Sync + Print,
     R: Net<Listener = TcpListener, Stream = TcpStream>,
 {
     match open(rt, address, settings) {
@@ -87,7 +87,7 @@ where
 /// Faults of a broker that is there, that is not there, and that says nothing.
 fn tell_faults<R>(rt: &R, address: SocketAddr) -> Result<(), Wrong>
 where
-    R: Wait + Clock + RandomSource + AllocGlobal + Print,
+    R: Wait + Threads + Clock + RandomSource + AllocGlobal + Sync + Print,
     R: Net<Listener = TcpListener, Stream = TcpStream>,
 {
     let mut many = settings(rt.alloc())?;
@@ -102,7 +102,7 @@ where
 
 fn tell_silent<R>(rt: &R) -> Result<(), Wrong>
 where
-    R: Wait + Clock + RandomSource + AllocGlobal + Print,
+    R: Wait + Threads + Clock + RandomSource + AllocGlobal + Sync + Print,
     R: Net<Listener = TcpListener, Stream = TcpStream>,
 {
     let listener = TcpListener::bind(rt, SocketAddr::from((Ipv4Addr::LOCALHOST, 0)))?;
