@@ -8,7 +8,7 @@ use kp_schedule::{ReplayFault, parse_schedule};
 use std::alloc::Global;
 
 /// The text of what a schedule brings about.
-pub fn replay_text(alloc: Global, bytes: &[u8]) -> Result<Vec<u8>, ReplayFault>
+pub(crate) fn replay_text(alloc: Global, bytes: &[u8]) -> Result<Vec<u8>, ReplayFault>
     ensures { IfOk result (λ text. IsReplayOf bytes.now text.items) }
 {
     let schedule = parse_schedule(alloc, bytes)?;
