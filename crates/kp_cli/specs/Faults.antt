@@ -1,7 +1,9 @@
--- The line that a fault is told by, and the fault that a run's or a replay's is told as.
+-- The line that a fault is told by, and the fault that a packing's, a run's or a replay's is told as.
 use Rattle.std.specs.Prelude.{ℕ, List, [], ◌++◌, codes, decimal}
 use Rattle.kp_cli.specs.declared.fault.Fault.{Fault}
 use Rattle.kp_cli.specs.declared.fault.Fault.TheVariants.{CannotRead, OutOfMemory, TooLarge, Topic, Plan, Config, Network, Handshake, BadLine, NoSuch, TooLong, NotText, CannotWrite}
+use Rattle.kp_cli.specs.declared.fault.PackFault.{PackFault}
+use Rattle.kp_cli.specs.declared.fault.PackFault.TheVariants as pack
 use Rattle.kp_accum.specs.Config.{number_of}
 use Rattle.kp_connection.specs.Fault.{fault_number}
 use Rattle.kp_run.specs.declared.fault.RunFault.{RunFault}
@@ -9,6 +11,10 @@ use Rattle.kp_run.specs.declared.fault.RunFault.TheVariants as run
 use Rattle.kp_schedule.specs.declared.fault.ReplayFault.{ReplayFault}
 use Rattle.kp_schedule.specs.declared.fault.ReplayFault.TheVariants as replay
 use Rattle.kp_text.specs.Lines.{newline}
+
+abbrev pub of_pack : PackFault → Fault
+of_pack pack.OutOfMemory = OutOfMemory
+of_pack pack.TooLarge = TooLarge
 
 -- of the configuration and of the handshake a fault is told by its number
 abbrev pub of_run : RunFault → Fault

@@ -2,7 +2,7 @@
 
 ghost use Rattle.std.specs.Prelude.{◌≡◌, ◌++◌, OnOk, codes, decimal};
 ghost use Rattle.std.specs.Io.KnownBytes.{Appends};
-ghost use Rattle.kp_cli.specs.Faults.{fault_line, of_replay, of_run};
+ghost use Rattle.kp_cli.specs.Faults.{fault_line, of_pack, of_replay, of_run};
 ghost use Rattle.kp_text.specs.Lines.{newline};
 ghost use Rattle.kp_cli.specs.declared.fault.PackFault.TheVariants as pack_fault;
 
@@ -68,6 +68,8 @@ impl From<LogFault> for PackFault {
 }
 
 impl<'a> From<PackFault> for Fault<'a> {
+    ghost from_gives = { λ fault e. e ≡ of_pack fault };
+
     fn from(fault: PackFault) -> Fault<'a> {
         match fault {
             PackFault::OutOfMemory => Fault::OutOfMemory,

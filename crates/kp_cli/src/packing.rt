@@ -13,6 +13,9 @@ use kp_batch::{Record, SIZE_LIMIT, batch_size};
 use kp_text::put_batch_line;
 use std::alloc::{AllocError, Global};
 
+// The greatest int32.
+const _: () = prove!(SIZE_LIMIT == 2147483647);
+
 /// A size that a batch may have.
 pub fn within_limit(size: u64) -> Result<u64, PackFault>
     ensures { MatchResult result (λ same. (same ≡ size) × (size ≤ SIZE_LIMIT))
