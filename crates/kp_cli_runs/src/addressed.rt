@@ -1,5 +1,7 @@
 //! Runs of lines to a broker at an address.
 
+ghost use Rattle.std.specs.Prelude.{◌≤◌};
+
 use crate::calling::{Ended, call};
 use kp_broker::{Broker, FaultPlan};
 use std::alloc::{AllocError, Global};
@@ -30,7 +32,10 @@ where
 }
 
 /// A broker of the topic `t`.
-fn broker_of(alloc: Global, partitions: u32, port: u16) -> io::Result<Broker> {
+fn broker_of(alloc: Global, partitions: u32, port: u16) -> io::Result<Broker>
+    requires some { 1 ≤ partitions }
+    requires few { partitions ≤ 2 }
+{
     match Broker::new(alloc, "t", partitions, port) {
         Ok(broker) => Ok(broker),
         Err(_) => Err(ErrorKind::OutOfMemory.into()),
@@ -62,6 +67,8 @@ struct Asked<'a> {
     /// How many the broker serves.
     connections: u32,
     input: &'a [u8],
+    ghost some: { 1 ≤ partitions },
+    ghost few: { partitions ≤ 2 },
 }
 
 /// Makes the run, with its broker in a thread. Gives what the call left, and the broker.
@@ -135,6 +142,8 @@ fn tell_refused<R>(
 where
     R: Files + Wait + Threads + Clock + RandomSource + AllocGlobal + Sync,
     R: Net<Listener = TcpListener, Stream = TcpStream>,
+    requires some { 1 ≤ partitions }
+    requires few { partitions ≤ 2 }
 {
     writeln!(
         text,
