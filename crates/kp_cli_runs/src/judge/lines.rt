@@ -7,7 +7,7 @@ pub(crate) const SENDERS: u32 = 8;
 pub(crate) const PARTITIONS: u32 = 16;
 
 /// Where a line belongs: it is a sender's record of this number in a partition.
-#[derive(Clone, Copy, Debug, PartialEq, Eq)]
+#[derive(Clone, Copy, PartialEq)]
 pub(crate) struct Place {
     pub(crate) sender: u32,
     pub(crate) partition: u32,
