@@ -1,7 +1,7 @@
 //! Schedules, replayed.
 
-ghost use Rattle.std.specs.Prelude.{IfOk};
-ghost use Rattle.kp_cli.specs.Replays.{IsReplayOf};
+ghost use Rattle.std.specs.Prelude.{IfErr, IfOk};
+ghost use Rattle.kp_cli.specs.Replays.{IsReplayOf, IsWhy};
 
 use kp_replay::replay;
 use kp_schedule::{ReplayFault, parse_schedule};
@@ -9,7 +9,8 @@ use std::alloc::Global;
 
 /// The text of what a schedule brings about.
 pub(crate) fn replay_text(alloc: Global, bytes: &[u8]) -> Result<Vec<u8>, ReplayFault>
-    ensures { IfOk result (λ text. IsReplayOf bytes.now text.items) }
+    ensures text { IfOk result (λ text. IsReplayOf bytes.now text.items) }
+    ensures why { IfErr result (IsWhy bytes.now) }
 {
     let schedule = parse_schedule(alloc, bytes)?;
     let world = replay(alloc, schedule)?;
