@@ -23,8 +23,8 @@ use std::time::{Clock, Duration};
 const PATIENCE: u64 = 100;
 
 /// How long it is until a record is sent again whose lane was full, in microseconds. The engine takes some hundred records
-/// in that time, and would take fewer if it had to wake each sender for which it made room.
-const NAP: u64 = 500;
+/// in that time, about as many as a lane holds, and would take fewer if it had to wake each sender for which it made room.
+const NAP: u64 = 200;
 
 /// How long it is until a flush is asked for again, in milliseconds.
 const FLUSH_WAIT: u64 = 1;
