@@ -1,54 +1,52 @@
 //! A log that several producers share.
 
-use super::*;
+use crate::tests::steps::Step::{self, Offer, Others, Own, Owned, Segments};
+use crate::tests::steps::plays;
+use std::test::Fail;
 
 /// This producer's record, two of another, two of this producer.
 #[test]
 fn own_offsets_pass_over_anothers_records(rt: HostRuntime) -> Result<(), Fail> {
-    let mut log = PartitionLog::new(rt.alloc());
-    assert_eq!(rt; offer(rt.alloc(), &mut log, 1000, 0, 1)?, (0, 0));
-    append_others(rt.alloc(), &mut log, 2)?;
-    assert_eq!(rt; offer(rt.alloc(), &mut log, 1000, 1, 2)?, (0, 3));
-    assert_eq!(rt; log.own(1000)?.as_slice(), [0, 3, 4].as_slice());
-    assert_eq!(rt; log.own(-1)?.as_slice(), [1, 2].as_slice());
-    assert_eq!(rt; log.own(1001)?.len(), 0);
-    let owners = [1000, -1, -1, 1000, 1000];
-    for (offset, owner) in owners.iter().enumerate() {
-        let stored = log.get(offset as u64);
-        assert_eq!(rt;
-            stored.map(|stored| stored.producer_id),
-            Some(*owner),
-            "at {offset}"
-        );
-    }
-    Ok(())
+    const STEPS: &[Step] = &[
+        Offer(1000, 0, 1, (0, 0)),
+        Others(2),
+        Offer(1000, 1, 2, (0, 3)),
+        Own(&[1000], &[0, 3, 4]),
+        Own(&[-1], &[1, 2]),
+        Own(&[1001], &[]),
+        Owned(0, 1000),
+        Owned(1, -1),
+        Owned(2, -1),
+        Owned(3, 1000),
+        Owned(4, 1000),
+    ];
+    plays(&rt, STEPS)
 }
 
 /// Two records under the first id and, under the one that the producer was given then, one.
 #[test]
 fn own_offsets_of_two_ids(rt: HostRuntime) -> Result<(), Fail> {
-    let mut log = PartitionLog::new(rt.alloc());
-    assert_eq!(rt; offer(rt.alloc(), &mut log, 1000, 0, 1)?, (0, 0));
-    assert_eq!(rt; offer(rt.alloc(), &mut log, 1000, 1, 1)?, (0, 1));
-    assert_eq!(rt; offer(rt.alloc(), &mut log, 1001, 0, 1)?, (0, 2));
-    assert_eq!(rt;
-        log.own_any(&[1000, 1001])?.as_slice(),
-        [0, 1, 2].as_slice()
-    );
-    assert_eq!(rt; log.own_any(&[1001])?.as_slice(), [2].as_slice());
-    assert_eq!(rt; log.own_any(&[])?.len(), 0);
-    Ok(())
+    const STEPS: &[Step] = &[
+        Offer(1000, 0, 1, (0, 0)),
+        Offer(1000, 1, 1, (0, 1)),
+        Offer(1001, 0, 1, (0, 2)),
+        Own(&[1000, 1001], &[0, 1, 2]),
+        Own(&[1001], &[2]),
+        Own(&[], &[]),
+    ];
+    plays(&rt, STEPS)
 }
 
 /// Over three segments, the last of which is not full.
 #[test]
 fn own_offsets_over_segments(rt: HostRuntime) -> Result<(), Fail> {
-    let mut log = PartitionLog::new(rt.alloc());
-    append_others(rt.alloc(), &mut log, 255)?;
-    assert_eq!(rt; offer(rt.alloc(), &mut log, 1000, 0, 2)?, (0, 255));
-    append_others(rt.alloc(), &mut log, 256)?;
-    assert_eq!(rt; offer(rt.alloc(), &mut log, 1000, 2, 1)?, (0, 513));
-    assert_eq!(rt; log.segments(), 3);
-    assert_eq!(rt; log.own(1000)?.as_slice(), [255, 256, 513].as_slice());
-    Ok(())
+    const STEPS: &[Step] = &[
+        Others(255),
+        Offer(1000, 0, 2, (0, 255)),
+        Others(256),
+        Offer(1000, 2, 1, (0, 513)),
+        Segments(3),
+        Own(&[1000], &[255, 256, 513]),
+    ];
+    plays(&rt, STEPS)
 }
