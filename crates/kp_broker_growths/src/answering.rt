@@ -4,8 +4,8 @@ use crate::frames::{
     APPENDED, DESCRIBED, FIRST_ID, INIT_PRODUCER_ID, METADATA, PRODUCE, SECOND_ID,
 };
 use crate::opening::{begins_with, lengths, made_broker};
-use crate::outcome::Outcome;
 use kp_broker::{Broker, BrokerFault};
+use kp_growing::Outcome;
 use std::alloc::Global;
 
 /// How many bytes stand before a frame's content: its size.

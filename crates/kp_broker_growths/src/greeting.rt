@@ -1,10 +1,10 @@
 //! A producer is introduced.
 
 use crate::frames::{GREETING, WELCOME};
-use crate::outcome::Outcome;
 use futures::task::{Context, Poll};
 use futures::test::MockTask;
 use kp_connection::{Handshake, HandshakeFault, Hello, Stream};
+use kp_growing::Outcome;
 use kp_rules::Names;
 use kp_wire::Text;
 use std::alloc::{AllocError, AllocGlobal, Global};

@@ -1,7 +1,7 @@
 //! A broker is opened.
 
-use crate::outcome::Outcome;
 use kp_broker::Broker;
+use kp_growing::Outcome;
 use std::alloc::{AllocError, Global};
 
 /// A broker of the topic "t" with two partitions.

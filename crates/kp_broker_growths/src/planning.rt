@@ -1,7 +1,7 @@
 //! A plan is read from its text.
 
-use crate::outcome::Outcome;
 use kp_broker::{Action, FaultPlan, PlanFault};
+use kp_growing::Outcome;
 use std::alloc::Global;
 
 /// A plan of sixteen entries, more than one node of its map holds.

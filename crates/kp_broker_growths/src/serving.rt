@@ -3,8 +3,8 @@
 use crate::answering::{has_both, has_first};
 use crate::frames::{APPENDED, DESCRIBED, FIRST_ID, INIT_PRODUCER_ID, METADATA, PRODUCE};
 use crate::opening::made_broker;
-use crate::outcome::Outcome;
 use kp_broker::{Broker, BrokerFault, FaultPlan, Served};
+use kp_growing::Outcome;
 use std::alloc::Global;
 use std::io::{self, Read};
 

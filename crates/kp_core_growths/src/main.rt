@@ -5,7 +5,6 @@
 #![tactic(auto)]
 
 mod making;
-mod outcome;
 mod playing;
 mod reading;
 mod schedules;
@@ -13,13 +12,13 @@ mod seen;
 mod step;
 
 use crate::making::made_core;
-use crate::outcome::Outcome;
 use crate::playing::take;
 use crate::schedules::schedule_of;
-use crate::step::{Schedule, Step};
+use crate::step::Step;
 use kp_core::Core;
-use std::alloc::{AllocError, Global};
-use std::io::{self, Read};
+use kp_growing::{Outcome, ask, tell};
+use std::alloc::Global;
+use std::io;
 use std::process::ExitCode;
 
 /// Takes the steps, up to the first that goes wrong.
@@ -34,59 +33,19 @@ fn play(alloc: Global, core: &mut Core, steps: &[Step]) -> Outcome {
     outcome
 }
 
-/// Takes the schedule's steps, from a new core on.
-fn outcome_of(alloc: Global, schedule: &Schedule) -> Outcome {
-    match made_core(alloc, schedule) {
-        Some((mut core, made)) => made.and(play(alloc, &mut core, schedule.steps)),
-        None => Outcome::Wrong,
+/// Takes the steps of the schedule of this name, from a new core on.
+fn outcome_of(alloc: Global, name: &[u8]) -> Option<Outcome> {
+    let schedule = schedule_of(name)?;
+    match made_core(alloc, &schedule) {
+        Some((mut core, made)) => Some(made.and(play(alloc, &mut core, schedule.steps))),
+        None => Some(Outcome::Wrong),
     }
-}
-
-/// The number that the text spells, as far as it has digits.
-fn number_of(text: &[u8]) -> u16 {
-    text.iter()
-        .take_while(|byte| byte.is_ascii_digit())
-        .fold(0u16, |n, digit| {
-            n.wrapping_mul(10).wrapping_add(u16::from(*digit & 0x0f))
-        })
-}
-
-/// Makes so many growths.
-fn grow_first(alloc: Global, count: u16) -> Result<(), AllocError> {
-    for _ in 0..count {
-        let _ = Vec::<u8>::with_capacity(alloc, 1)?;
-    }
-    Ok(())
-}
-
-/// The schedule that the text names, and the number behind it.
-fn asked_for(text: &[u8]) -> Option<(Schedule, u16)> {
-    let place = text.iter().position(|byte| *byte == b' ')?;
-    let (name, number) = text.split_at_checked(place)?;
-    Some((schedule_of(name)?, number_of(number.get(1..)?)))
 }
 
 fn main(rt: HostRuntime) -> io::Result<ExitCode> {
-    let mut text = [0u8; 32];
-    let len = rt.reader().read(&mut text)?;
-    let Some((schedule, number)) = asked_for(&text[..len]) else {
-        return Ok(ExitCode::from(2));
+    let outcome = match ask(&rt)? {
+        Some(asked) => outcome_of(rt.alloc(), asked.work()),
+        None => None,
     };
-    if grow_first(rt.alloc(), number).is_err() {
-        return Ok(ExitCode::from(4));
-    }
-    match outcome_of(rt.alloc(), &schedule) {
-        Outcome::Right => {
-            println!(rt; "right")?;
-            Ok(ExitCode::SUCCESS)
-        }
-        Outcome::Refused => {
-            println!(rt; "out of memory")?;
-            Ok(ExitCode::from(3))
-        }
-        Outcome::Wrong => {
-            println!(rt; "wrong")?;
-            Ok(ExitCode::from(5))
-        }
-    }
+    tell(&rt, outcome.map(|outcome| outcome.name()))
 }

@@ -1,6 +1,5 @@
 //! Items, cores and replies, made again where memory was refused.
 
-use crate::outcome::Outcome;
 use crate::step::{Answer, Given, Letter, Schedule};
 use kp_accum::Item;
 use kp_batch::{Record, Timestamp};
@@ -9,6 +8,7 @@ use kp_frames::{
     InitProducerIdResponse, PartitionProduceResponse, ProduceResponse, Response, ResponseBody,
     TopicProduceResponse, write_response,
 };
+use kp_growing::Outcome;
 use kp_wire::{Blob, Seq, Text};
 use std::alloc::{AllocError, Global};
 

@@ -1,12 +1,12 @@
 //! Steps taken: what takes memory is called again where memory was refused, and the core was as it was.
 
 use crate::making::{is_item, made_id_reply, made_item, made_reply};
-use crate::outcome::Outcome;
 use crate::reading::{asks_for_id, has_batches};
 use crate::seen::{Seen, audit_of, ids_of, look};
 use crate::step::{Answer, Given, Letter, Sent, Step, Told};
 use kp_accum::{AppendFault, Item};
 use kp_core::{Core, CoreFault, Outgoing, Replied, Report};
+use kp_growing::Outcome;
 use std::alloc::Global;
 
 /// How many bytes stand before a frame's content: its size.

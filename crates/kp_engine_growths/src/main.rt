@@ -7,45 +7,20 @@
 mod clock;
 mod far;
 mod making;
-mod outcome;
 mod playing;
 mod producer;
 mod schedules;
 mod settling;
 mod tally;
 
-use crate::outcome::Outcome;
 use crate::playing::play;
-use crate::schedules::{Schedule, schedule_of};
+use crate::schedules::schedule_of;
 use futures::test::MockTask;
-use std::alloc::{AllocError, AllocGlobal, Global};
-use std::io::{self, Read};
+use kp_growing::{Outcome, ask, tell};
+use std::alloc::AllocGlobal;
+use std::io;
 use std::process::ExitCode;
 use std::random::RandomSource;
-
-/// The number that the text spells, as far as it has digits.
-fn number_of(text: &[u8]) -> u16 {
-    text.iter()
-        .take_while(|byte| byte.is_ascii_digit())
-        .fold(0u16, |n, digit| {
-            n.wrapping_mul(10).wrapping_add(u16::from(*digit & 0x0f))
-        })
-}
-
-/// Makes so many growths.
-fn grow_first(alloc: Global, count: u16) -> Result<(), AllocError> {
-    for _ in 0..count {
-        let _ = Vec::<u8>::with_capacity(alloc, 1)?;
-    }
-    Ok(())
-}
-
-/// The schedule that the text names, and the number behind it.
-fn asked_for(text: &[u8]) -> Option<(Schedule, u16)> {
-    let place = text.iter().position(|byte| *byte == b' ')?;
-    let (name, number) = text.split_at_checked(place)?;
-    Some((schedule_of(name)?, number_of(number.get(1..)?)))
-}
 
 /// A task, and whether memory was refused on the way.
 fn made_task<R: RandomSource + AllocGlobal>(rt: &R) -> Option<(MockTask, Outcome)> {
@@ -55,36 +30,20 @@ fn made_task<R: RandomSource + AllocGlobal>(rt: &R) -> Option<(MockTask, Outcome
     }
 }
 
-/// What the schedule comes to.
-fn outcome_of<R: RandomSource + AllocGlobal>(rt: &R, schedule: Schedule) -> Outcome {
+/// What the schedule of this name comes to.
+fn outcome_of<R: RandomSource + AllocGlobal>(rt: &R, name: &[u8]) -> Option<Outcome> {
+    let schedule = schedule_of(name)?;
     let alloc = rt.alloc();
     match made_task(rt) {
-        Some((task, made)) => made.and(task.enter(|cx| play(alloc, cx, schedule))),
-        None => Outcome::Wrong,
+        Some((task, made)) => Some(made.and(task.enter(|cx| play(alloc, cx, schedule)))),
+        None => Some(Outcome::Wrong),
     }
 }
 
 fn main(rt: HostRuntime) -> io::Result<ExitCode> {
-    let mut text = [0u8; 32];
-    let len = rt.reader().read(&mut text)?;
-    let Some((schedule, number)) = asked_for(&text[..len]) else {
-        return Ok(ExitCode::from(2));
+    let outcome = match ask(&rt)? {
+        Some(asked) => outcome_of(&rt, asked.work()),
+        None => None,
     };
-    if grow_first(rt.alloc(), number).is_err() {
-        return Ok(ExitCode::from(4));
-    }
-    match outcome_of(&rt, schedule) {
-        Outcome::Right => {
-            println!(rt; "right")?;
-            Ok(ExitCode::SUCCESS)
-        }
-        Outcome::Refused => {
-            println!(rt; "out of memory")?;
-            Ok(ExitCode::from(3))
-        }
-        Outcome::Wrong => {
-            println!(rt; "wrong")?;
-            Ok(ExitCode::from(5))
-        }
-    }
+    tell(&rt, outcome.map(|outcome| outcome.name()))
 }

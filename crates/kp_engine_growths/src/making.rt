@@ -7,13 +7,13 @@ ghost use Rattle.kp_lanes.specs.Sender.{IsSenderOf};
 
 use crate::clock::Ticks;
 use crate::far::Far;
-use crate::outcome::Outcome;
 use crate::producer::Producer;
 use crate::schedules::Schedule;
 use kp_accum::Config;
 use kp_batch::{Record, Timestamp};
 use kp_core::{Core, Names};
 use kp_engine::Engine;
+use kp_growing::Outcome;
 use kp_lanes::{Closer, Intake, Sender, open_lanes};
 use kp_wire::{Blob, Seq, Text};
 use std::alloc::{AllocError, Global};

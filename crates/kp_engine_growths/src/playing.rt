@@ -1,7 +1,6 @@
 //! Steps taken, up to the one in which memory was refused for good.
 
 use crate::making::{made_producer, made_record};
-use crate::outcome::Outcome;
 use crate::producer::Producer;
 use crate::schedules::{Schedule, Step};
 use crate::settling::is_settled;
@@ -9,6 +8,7 @@ use crate::tally::{Tally, letter_of};
 use futures::task::{Context, Poll};
 use kp_core::{Outcome as Told, Report};
 use kp_engine::{Cause, Stop};
+use kp_growing::Outcome;
 use std::alloc::Global;
 
 /// How far a schedule has come.

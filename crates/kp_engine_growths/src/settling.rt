@@ -5,11 +5,11 @@ ghost use Rattle.kp_lanes.specs.Intake.{lanes_of};
 ghost use Rattle.kp_lanes.specs.Sender.{IsSenderOf};
 ghost use Rattle.kp_lanes.specs.Settling.{IsOf};
 
-use crate::outcome::Outcome;
 use crate::producer::Producer;
 use crate::tally::Tally;
 use kp_core::{Core, Report};
 use kp_engine::Parts;
+use kp_growing::Outcome;
 use kp_lanes::{Finished, Intake, Sender, SettleFault, Settled};
 use std::alloc::{AllocError, Global};
 

@@ -1,10 +1,10 @@
 //! Frames that are read and written back.
 
-use crate::Outcome;
 use kp_frames::{
     Api, FrameFault, Request, RequestBody, Response, ResponseBody, Splitter, read_request,
     read_response, write_request, write_response,
 };
+use kp_growing::Outcome;
 use std::alloc::{AllocError, Global};
 
 /// How many bytes stand before a frame's content: its size.

@@ -5,9 +5,9 @@ ghost use Rattle.kp_lanes.specs.Intake.{lanes_of};
 ghost use Rattle.kp_lanes.specs.Sender.{IsSenderOf, SameSender};
 ghost use Rattle.kp_lanes.specs.Settling.{IsOf};
 
-use crate::Outcome;
 use kp_accum::Item;
 use kp_batch::{Record, Timestamp};
+use kp_growing::Outcome;
 use kp_lanes::{Finished, Intake, OpenFault, Sender, SettleFault, Settled, Target, open_lanes};
 use kp_rules::{Outcome as Told, Report};
 use kp_wire::Seq;

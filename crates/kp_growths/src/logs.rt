@@ -1,7 +1,8 @@
 //! The calls of a log of two segments that take memory.
 
-use crate::{HEAD, Outcome};
+use crate::HEAD;
 use kp_batch::{Record, Timestamp};
+use kp_growing::Outcome;
 use kp_log::{Answer, ErrorCode, LogFault, PartitionLog, Whim};
 use kp_wire::Seq;
 use std::alloc::{AllocError, Global};

@@ -1,5 +1,5 @@
 //! Calls that take memory, each once, for runs in which one growth is refused: each answer is the right one,
-//! or out of memory and then, asked again, the right one. Standard input may hold a number: so many growths
+//! or out of memory and then, asked again, the right one. Standard input is a work's name and a number: so many growths
 //! are made first, so that a run which always refuses the same growth refuses each of the calls' own in turn.
 #![tactic(auto)]
 
@@ -13,47 +13,12 @@ use kp_batch::{
     Batch, BatchFault, BatchHead, Header, Record, SIZE_LIMIT, Timestamp, batch_size, charge,
     read_batch, write_batch,
 };
+use kp_growing::{Outcome, ask, tell};
 use kp_log::{Answer, LogFault, PartitionLog};
 use kp_wire::{Blob, Seq, Text, put_nullable, put_string, put_varint, put_varlong};
 use std::alloc::{AllocError, Global};
-use std::io::{self, Read};
+use std::io;
 use std::process::ExitCode;
-
-/// What a call came to.
-#[derive(Clone, Copy, PartialEq, Eq)]
-enum Outcome {
-    Right,
-    /// Memory was refused, and nothing else went wrong.
-    Refused,
-    Wrong,
-}
-
-impl Outcome {
-    fn of(right: bool) -> Outcome {
-        if right {
-            Outcome::Right
-        } else {
-            Outcome::Wrong
-        }
-    }
-
-    /// The call's outcome, where this is the outcome of the same call, made again.
-    fn after_refusal(self) -> Outcome {
-        match self {
-            Outcome::Right => Outcome::Refused,
-            other => other,
-        }
-    }
-
-    /// The outcome of two calls.
-    fn and(self, other: Outcome) -> Outcome {
-        match (self, other) {
-            (Outcome::Right, Outcome::Right) => Outcome::Right,
-            (Outcome::Wrong, _) | (_, Outcome::Wrong) => Outcome::Wrong,
-            _ => Outcome::Refused,
-        }
-    }
-}
 
 const HEAD: BatchHead = BatchHead {
     producer_id: 1000,
@@ -278,41 +243,18 @@ fn outcome_of(alloc: Global) -> Outcome {
     Outcome::Right
 }
 
-/// The number that the text spells, as far as it has digits.
-fn number_of(text: &[u8]) -> u16 {
-    text.iter()
-        .take_while(|byte| byte.is_ascii_digit())
-        .fold(0u16, |n, digit| {
-            n.wrapping_mul(10).wrapping_add(u16::from(*digit & 0x0f))
-        })
-}
-
-/// Makes so many growths.
-fn grow_first(alloc: Global, count: u16) -> Result<(), AllocError> {
-    for _ in 0..count {
-        let _ = Vec::<u8>::with_capacity(alloc, 1)?;
+/// What the work of this name comes to, of which there is one.
+fn work_of(alloc: Global, name: &[u8]) -> Option<Outcome> {
+    match name {
+        b"calls" => Some(outcome_of(alloc)),
+        _ => None,
     }
-    Ok(())
 }
 
 fn main(rt: HostRuntime) -> io::Result<ExitCode> {
-    let mut text = [0u8; 4];
-    let len = rt.reader().read(&mut text)?;
-    if grow_first(rt.alloc(), number_of(&text[..len])).is_err() {
-        return Ok(ExitCode::from(4));
-    }
-    match outcome_of(rt.alloc()) {
-        Outcome::Right => {
-            println!(rt; "right")?;
-            Ok(ExitCode::SUCCESS)
-        }
-        Outcome::Refused => {
-            println!(rt; "out of memory")?;
-            Ok(ExitCode::from(3))
-        }
-        Outcome::Wrong => {
-            println!(rt; "wrong")?;
-            Ok(ExitCode::from(5))
-        }
-    }
+    let outcome = match ask(&rt)? {
+        Some(asked) => work_of(rt.alloc(), asked.work()),
+        None => None,
+    };
+    tell(&rt, outcome.map(|outcome| outcome.name()))
 }

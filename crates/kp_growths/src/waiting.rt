@@ -1,8 +1,9 @@
 //! The calls of an accumulator that take memory.
 
-use crate::{Outcome, is_sample};
+use crate::is_sample;
 use kp_accum::{Accum, AppendFault, Config, Item};
 use kp_batch::Record;
+use kp_growing::Outcome;
 use std::alloc::{AllocError, Global};
 
 /// A batch of two such items is full.

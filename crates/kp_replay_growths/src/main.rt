@@ -6,20 +6,12 @@
 mod works;
 
 use crate::works::{Work, work_of};
+use kp_growing::{Outcome, ask, tell};
 use kp_replay::replay;
 use kp_schedule::{ReplayFault, parse_schedule};
-use std::alloc::{AllocError, Global};
-use std::io::{self, Read};
+use std::alloc::Global;
+use std::io;
 use std::process::ExitCode;
-
-/// What a schedule came to.
-#[derive(Clone, Copy, PartialEq, Eq)]
-enum Outcome {
-    Right,
-    /// Memory was refused, and nothing else went wrong.
-    Refused,
-    Wrong,
-}
 
 fn text_of(alloc: Global, schedule: &[u8]) -> Result<Vec<u8>, ReplayFault> {
     let schedule = parse_schedule(alloc, schedule)?;
@@ -33,63 +25,23 @@ fn is_right(alloc: Global, work: Work) -> Result<bool, ReplayFault> {
     Ok(text.as_slice() == work.text)
 }
 
-/// Replays the schedule, once more where memory was refused.
-fn outcome_of(alloc: Global, work: Work) -> Outcome {
+/// Replays the schedule of this name, once more where memory was refused.
+fn outcome_of(alloc: Global, name: &[u8]) -> Option<Outcome> {
+    let work = work_of(name)?;
     match is_right(alloc, work) {
-        Ok(true) => Outcome::Right,
+        Ok(right) => Some(Outcome::of(right)),
         Err(ReplayFault::OutOfMemory) => match is_right(alloc, work) {
-            Ok(true) => Outcome::Refused,
-            _ => Outcome::Wrong,
+            Ok(right) => Some(Outcome::of(right).after_refusal()),
+            Err(_) => Some(Outcome::Wrong),
         },
-        _ => Outcome::Wrong,
+        Err(_) => Some(Outcome::Wrong),
     }
-}
-
-/// The number that the text spells, as far as it has digits.
-fn number_of(text: &[u8]) -> u16 {
-    text.iter()
-        .take_while(|byte| byte.is_ascii_digit())
-        .fold(0u16, |n, digit| {
-            n.wrapping_mul(10).wrapping_add(u16::from(*digit & 0x0f))
-        })
-}
-
-/// Makes so many growths.
-fn grow_first(alloc: Global, count: u16) -> Result<(), AllocError> {
-    for _ in 0..count {
-        let _ = Vec::<u8>::with_capacity(alloc, 1)?;
-    }
-    Ok(())
-}
-
-/// The schedule that the text names, and the number behind it.
-fn asked_for(text: &[u8]) -> Option<(Work, u16)> {
-    let place = text.iter().position(|byte| *byte == b' ')?;
-    let (name, number) = text.split_at_checked(place)?;
-    Some((work_of(name)?, number_of(number.get(1..)?)))
 }
 
 fn main(rt: HostRuntime) -> io::Result<ExitCode> {
-    let mut text = [0u8; 32];
-    let len = rt.reader().read(&mut text)?;
-    let Some((work, number)) = asked_for(&text[..len]) else {
-        return Ok(ExitCode::from(2));
+    let outcome = match ask(&rt)? {
+        Some(asked) => outcome_of(rt.alloc(), asked.work()),
+        None => None,
     };
-    if grow_first(rt.alloc(), number).is_err() {
-        return Ok(ExitCode::from(4));
-    }
-    match outcome_of(rt.alloc(), work) {
-        Outcome::Right => {
-            println!(rt; "right")?;
-            Ok(ExitCode::SUCCESS)
-        }
-        Outcome::Refused => {
-            println!(rt; "out of memory")?;
-            Ok(ExitCode::from(3))
-        }
-        Outcome::Wrong => {
-            println!(rt; "wrong")?;
-            Ok(ExitCode::from(5))
-        }
-    }
+    tell(&rt, outcome.map(|outcome| outcome.name()))
 }
