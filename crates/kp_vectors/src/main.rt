@@ -1,6 +1,7 @@
 //! Holds the codecs and hashes to what other clients agree on, and prints how many lines of each kind agree.
 //!
-//! `vectors.txt`, `batches.jsonl` and `frames.jsonl` lie in the folder where the program runs. The vectors are
+//! `vectors.txt`, `batches.jsonl` and `frames.jsonl` lie in the folder where the program runs, and files of the same names
+//! with wrong lines, which have to be found, in its folder `wrong`. The vectors are
 //! agreed by python3-kafka, librdkafka, the JDK and python3-crc32c, as far as each has the kind; the batches were
 //! written by python3-kafka; the frames were captured, the requests of a Go client (sarama), the responses of
 //! librdkafka's mock broker and of one that stood in for a broker.
@@ -13,8 +14,6 @@ mod frames;
 mod json;
 mod program;
 mod tally;
-#[cfg(test)]
-mod tests;
 mod vectors;
 
 use std::process::ExitCode;

@@ -3,11 +3,13 @@
 use crate::tests::samples::{core_of, singles};
 use crate::tests::scene::Scene;
 use crate::tests::steps::Step::{
-    self, Append, Audit, Counts, Due, Feed, Flushed, Hear, Ids, Lose, Send, Tick, Told, Unknown,
+    self, Append, Audit, Close, Counts, Due, End, Ending, Feed, Fetch, Flushed, Hear, Ids, Lose,
+    NoAudit, Send, Tick, Told, Unknown,
 };
 use crate::tests::steps::{play, plays};
 use kp_accum::Config;
-use kp_core::{Outcome, Report};
+use kp_core::Core;
+use std::process::Abort;
 use std::test::Fail;
 
 #[test]
@@ -28,12 +30,15 @@ fn a_new_core_has_done_nothing(rt: HostRuntime) -> Result<(), Fail> {
     plays(&rt, singles(), 3, 2, STEPS)
 }
 
+fn is_of<R: Abort>(rt: &R, core: &Core, config: Config, partitions: usize, senders: usize) {
+    let found = (*core.config(), core.partitions(), core.senders());
+    assert!(rt; found == (config, partitions, senders), "{found:?}");
+}
+
 #[test]
 fn a_core_is_as_it_was_asked_for(rt: HostRuntime) -> Result<(), Fail> {
     let core = core_of(rt.alloc(), singles(), 3, 2, 2, true)?;
-    assert_eq!(rt; *core.config(), singles());
-    assert_eq!(rt; core.partitions(), 3);
-    assert_eq!(rt; core.senders(), 2);
+    is_of(&rt, &core, singles(), 3, 2);
     Ok(())
 }
 
@@ -50,13 +55,14 @@ fn a_core_has_up_to_1024_partitions_and_64_senders(rt: HostRuntime) -> Result<()
 
 #[test]
 fn a_close_and_an_end_are_seen(rt: HostRuntime) -> Result<(), Fail> {
-    let mut core = core_of(rt.alloc(), singles(), 1, 1, 2, true)?;
-    assert!(rt; !core.is_closing() && !core.has_ended());
-    core.close();
-    assert!(rt; core.is_closing() && !core.has_ended());
-    assert_eq!(rt; core.end(), 0);
-    assert!(rt; core.is_closing() && core.has_ended());
-    Ok(())
+    const STEPS: &[Step<'static>] = &[
+        Ending(false, false),
+        Close,
+        Ending(true, false),
+        End(0),
+        Ending(true, true),
+    ];
+    plays(&rt, singles(), 1, 1, STEPS)
 }
 
 #[test]
@@ -86,31 +92,22 @@ fn requests_batches_attempts_and_items_are_counted(rt: HostRuntime) -> Result<()
 /// First in, first out, and each once; a sender has its own.
 #[test]
 fn each_sender_fetches_its_own_reports_in_their_order(rt: HostRuntime) -> Result<(), Fail> {
-    const BEFORE: &[Step<'static>] = &[
+    const STEPS: &[Step<'static>] = &[
         Append(0, 0, 0, 0, "a"),
         Append(1, 0, 0, 0, "b"),
         Append(0, 0, 1, 0, "c"),
         Append(1, 0, 1, 0, "d"),
         Send(0, "2 0:1000/0+a+b+c+d"),
         Hear(0, 2, &[(0, 0, 20)], 4),
-    ];
-    const AFTER: &[Step<'static>] = &[
+        Fetch(1, 0, 21),
+        Fetch(0, 0, 20),
+        Fetch(0, 1, 22),
+        Fetch(1, 1, 23),
         Told(0, ""),
         Told(1, ""),
         Audit(0, &[(0, 0, 1), (1, 0, 1), (0, 1, 1), (1, 1, 1)]),
     ];
-    let mut scene = Scene::open(rt.alloc(), Config::default(), 1, 2)?;
-    play(&rt, &mut scene, BEFORE)?;
-    for (sender, number, offset) in [(1, 0, 21), (0, 0, 20), (0, 1, 22), (1, 1, 23)] {
-        let report = Report {
-            sender,
-            partition: 0,
-            number,
-            outcome: Outcome::Delivered(offset),
-        };
-        assert_eq!(rt; scene.fetch(sender)?, Some(report));
-    }
-    play(&rt, &mut scene, AFTER)
+    plays(&rt, Config::default(), 1, 2, STEPS)
 }
 
 /// Records of one sender that were handed over one after the other are one run, over batches too; a record that
@@ -141,14 +138,10 @@ fn without_audits_there_is_none(rt: HostRuntime) -> Result<(), Fail> {
         Send(0, "2 0:1000/0+a"),
         Hear(0, 2, &[(0, 0, 0)], 1),
         Told(0, "0/0 delivered 0"),
+        NoAudit(0),
     ];
     let alloc = rt.alloc();
     let core = core_of(alloc, Config::default(), 1, 1, 2, false)?;
     let mut scene = Scene { alloc, core };
-    play(&rt, &mut scene, STEPS)?;
-    if scene.core.partitions() == 0 {
-        return Err(Fail::new("no partition"));
-    }
-    assert!(rt; scene.core.audit(0).is_none());
-    Ok(())
+    play(&rt, &mut scene, STEPS)
 }

@@ -6,7 +6,7 @@ use crate::tests::steps::Step::{
     self, Append, Audit, Close, Counts, Due, End, Feed, Flush, Hear, HearEnded, Lose, Send, Stale,
     Tick, Told, Used,
 };
-use crate::tests::steps::{play, plays};
+use crate::tests::steps::{play, play_in_vain, plays};
 use kp_accum::Config;
 use std::test::Fail;
 
@@ -166,8 +166,5 @@ fn after_the_end_nothing_changes_any_more(rt: HostRuntime) -> Result<(), Fail> {
     const BEHIND: &[Step<'static>] = &[Tick(1_000_000, 0, false), Lose(5), Close, Flush, End(0)];
     let mut scene = Scene::open(rt.alloc(), singles(), 1, 1)?;
     play(&rt, &mut scene, UP_TO_THE_END)?;
-    let before = scene.state()?;
-    play(&rt, &mut scene, BEHIND)?;
-    assert_eq!(rt; scene.state()?.as_str(), before.as_str());
-    Ok(())
+    play_in_vain(&rt, &mut scene, BEHIND)
 }

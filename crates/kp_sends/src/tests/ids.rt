@@ -1,11 +1,10 @@
 //! A partition that has used its sequence numbers goes on under a fresh producer id.
 
 use crate::tests::samples::singles;
-use crate::tests::scene::Scene;
 use crate::tests::steps::Step::{
     self, Append, Audit, Feed, Hear, HearId, Ids, Lose, MismatchId, Send, Tick, Told,
 };
-use crate::tests::steps::{play, plays};
+use crate::tests::steps::{plays, plays_each};
 use kp_accum::Config;
 use std::process::Abort;
 use std::test::Fail;
@@ -35,9 +34,7 @@ pub fn spent<R: Abort + AllocGlobal>(
     partitions: u32,
     steps: &[Step<'_>],
 ) -> Result<(), Fail> {
-    let mut scene = Scene::open(rt.alloc(), config, partitions, 1)?;
-    play(rt, &mut scene, SPENT)?;
-    play(rt, &mut scene, steps)
+    plays_each(rt, config, partitions, 1, &[SPENT, steps])
 }
 
 /// The third record would have joined them by its size.

@@ -11,24 +11,27 @@ use std::test::Fail;
 /// A record for partition 0 and one for a partition that is not there, a request, its reply, and the other calls.
 fn calls(alloc: Global) -> Result<Vec<Asked>, Fail> {
     let reply = reply_content(alloc, 2, "t", &[(0, 0, 7)])?;
-    let mut calls = Vec::new(alloc);
-    calls.push(Asked::Append(item(alloc, 0, 0, 0, 0, "a")?))?;
-    calls.push(Asked::Append(item(alloc, 0, 1, 0, 0, "b")?))?;
-    calls.push(Asked::Flush)?;
-    calls.push(Asked::Request(0))?;
-    calls.push(Asked::Reply(Blob::new(reply), 0))?;
-    calls.push(Asked::Fetch(0))?;
-    calls.push(Asked::Fetch(1))?;
-    calls.push(Asked::Tick(0))?;
-    calls.push(Asked::Disconnect(0))?;
-    calls.push(Asked::Close)?;
-    calls.push(Asked::End)?;
-    calls.push(Asked::Tick(0))?;
+    let first = item(alloc, 0, 0, 0, 0, "a")?;
+    let second = item(alloc, 0, 1, 0, 0, "b")?;
+    let calls = vec![in alloc;
+        Asked::Append(first),
+        Asked::Append(second),
+        Asked::Flush,
+        Asked::Request(0),
+        Asked::Reply(Blob::new(reply), 0),
+        Asked::Fetch(0),
+        Asked::Fetch(1),
+        Asked::Tick(0),
+        Asked::Disconnect(0),
+        Asked::Close,
+        Asked::End,
+        Asked::Tick(0),
+    ]?;
     Ok(calls)
 }
 
-/// The answer as text.
-fn put_answer(
+/// The answer to a call that moves records, as text.
+fn put_moved(
     alloc: Global,
     text: &mut String,
     config: &Config,
@@ -42,6 +45,15 @@ fn put_answer(
         Answered::Request(Ok(Some(outgoing))) => {
             text.push_str(request_text(alloc, config, outgoing)?.as_str())?
         }
+        _ => {}
+    }
+    Ok(())
+}
+
+/// The answer to another call, as text.
+fn put_answer(text: &mut String, answer: &Answered) -> Result<(), Fail> {
+    match answer {
+        Answered::Append(_) | Answered::Request(_) => {}
         Answered::Reply(Ok(Replied { known, reports })) => write!(text, "{known} {reports}")?,
         Answered::Tick(Ticked { reports, reconnect }) => write!(text, "{reports} {reconnect}")?,
         Answered::Fetch(Some(report)) => put_report(text, report)?,
@@ -63,7 +75,8 @@ fn answers(
     let answers = core.make_all(asked)?;
     let mut text = String::new(alloc);
     for answer in &answers {
-        put_answer(alloc, &mut text, config, answer)?;
+        put_moved(alloc, &mut text, config, answer)?;
+        put_answer(&mut text, answer)?;
         text.push_str(", ")?;
     }
     Ok(text)

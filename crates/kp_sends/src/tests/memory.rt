@@ -1,11 +1,9 @@
 //! The memory that records take while they wait, and when it is full.
 
-use crate::tests::samples::item;
-use crate::tests::scene::Scene;
 use crate::tests::steps::Step::{
-    self, Append, Audit, Counts, Due, Feed, Full, Hear, Send, Tick, Told, Used,
+    self, Append, Audit, Counts, Due, Feed, Full, Hear, May, Send, Tick, Told, Used,
 };
-use crate::tests::steps::{play, plays};
+use crate::tests::steps::plays;
 use kp_accum::Config;
 use std::test::Fail;
 
@@ -122,6 +120,13 @@ fn what_is_told_at_once_is_never_refused_for_full_memory(rt: HostRuntime) -> Res
 /// With a value of 33 bytes a record has a charge of 101, with one of 32 bytes of 100.
 #[test]
 fn what_no_request_or_no_memory_can_hold_may_not_be_appended(rt: HostRuntime) -> Result<(), Fail> {
+    const STEPS: &[Step<'static>] = &[
+        May(0, 0, "aaaaaaaaaaaaaaaaaaaaaaaaaaaaaaaaa", false),
+        May(0, 0, "aaaaaaaaaaaaaaaaaaaaaaaaaaaaaaaa", true),
+        Append(0, 0, 0, 0, "aaaaaaaaaaaaaaaaaaaaaaaaaaaaaaaa"),
+        Used(100),
+        Send(0, "2 0:1000/0+aaaaaaaaaaaaaaaaaaaaaaaaaaaaaaaa"),
+    ];
     let rows = [
         Config {
             max_request_size: 100,
@@ -134,26 +139,17 @@ fn what_no_request_or_no_memory_can_hold_may_not_be_appended(rt: HostRuntime) ->
         },
     ];
     for config in rows {
-        let mut scene = Scene::open(rt.alloc(), config, 1, 1)?;
-        let large = item(rt.alloc(), 0, 0, 0, 0, "aaaaaaaaaaaaaaaaaaaaaaaaaaaaaaaaa")?;
-        assert_eq!(rt; large.charge(), 101);
-        assert!(rt; !scene.core.may_append(&large), "{config:?}");
-        let steps = [
-            Append(0, 0, 0, 0, "aaaaaaaaaaaaaaaaaaaaaaaaaaaaaaaa"),
-            Used(100),
-            Send(0, "2 0:1000/0+aaaaaaaaaaaaaaaaaaaaaaaaaaaaaaaa"),
-        ];
-        play(&rt, &mut scene, &steps)?;
+        plays(&rt, config, 1, 1, STEPS)?;
     }
     Ok(())
 }
 
 #[test]
 fn an_item_of_nobody_or_for_nowhere_may_not_be_appended(rt: HostRuntime) -> Result<(), Fail> {
-    let scene = Scene::open(rt.alloc(), Config::default(), 2, 3)?;
-    for (sender, partition, may) in [(2, 1, true), (3, 1, false), (2, 2, false)] {
-        let item = item(rt.alloc(), sender, partition, 0, 0, "a")?;
-        assert_eq!(rt; scene.core.may_append(&item), may, "{sender} {partition}");
-    }
-    Ok(())
+    const STEPS: &[Step<'static>] = &[
+        May(2, 1, "a", true),
+        May(3, 1, "a", false),
+        May(2, 2, "a", false),
+    ];
+    plays(&rt, Config::default(), 2, 3, STEPS)
 }

@@ -6,7 +6,7 @@ use crate::tests::steps::Step::{
     self, Append, End, Feed, Hear, HearContent, HearId, Ids, Mismatch, MismatchTopics, Refused,
     RefusedEnded, Send, Stale, StaleId, Tick, Told, Unknown,
 };
-use crate::tests::steps::{play, plays};
+use crate::tests::steps::{play, plays, plays_each};
 use crate::tests::wire::{id_content, reply_content};
 use kp_accum::Config;
 use kp_frames::FrameFault::{Short, Trailing, Wire};
@@ -59,18 +59,12 @@ const BOTH_ARE_HEARD: &[Step<'static>] = &[
 
 /// Takes the steps while partition 0's batch is in flight.
 fn while_one<R: Abort + AllocGlobal>(rt: &R, steps: &[Step<'_>]) -> Result<(), Fail> {
-    let mut scene = Scene::open(rt.alloc(), Config::default(), 2, 1)?;
-    play(rt, &mut scene, ONE)?;
-    play(rt, &mut scene, steps)?;
-    play(rt, &mut scene, ONE_IS_HEARD)
+    plays_each(rt, Config::default(), 2, 1, &[ONE, steps, ONE_IS_HEARD])
 }
 
 /// Takes the steps while both partitions' batches are in flight.
 fn while_both<R: Abort + AllocGlobal>(rt: &R, steps: &[Step<'_>]) -> Result<(), Fail> {
-    let mut scene = Scene::open(rt.alloc(), Config::default(), 2, 1)?;
-    play(rt, &mut scene, BOTH)?;
-    play(rt, &mut scene, steps)?;
-    play(rt, &mut scene, BOTH_ARE_HEARD)
+    plays_each(rt, Config::default(), 2, 1, &[BOTH, steps, BOTH_ARE_HEARD])
 }
 
 #[test]
@@ -232,16 +226,20 @@ fn a_reply_has_the_partitions_that_were_fenced_since(rt: HostRuntime) -> Result<
     plays(&rt, config, 2, 1, STEPS)
 }
 
-/// Wherever it is cut; the whole is heard.
+/// Refused wherever it is cut; and the whole is heard.
+fn is_refused_cut<R: Abort>(rt: &R, scene: &mut Scene, whole: &[Step<'_>]) -> Result<(), Fail> {
+    play(rt, scene, ONE)?;
+    for size in 0..STORED.len() {
+        play(rt, scene, &[Refused(0, &STORED[..size], Short)])?;
+    }
+    play(rt, scene, whole)
+}
+
 #[test]
 fn a_reply_to_batches_that_is_cut_short_is_refused(rt: HostRuntime) -> Result<(), Fail> {
     const STEPS: &[Step<'static>] = &[HearContent(0, STORED, 1), Told(0, "0/0 delivered 0")];
     let mut scene = Scene::open(rt.alloc(), Config::default(), 1, 1)?;
-    play(&rt, &mut scene, ONE)?;
-    for size in 0..STORED.len() {
-        play(&rt, &mut scene, &[Refused(0, &STORED[..size], Short)])?;
-    }
-    play(&rt, &mut scene, STEPS)
+    is_refused_cut(&rt, &mut scene, STEPS)
 }
 
 #[test]

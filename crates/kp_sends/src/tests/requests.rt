@@ -3,7 +3,7 @@
 use crate::tests::samples::{item, singles};
 use crate::tests::scene::Scene;
 use crate::tests::steps::Step::{self, Append, Audit, Counts, End, Feed, Hear, Send, Told};
-use crate::tests::steps::{play, plays};
+use crate::tests::steps::{play, plays, plays_each};
 use crate::tests::wire::records_of;
 use kp_accum::{AppendFault, Config, Item};
 use kp_batch::{Header, Record, Timestamp};
@@ -71,9 +71,7 @@ const FIVE: &[Step<'static>] = &[
 
 /// Takes the steps once five of six partitions have a batch.
 fn of_five<R: Abort + AllocGlobal>(rt: &R, config: Config, steps: &[Step<'_>]) -> Result<(), Fail> {
-    let mut scene = Scene::open(rt.alloc(), config, 6, 1)?;
-    play(rt, &mut scene, FIVE)?;
-    play(rt, &mut scene, steps)
+    plays_each(rt, config, 6, 1, &[FIVE, steps])
 }
 
 /// Two have 138 bytes, three have 207. The others go in the next request, and behind the last partition comes the
@@ -268,17 +266,27 @@ fn is_null(record: &Record) -> bool {
         && record.headers.len() == 0
 }
 
+/// The second item is appended behind the first, and both go out.
+fn sent_together(scene: &mut Scene, first: Item, second: Item) -> Result<Seq<Record>, Fail> {
+    if is_accepted(scene.append(first)?) && is_accepted(scene.append(second)?) {
+        return sent(scene);
+    }
+    Err(Fail::new("an item is refused"))
+}
+
+/// The items' records, as they go out.
+fn records_of_both(alloc: Global) -> Result<Seq<Record>, Fail> {
+    let mut scene = Scene::open(alloc, Config::default(), 1, 1)?;
+    sent_together(&mut scene, whole(alloc)?, null(alloc)?)
+}
+
 #[test]
 fn a_record_goes_out_with_all_that_it_has(rt: HostRuntime) -> Result<(), Fail> {
-    let alloc = rt.alloc();
-    let mut scene = Scene::open(alloc, Config::default(), 1, 1)?;
-    assert!(rt; is_accepted(scene.append(whole(alloc)?)?));
-    assert!(rt; is_accepted(scene.append(null(alloc)?)?));
-    let records = sent(&mut scene)?;
+    let records = records_of_both(rt.alloc())?;
     let [first, second] = records.as_slice() else {
         return Err(Fail::new("not two records"));
     };
-    assert!(rt; is_whole(first), "{first:?}");
-    assert!(rt; is_null(second), "{second:?}");
+    assert!(rt; is_whole(first));
+    assert!(rt; is_null(second));
     Ok(())
 }

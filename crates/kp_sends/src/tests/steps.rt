@@ -1,16 +1,16 @@
 //! Schedules as lists of steps, each with what it shows.
 
-use crate::tests::samples::{ENDED, MISMATCH, UNKNOWN, settled};
+use crate::tests::samples::{ENDED, MISMATCH, UNKNOWN, item, settled};
 use crate::tests::scene::Scene;
 use crate::tests::wire::{Answer, Given, Topic};
 use kp_accum::{AppendFault, Config};
-use kp_core::{CoreFault, Replied, Run};
+use kp_core::{CoreFault, Outcome, Replied, Report, Run};
 use kp_frames::FrameFault;
 use std::process::Abort;
 use std::test::Fail;
 
 /// A step of a schedule, with what it shows. Times are moments; a reply is told by its correlation id.
-#[derive(Clone, Copy, Debug)]
+#[derive(Clone, Copy)]
 pub enum Step<'a> {
     /// Sender 0's first items for partition 0, with a value of one letter each, are appended at the moment 0.
     Feed(&'a str),
@@ -65,23 +65,44 @@ pub enum Step<'a> {
     Ids(u32, &'a [u64]),
     /// The runs handed over for this partition: sender, first number and count.
     Audit(u32, &'a [(u32, u64, u64)]),
+    /// None are kept of this partition.
+    NoAudit(u32),
+    /// The sender's oldest report is of its record with this number in partition 0, delivered at this offset.
+    Fetch(u32, u64, i64),
+    /// Whether an item of this sender, for this partition, with this value, may be appended.
+    May(u32, u32, &'a str, bool),
+    /// Whether it is closed, and whether it has ended.
+    Ending(bool, bool),
 }
 
-fn is_text<R: Abort>(rt: &R, step: &Step<'_>, found: &str, wanted: &str) {
-    assert_eq!(rt; found, wanted, "at {step:?}");
+fn is_text<R: Abort>(rt: &R, place: usize, found: &str, wanted: &str) {
+    assert_eq!(rt; found, wanted, "at {place}");
 }
 
 fn is_heard<R: Abort>(
     rt: &R,
-    step: &Step<'_>,
+    place: usize,
     found: Result<Replied, CoreFault>,
     wanted: Result<Replied, CoreFault>,
 ) {
-    assert_eq!(rt; found, wanted, "at {step:?}");
+    assert_eq!(rt; found, wanted, "at {place}");
+}
+
+fn is_number<R: Abort>(rt: &R, place: usize, found: u64, wanted: u64) {
+    assert_eq!(rt; found, wanted, "at {place}");
+}
+
+fn is_true<R: Abort>(rt: &R, place: usize, found: bool, wanted: bool) {
+    assert_eq!(rt; found, wanted, "at {place}");
 }
 
 /// What a sender hands over.
-fn hand_over<R: Abort>(rt: &R, scene: &mut Scene, step: &Step<'_>) -> Result<(), Fail> {
+fn hand_over<R: Abort>(
+    rt: &R,
+    scene: &mut Scene,
+    place: usize,
+    step: &Step<'_>,
+) -> Result<(), Fail> {
     match *step {
         Step::Feed(values) => scene.feed(values)?,
         Step::Append(sender, partition, number, at, value) => {
@@ -89,7 +110,7 @@ fn hand_over<R: Abort>(rt: &R, scene: &mut Scene, step: &Step<'_>) -> Result<(),
         }
         Step::Full(sender, partition, number, at, value) => {
             let answer = scene.offer(sender, partition, number, at, value)?;
-            assert_eq!(rt; answer, Err(AppendFault::BufferFull), "at {step:?}");
+            assert_eq!(rt; answer, Err(AppendFault::BufferFull), "at {place}");
         }
         _ => {}
     }
@@ -97,25 +118,26 @@ fn hand_over<R: Abort>(rt: &R, scene: &mut Scene, step: &Step<'_>) -> Result<(),
 }
 
 /// What goes out, and what replies do.
-fn converse<R: Abort>(rt: &R, scene: &mut Scene, step: &Step<'_>) -> Result<(), Fail> {
+fn converse<R: Abort>(
+    rt: &R,
+    scene: &mut Scene,
+    place: usize,
+    step: &Step<'_>,
+) -> Result<(), Fail> {
     match *step {
-        Step::Send(now, text) => is_text(rt, step, scene.send(now)?.as_str(), text),
+        Step::Send(now, text) => is_text(rt, place, scene.send(now)?.as_str(), text),
         Step::Hear(now, correlation, answers, reports) => {
-            is_heard(
-                rt,
-                step,
-                scene.hear(now, correlation, answers)?,
-                settled(reports),
-            )
+            let heard = scene.hear(now, correlation, answers)?;
+            is_heard(rt, place, heard, settled(reports))
         }
         Step::Stale(now, correlation, answers) => {
-            is_heard(rt, step, scene.hear(now, correlation, answers)?, UNKNOWN)
+            is_heard(rt, place, scene.hear(now, correlation, answers)?, UNKNOWN)
         }
         Step::Mismatch(now, correlation, answers) => {
-            is_heard(rt, step, scene.hear(now, correlation, answers)?, MISMATCH)
+            is_heard(rt, place, scene.hear(now, correlation, answers)?, MISMATCH)
         }
         Step::HearEnded(now, correlation, answers) => {
-            is_heard(rt, step, scene.hear(now, correlation, answers)?, ENDED)
+            is_heard(rt, place, scene.hear(now, correlation, answers)?, ENDED)
         }
         _ => {}
     }
@@ -123,28 +145,24 @@ fn converse<R: Abort>(rt: &R, scene: &mut Scene, step: &Step<'_>) -> Result<(), 
 }
 
 /// What replies to requests for an id do, and contents that are none.
-fn hear<R: Abort>(rt: &R, scene: &mut Scene, step: &Step<'_>) -> Result<(), Fail> {
+fn hear<R: Abort>(rt: &R, scene: &mut Scene, place: usize, step: &Step<'_>) -> Result<(), Fail> {
     match *step {
         Step::HearId(now, correlation, given) => {
-            is_heard(
-                rt,
-                step,
-                scene.hear_id(now, correlation, given)?,
-                settled(0),
-            )
+            let heard = scene.hear_id(now, correlation, given)?;
+            is_heard(rt, place, heard, settled(0))
         }
         Step::StaleId(now, correlation, given) => {
-            is_heard(rt, step, scene.hear_id(now, correlation, given)?, UNKNOWN)
+            is_heard(rt, place, scene.hear_id(now, correlation, given)?, UNKNOWN)
         }
         Step::MismatchId(now, correlation, given) => {
-            is_heard(rt, step, scene.hear_id(now, correlation, given)?, MISMATCH)
+            is_heard(rt, place, scene.hear_id(now, correlation, given)?, MISMATCH)
         }
         Step::Refused(now, content, fault) => {
             let refused = Err(CoreFault::ReplyFault(fault));
-            is_heard(rt, step, scene.hear_content(now, content)?, refused)
+            is_heard(rt, place, scene.hear_content(now, content)?, refused)
         }
         Step::Unknown(now, content) => {
-            is_heard(rt, step, scene.hear_content(now, content)?, UNKNOWN)
+            is_heard(rt, place, scene.hear_content(now, content)?, UNKNOWN)
         }
         _ => {}
     }
@@ -152,60 +170,57 @@ fn hear<R: Abort>(rt: &R, scene: &mut Scene, step: &Step<'_>) -> Result<(), Fail
 }
 
 /// What replies of other topics do, contents that are right, and those that come after the end.
-fn take_in<R: Abort>(rt: &R, scene: &mut Scene, step: &Step<'_>) -> Result<(), Fail> {
+fn take_in<R: Abort>(rt: &R, scene: &mut Scene, place: usize, step: &Step<'_>) -> Result<(), Fail> {
     match *step {
         Step::MismatchTopics(now, correlation, topics) => {
-            is_heard(
-                rt,
-                step,
-                scene.hear_topics(now, correlation, topics)?,
-                MISMATCH,
-            )
+            let heard = scene.hear_topics(now, correlation, topics)?;
+            is_heard(rt, place, heard, MISMATCH)
         }
         Step::HearContent(now, content, reports) => {
-            is_heard(
-                rt,
-                step,
-                scene.hear_content(now, content)?,
-                settled(reports),
-            )
+            let heard = scene.hear_content(now, content)?;
+            is_heard(rt, place, heard, settled(reports))
         }
         Step::RefusedEnded(now, content) => {
-            is_heard(rt, step, scene.hear_content(now, content)?, ENDED)
+            is_heard(rt, place, scene.hear_content(now, content)?, ENDED)
         }
         _ => {}
     }
     Ok(())
 }
 
+/// What a tick tells, and whether it gives the connection up.
+fn tick(scene: &mut Scene, now: u64) -> (usize, bool) {
+    let ticked = scene.core.tick(now);
+    (ticked.reports, ticked.reconnect)
+}
+
 /// What the time and the caller bring.
-fn bring<R: Abort>(rt: &R, scene: &mut Scene, step: &Step<'_>) {
+fn bring<R: Abort>(rt: &R, scene: &mut Scene, place: usize, step: &Step<'_>) {
     match *step {
         Step::Tick(now, reports, reconnect) => {
-            let ticked = scene.core.tick(now);
-            assert_eq!(rt; ticked.reports, reports, "at {step:?}");
-            assert_eq!(rt; ticked.reconnect, reconnect, "at {step:?}");
+            let ticked = tick(scene, now);
+            assert_eq!(rt; ticked, (reports, reconnect), "at {place}");
         }
         Step::Lose(now) => scene.core.on_disconnect(now),
         Step::Close => scene.core.close(),
         Step::Flush => scene.core.flush(),
-        Step::End(reports) => assert_eq!(rt; scene.core.end(), reports, "at {step:?}"),
+        Step::End(reports) => is_number(rt, place, scene.core.end() as u64, reports as u64),
         _ => {}
     }
 }
 
-/// What is to be seen.
-fn look<R: Abort>(rt: &R, scene: &mut Scene, step: &Step<'_>) -> Result<(), Fail> {
+/// What is told, counted and due.
+fn look<R: Abort>(rt: &R, scene: &mut Scene, place: usize, step: &Step<'_>) -> Result<(), Fail> {
     match *step {
-        Step::Told(sender, text) => is_text(rt, step, scene.told(sender)?.as_str(), text),
-        Step::Used(used) => assert_eq!(rt; scene.core.used(), used, "at {step:?}"),
-        Step::Counts(counts) => assert_eq!(rt; scene.counts(), counts, "at {step:?}"),
-        Step::Due(due) => assert_eq!(rt; scene.core.next_due(), due, "at {step:?}"),
-        Step::Flushed(flushed) => assert_eq!(rt; scene.core.flushed(), flushed, "at {step:?}"),
-        Step::Ids(partition, ids) => assert_eq!(rt; scene.ids(partition)?, ids, "at {step:?}"),
-        Step::Audit(partition, runs) => {
-            let audit = scene.audit(partition)?;
-            assert!(rt; are_runs(audit, runs), "at {step:?}: {audit:?}");
+        Step::Told(sender, text) => is_text(rt, place, scene.told(sender)?.as_str(), text),
+        Step::Used(used) => is_number(rt, place, scene.core.used(), used),
+        Step::Counts(counts) => {
+            let found = scene.counts();
+            assert_eq!(rt; found, counts, "at {place}")
+        }
+        Step::Due(due) => {
+            let found = scene.core.next_due();
+            assert_eq!(rt; found, due, "at {place}")
         }
         _ => {}
     }
@@ -218,17 +233,91 @@ fn are_runs(audit: &[Run], runs: &[(u32, u64, u64)]) -> bool {
             == *run)
 }
 
-/// Takes the steps.
-pub fn play<R: Abort>(rt: &R, scene: &mut Scene, steps: &[Step<'_>]) -> Result<(), Fail> {
-    for step in steps {
-        hand_over(rt, scene, step)?;
-        converse(rt, scene, step)?;
-        hear(rt, scene, step)?;
-        take_in(rt, scene, step)?;
-        bring(rt, scene, step);
-        look(rt, scene, step)?;
+fn has_no_audit(scene: &Scene, partition: u32) -> bool {
+    (partition as usize) < scene.core.partitions() && scene.core.audit(partition).is_none()
+}
+
+/// What is kept of a partition.
+fn look_at<R: Abort>(rt: &R, scene: &Scene, place: usize, step: &Step<'_>) -> Result<(), Fail> {
+    match *step {
+        Step::Ids(partition, ids) => {
+            let found = scene.ids(partition)?;
+            assert_eq!(rt; found, ids, "at {place}")
+        }
+        Step::Audit(partition, runs) => {
+            is_true(rt, place, are_runs(scene.audit(partition)?, runs), true)
+        }
+        Step::NoAudit(partition) => is_true(rt, place, has_no_audit(scene, partition), true),
+        _ => {}
     }
     Ok(())
+}
+
+/// Whether an item of this sender may be appended.
+fn may(scene: &Scene, sender: u32, partition: u32, value: &str) -> Result<bool, Fail> {
+    let item = item(scene.alloc, sender, partition, 0, 0, value)?;
+    Ok(scene.core.may_append(&item))
+}
+
+/// What may be done, and is done.
+fn look_on<R: Abort>(rt: &R, scene: &mut Scene, place: usize, step: &Step<'_>) -> Result<(), Fail> {
+    match *step {
+        Step::Flushed(flushed) => is_true(rt, place, scene.core.flushed(), flushed),
+        Step::Ending(closing, ended) => {
+            is_true(rt, place, scene.core.is_closing(), closing);
+            is_true(rt, place, scene.core.has_ended(), ended)
+        }
+        Step::May(sender, partition, value, wanted) => {
+            is_true(rt, place, may(scene, sender, partition, value)?, wanted)
+        }
+        Step::Fetch(sender, number, offset) => {
+            let report = Report {
+                sender,
+                partition: 0,
+                number,
+                outcome: Outcome::Delivered(offset),
+            };
+            let found = scene.fetch(sender)?;
+            assert_eq!(rt; found, Some(report), "at {place}")
+        }
+        _ => {}
+    }
+    Ok(())
+}
+
+/// Takes the steps.
+pub fn play<R: Abort>(rt: &R, scene: &mut Scene, steps: &[Step<'_>]) -> Result<(), Fail> {
+    for (place, step) in steps.iter().enumerate() {
+        hand_over(rt, scene, place, step)?;
+        converse(rt, scene, place, step)?;
+        hear(rt, scene, place, step)?;
+        take_in(rt, scene, place, step)?;
+        bring(rt, scene, place, step);
+        look(rt, scene, place, step)?;
+        look_at(rt, scene, place, step)?;
+        look_on(rt, scene, place, step)?;
+    }
+    Ok(())
+}
+
+/// Takes these lists of steps, one behind the other.
+pub fn play_each<R: Abort>(rt: &R, scene: &mut Scene, lists: &[&[Step<'_>]]) -> Result<(), Fail> {
+    for steps in lists {
+        play(rt, scene, steps)?;
+    }
+    Ok(())
+}
+
+/// Takes these lists of steps, one behind the other, from a new core on.
+pub fn plays_each<R: Abort + AllocGlobal>(
+    rt: &R,
+    config: Config,
+    partitions: u32,
+    senders: u32,
+    lists: &[&[Step<'_>]],
+) -> Result<(), Fail> {
+    let mut scene = Scene::open(rt.alloc(), config, partitions, senders)?;
+    play_each(rt, &mut scene, lists)
 }
 
 /// Takes the steps, from a new core on.
@@ -239,6 +328,13 @@ pub fn plays<R: Abort + AllocGlobal>(
     senders: u32,
     steps: &[Step<'_>],
 ) -> Result<(), Fail> {
-    let mut scene = Scene::open(rt.alloc(), config, partitions, senders)?;
-    play(rt, &mut scene, steps)
+    plays_each(rt, config, partitions, senders, &[steps])
+}
+
+/// Takes the steps, which leave all that is to be seen of the core as it is.
+pub fn play_in_vain<R: Abort>(rt: &R, scene: &mut Scene, steps: &[Step<'_>]) -> Result<(), Fail> {
+    let before = scene.state()?;
+    play(rt, scene, steps)?;
+    is_text(rt, steps.len(), scene.state()?.as_str(), before.as_str());
+    Ok(())
 }

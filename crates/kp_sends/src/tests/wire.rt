@@ -47,12 +47,21 @@ pub fn request_of(alloc: Global, outgoing: &Outgoing) -> Result<Request, Fail> {
 pub fn request_text(alloc: Global, config: &Config, outgoing: &Outgoing) -> Result<String, Fail> {
     let request = request_of(alloc, outgoing)?;
     let mut text = format!(in alloc; "{}", request.correlation)?;
-    match &request.body {
-        RequestBody::Produce(body) => put_batches(alloc, &mut text, config, body)?,
-        RequestBody::InitProducerId(body) => put_asking(&mut text, body)?,
-        RequestBody::Metadata(_) => return Err(Fail::new("a request for metadata")),
-    }
+    put_body(alloc, &mut text, config, &request.body)?;
     Ok(text)
+}
+
+fn put_body(
+    alloc: Global,
+    text: &mut String,
+    config: &Config,
+    body: &RequestBody,
+) -> Result<(), Fail> {
+    match body {
+        RequestBody::Produce(body) => put_batches(alloc, text, config, body),
+        RequestBody::InitProducerId(body) => put_asking(text, body),
+        RequestBody::Metadata(_) => Err(Fail::new("a request for metadata")),
+    }
 }
 
 /// Batches for the topic "t", of no transaction, for all replicas in sync to have.
@@ -85,7 +94,11 @@ fn put_batches(
 /// The records of a request for one batch.
 pub fn records_of(alloc: Global, outgoing: &Outgoing) -> Result<Seq<Record>, Fail> {
     let request = request_of(alloc, outgoing)?;
-    let RequestBody::Produce(body) = &request.body else {
+    records_in(alloc, &request.body)
+}
+
+fn records_in(alloc: Global, body: &RequestBody) -> Result<Seq<Record>, Fail> {
+    let RequestBody::Produce(body) = body else {
         return Err(Fail::new("a request that is not for batches"));
     };
     let [topic] = body.topics.as_slice() else {
