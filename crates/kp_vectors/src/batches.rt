@@ -22,7 +22,7 @@ const BASE_OFFSET: i64 = 0;
 const LEADER_EPOCH: i32 = -1;
 
 /// A line. Bytes are in hexadecimal, or null.
-#[derive(Debug, Drop, Deserialize)]
+#[derive(Drop, Deserialize)]
 #[serde(deny_unknown_fields)]
 struct BatchLine {
     producer_id: i64,
@@ -32,7 +32,7 @@ struct BatchLine {
     bytes: String,
 }
 
-#[derive(Debug, Drop, Deserialize)]
+#[derive(Drop, Deserialize)]
 #[serde(deny_unknown_fields)]
 struct RecordLine {
     timestamp: i64,

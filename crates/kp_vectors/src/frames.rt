@@ -21,7 +21,7 @@ pub const FILE: &str = "frames.jsonl";
 const SIZE_LEN: usize = 4;
 
 /// A line. Bytes are in hexadecimal.
-#[derive(Debug, Drop, Deserialize)]
+#[derive(Drop, Deserialize)]
 #[serde(tag = "kind", rename_all = "snake_case")]
 enum FrameLine {
     Request(RequestLine),

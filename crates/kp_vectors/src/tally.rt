@@ -55,7 +55,7 @@ impl fmt::Display for Kind {
 }
 
 /// How many of a kind's lines agree.
-#[derive(Clone, Copy, Debug, PartialEq, Eq)]
+#[derive(Clone, Copy)]
 struct Count {
     kind: Kind,
     agree: u64,
@@ -73,7 +73,7 @@ impl Count {
 }
 
 /// A line's place.
-#[derive(Clone, Copy, Debug, PartialEq, Eq)]
+#[derive(Clone, Copy)]
 pub struct Place {
     pub file: &'static str,
     /// From 1.
@@ -81,7 +81,7 @@ pub struct Place {
 }
 
 /// A line that does not agree, and why.
-#[derive(Clone, Copy, Debug, PartialEq, Eq)]
+#[derive(Clone, Copy)]
 struct Disagreement {
     place: Place,
     kind: Kind,
@@ -96,7 +96,7 @@ impl fmt::Display for Disagreement {
 }
 
 /// The counts of all kinds, in the order in which they are printed, and the lines that do not agree.
-#[derive(Debug, Drop)]
+#[derive(Drop)]
 pub struct Tally {
     counts: [Count; 9],
     disagreements: Vec<Disagreement>,

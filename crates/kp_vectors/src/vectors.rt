@@ -18,7 +18,7 @@ pub const FILE: &str = "vectors.txt";
 const PARTITIONS: u32 = 4;
 
 /// A line, taken apart.
-#[derive(Debug, Drop)]
+#[derive(Drop)]
 enum Vector {
     Varint { number: i32, bytes: Vec<u8> },
     Varlong { number: i64, bytes: Vec<u8> },

@@ -1,12 +1,12 @@
 //! What is to be seen of a core, and counted.
 
 use crate::tests::samples::{core_of, singles};
-use crate::tests::scene::Scene;
+use crate::tests::scene::Setting;
 use crate::tests::steps::Step::{
     self, Append, Audit, Close, Counts, Due, End, Ending, Feed, Fetch, Flushed, Hear, Ids, Lose,
     NoAudit, Send, Tick, Told, Unknown,
 };
-use crate::tests::steps::{play, plays};
+use crate::tests::steps::{plays, plays_of};
 use kp_accum::Config;
 use kp_core::Core;
 use std::process::Abort;
@@ -140,8 +140,9 @@ fn without_audits_there_is_none(rt: HostRuntime) -> Result<(), Fail> {
         Told(0, "0/0 delivered 0"),
         NoAudit(0),
     ];
-    let alloc = rt.alloc();
-    let core = core_of(alloc, Config::default(), 1, 1, 2, false)?;
-    let mut scene = Scene { alloc, core };
-    play(&rt, &mut scene, STEPS)
+    let setting = Setting {
+        audits: false,
+        ..Setting::of(Config::default(), 1, 1)
+    };
+    plays_of(&rt, setting, STEPS)
 }

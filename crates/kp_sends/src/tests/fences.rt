@@ -1,12 +1,11 @@
 //! What is given up when a batch is refused for good, and at the end.
 
 use crate::tests::samples::singles;
-use crate::tests::scene::Scene;
 use crate::tests::steps::Step::{
-    self, Append, Audit, Close, Counts, Due, End, Feed, Flush, Hear, HearEnded, Lose, Send, Stale,
-    Tick, Told, Used,
+    self, Append, AsKept, Audit, Close, Counts, Due, End, Feed, Flush, Hear, HearEnded, Keep, Lose,
+    Send, Stale, Tick, Told, Used,
 };
-use crate::tests::steps::{play, play_in_vain, plays};
+use crate::tests::steps::plays;
 use kp_accum::Config;
 use std::test::Fail;
 
@@ -162,9 +161,17 @@ fn what_is_appended_after_the_end_is_told_at_once(rt: HostRuntime) -> Result<(),
 
 #[test]
 fn after_the_end_nothing_changes_any_more(rt: HostRuntime) -> Result<(), Fail> {
-    const UP_TO_THE_END: &[Step<'static>] = &[Feed("ab"), Send(0, "2 0:1000/0+a"), End(2)];
-    const BEHIND: &[Step<'static>] = &[Tick(1_000_000, 0, false), Lose(5), Close, Flush, End(0)];
-    let mut scene = Scene::open(rt.alloc(), singles(), 1, 1)?;
-    play(&rt, &mut scene, UP_TO_THE_END)?;
-    play_in_vain(&rt, &mut scene, BEHIND)
+    const STEPS: &[Step<'static>] = &[
+        Feed("ab"),
+        Send(0, "2 0:1000/0+a"),
+        End(2),
+        Keep,
+        Tick(1_000_000, 0, false),
+        Lose(5),
+        Close,
+        Flush,
+        End(0),
+        AsKept,
+    ];
+    plays(&rt, singles(), 1, 1, STEPS)
 }

@@ -1,10 +1,11 @@
 //! A partition that has used its sequence numbers goes on under a fresh producer id.
 
 use crate::tests::samples::singles;
+use crate::tests::scene::Setting;
 use crate::tests::steps::Step::{
     self, Append, Audit, Feed, Hear, HearId, Ids, Lose, MismatchId, Send, Tick, Told,
 };
-use crate::tests::steps::{plays, plays_each};
+use crate::tests::steps::{plays, plays_between};
 use kp_accum::Config;
 use std::process::Abort;
 use std::test::Fail;
@@ -34,7 +35,7 @@ pub fn spent<R: Abort + AllocGlobal>(
     partitions: u32,
     steps: &[Step<'_>],
 ) -> Result<(), Fail> {
-    plays_each(rt, config, partitions, 1, &[SPENT, steps])
+    plays_between(rt, Setting::of(config, partitions, 1), SPENT, steps, &[])
 }
 
 /// The third record would have joined them by its size.

@@ -1,7 +1,7 @@
 //! A run of 100,000 records: each is told once, in order, and with the offset that it must have.
 
 use crate::tests::samples::settled;
-use crate::tests::scene::Scene;
+use crate::tests::scene::{Scene, Setting};
 use crate::tests::wire::{Answer, reply_content, request_of};
 use kp_accum::Config;
 use kp_batch::read_batch;
@@ -72,7 +72,7 @@ fn empty_world(alloc: Global) -> Result<World, Fail> {
         logs.push(empty_log(alloc)?)?;
     }
     Ok(World {
-        scene: Scene::open(alloc, config(), PARTITIONS, SENDERS)?,
+        scene: Scene::open(alloc, Setting::of(config(), PARTITIONS, SENDERS))?,
         logs,
         replies: VecDeque::new(alloc),
     })

@@ -1,12 +1,12 @@
 //! Replies that are refused, or name no request: each leaves the core as it was, and the right one still counts then.
 
 use crate::tests::ids::{spent, two};
-use crate::tests::scene::Scene;
+use crate::tests::scene::Setting;
 use crate::tests::steps::Step::{
     self, Append, End, Feed, Hear, HearContent, HearId, Ids, Mismatch, MismatchTopics, Refused,
     RefusedEnded, Send, Stale, StaleId, Tick, Told, Unknown,
 };
-use crate::tests::steps::{play, plays, plays_each};
+use crate::tests::steps::{plays, plays_between};
 use crate::tests::wire::{id_content, reply_content};
 use kp_accum::Config;
 use kp_frames::FrameFault::{Short, Trailing, Wire};
@@ -57,14 +57,18 @@ const BOTH_ARE_HEARD: &[Step<'static>] = &[
     Told(0, "0/0 delivered 0, 1/0 delivered 0"),
 ];
 
+fn two_partitions() -> Setting {
+    Setting::of(Config::default(), 2, 1)
+}
+
 /// Takes the steps while partition 0's batch is in flight.
 fn while_one<R: Abort + AllocGlobal>(rt: &R, steps: &[Step<'_>]) -> Result<(), Fail> {
-    plays_each(rt, Config::default(), 2, 1, &[ONE, steps, ONE_IS_HEARD])
+    plays_between(rt, two_partitions(), ONE, steps, ONE_IS_HEARD)
 }
 
 /// Takes the steps while both partitions' batches are in flight.
 fn while_both<R: Abort + AllocGlobal>(rt: &R, steps: &[Step<'_>]) -> Result<(), Fail> {
-    plays_each(rt, Config::default(), 2, 1, &[BOTH, steps, BOTH_ARE_HEARD])
+    plays_between(rt, two_partitions(), BOTH, steps, BOTH_ARE_HEARD)
 }
 
 #[test]
@@ -226,20 +230,15 @@ fn a_reply_has_the_partitions_that_were_fenced_since(rt: HostRuntime) -> Result<
     plays(&rt, config, 2, 1, STEPS)
 }
 
-/// Refused wherever it is cut; and the whole is heard.
-fn is_refused_cut<R: Abort>(rt: &R, scene: &mut Scene, whole: &[Step<'_>]) -> Result<(), Fail> {
-    play(rt, scene, ONE)?;
-    for size in 0..STORED.len() {
-        play(rt, scene, &[Refused(0, &STORED[..size], Short)])?;
-    }
-    play(rt, scene, whole)
-}
-
+/// Wherever it is cut; the whole is heard.
 #[test]
 fn a_reply_to_batches_that_is_cut_short_is_refused(rt: HostRuntime) -> Result<(), Fail> {
-    const STEPS: &[Step<'static>] = &[HearContent(0, STORED, 1), Told(0, "0/0 delivered 0")];
-    let mut scene = Scene::open(rt.alloc(), Config::default(), 1, 1)?;
-    is_refused_cut(&rt, &mut scene, STEPS)
+    const WHOLE: &[Step<'static>] = &[HearContent(0, STORED, 1), Told(0, "0/0 delivered 0")];
+    for size in 0..STORED.len() {
+        let cut = [Refused(0, &STORED[..size], Short)];
+        plays_between(&rt, two_partitions(), ONE, &cut, WHOLE)?;
+    }
+    Ok(())
 }
 
 #[test]

@@ -1,9 +1,9 @@
 //! What a request has.
 
 use crate::tests::samples::{item, singles};
-use crate::tests::scene::Scene;
+use crate::tests::scene::{Scene, Setting};
 use crate::tests::steps::Step::{self, Append, Audit, Counts, End, Feed, Hear, Send, Told};
-use crate::tests::steps::{play, plays, plays_each};
+use crate::tests::steps::{plays, plays_between, plays_of};
 use crate::tests::wire::records_of;
 use kp_accum::{AppendFault, Config, Item};
 use kp_batch::{Header, Record, Timestamp};
@@ -71,7 +71,7 @@ const FIVE: &[Step<'static>] = &[
 
 /// Takes the steps once five of six partitions have a batch.
 fn of_five<R: Abort + AllocGlobal>(rt: &R, config: Config, steps: &[Step<'_>]) -> Result<(), Fail> {
-    plays_each(rt, config, 6, 1, &[FIVE, steps])
+    plays_between(rt, Setting::of(config, 6, 1), FIVE, steps, &[])
 }
 
 /// Two have 138 bytes, three have 207. The others go in the next request, and behind the last partition comes the
@@ -195,8 +195,11 @@ fn once_the_last_correlation_id_was_used_no_request_goes_out(rt: HostRuntime) ->
         Send(0, "Ended"),
         Told(0, "0/2 ended"),
     ];
-    let mut scene = Scene::open_from(rt.alloc(), singles(), 1, 1, 2_147_483_646)?;
-    play(&rt, &mut scene, STEPS)
+    let setting = Setting {
+        correlation: 2_147_483_646,
+        ..Setting::of(singles(), 1, 1)
+    };
+    plays_of(&rt, setting, STEPS)
 }
 
 /// Neither one for batches nor one for an id.
@@ -213,8 +216,11 @@ fn once_the_last_correlation_id_was_used_no_id_is_asked_for(rt: HostRuntime) -> 
         sequence_limit: 1,
         ..singles()
     };
-    let mut scene = Scene::open_from(rt.alloc(), config, 1, 1, 2_147_483_647)?;
-    play(&rt, &mut scene, STEPS)
+    let setting = Setting {
+        correlation: 2_147_483_647,
+        ..Setting::of(config, 1, 1)
+    };
+    plays_of(&rt, setting, STEPS)
 }
 
 /// The first item, with all that a record may have.
@@ -276,7 +282,7 @@ fn sent_together(scene: &mut Scene, first: Item, second: Item) -> Result<Seq<Rec
 
 /// The items' records, as they go out.
 fn records_of_both(alloc: Global) -> Result<Seq<Record>, Fail> {
-    let mut scene = Scene::open(alloc, Config::default(), 1, 1)?;
+    let mut scene = Scene::open(alloc, Setting::of(Config::default(), 1, 1))?;
     sent_together(&mut scene, whole(alloc)?, null(alloc)?)
 }
 

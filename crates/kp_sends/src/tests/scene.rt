@@ -9,34 +9,66 @@ use kp_core::{Core, CoreFault, Replied, Report, Run};
 use std::alloc::Global;
 use std::test::Fail;
 
+/// What a core is opened with.
+#[derive(Clone, Copy)]
+pub struct Setting {
+    pub config: Config,
+    pub partitions: u32,
+    pub senders: u32,
+    /// The correlation id of its first request.
+    pub correlation: u32,
+    pub audits: bool,
+}
+
+impl Setting {
+    /// Of a core that keeps audits, and whose first request has the correlation id 2.
+    pub fn of(config: Config, partitions: u32, senders: u32) -> Setting {
+        Setting {
+            config,
+            partitions,
+            senders,
+            correlation: 2,
+            audits: true,
+        }
+    }
+}
+
 /// A core, and the memory of its tests.
 #[derive(Drop)]
 pub struct Scene {
     pub alloc: Global,
     pub core: Core,
+    /// All that there was to be seen of the core when it was kept.
+    kept: String,
 }
 
 impl Scene {
-    /// A core that keeps audits, and whose first request has the correlation id 2.
-    pub fn open(
-        alloc: Global,
-        config: Config,
-        partitions: u32,
-        senders: u32,
-    ) -> Result<Scene, Fail> {
-        Scene::open_from(alloc, config, partitions, senders, 2)
+    pub fn open(alloc: Global, setting: Setting) -> Result<Scene, Fail> {
+        let Setting {
+            config,
+            partitions,
+            senders,
+            correlation,
+            audits,
+        } = setting;
+        let core = core_of(alloc, config, partitions, senders, correlation, audits)?;
+        Ok(Scene {
+            alloc,
+            core,
+            kept: String::new(alloc),
+        })
     }
 
-    /// A core whose first request has this correlation id.
-    pub fn open_from(
-        alloc: Global,
-        config: Config,
-        partitions: u32,
-        senders: u32,
-        correlation: u32,
-    ) -> Result<Scene, Fail> {
-        let core = core_of(alloc, config, partitions, senders, correlation, true)?;
-        Ok(Scene { alloc, core })
+    /// Keeps what is to be seen of the core.
+    pub fn keep(&mut self) -> Result<(), Fail> {
+        self.kept = self.state()?;
+        Ok(())
+    }
+
+    /// Whether the core is as it was when it was kept.
+    pub fn is_as_kept(&self) -> Result<bool, Fail> {
+        let state = self.state()?;
+        Ok(state.as_str() == self.kept.as_str())
     }
 
     /// Sender 0's first items for partition 0, each with a value of one letter, at the moment 0.

@@ -1,7 +1,7 @@
 //! Schedules as lists of steps, each with what it shows.
 
 use crate::tests::samples::{ENDED, MISMATCH, UNKNOWN, item, settled};
-use crate::tests::scene::Scene;
+use crate::tests::scene::{Scene, Setting};
 use crate::tests::wire::{Answer, Given, Topic};
 use kp_accum::{AppendFault, Config};
 use kp_core::{CoreFault, Outcome, Replied, Report, Run};
@@ -73,6 +73,10 @@ pub enum Step<'a> {
     May(u32, u32, &'a str, bool),
     /// Whether it is closed, and whether it has ended.
     Ending(bool, bool),
+    /// All that is to be seen of the core is kept.
+    Keep,
+    /// All that is to be seen of it is as it was kept.
+    AsKept,
 }
 
 fn is_text<R: Abort>(rt: &R, place: usize, found: &str, wanted: &str) {
@@ -105,6 +109,7 @@ fn hand_over<R: Abort>(
 ) -> Result<(), Fail> {
     match *step {
         Step::Feed(values) => scene.feed(values)?,
+        Step::Keep => scene.keep()?,
         Step::Append(sender, partition, number, at, value) => {
             scene.accept(sender, partition, number, at, value)?
         }
@@ -248,6 +253,7 @@ fn look_at<R: Abort>(rt: &R, scene: &Scene, place: usize, step: &Step<'_>) -> Re
             is_true(rt, place, are_runs(scene.audit(partition)?, runs), true)
         }
         Step::NoAudit(partition) => is_true(rt, place, has_no_audit(scene, partition), true),
+        Step::AsKept => is_true(rt, place, scene.is_as_kept()?, true),
         _ => {}
     }
     Ok(())
@@ -286,7 +292,7 @@ fn look_on<R: Abort>(rt: &R, scene: &mut Scene, place: usize, step: &Step<'_>) -
 }
 
 /// Takes the steps.
-pub fn play<R: Abort>(rt: &R, scene: &mut Scene, steps: &[Step<'_>]) -> Result<(), Fail> {
+fn play<R: Abort>(rt: &R, scene: &mut Scene, steps: &[Step<'_>]) -> Result<(), Fail> {
     for (place, step) in steps.iter().enumerate() {
         hand_over(rt, scene, place, step)?;
         converse(rt, scene, place, step)?;
@@ -300,24 +306,40 @@ pub fn play<R: Abort>(rt: &R, scene: &mut Scene, steps: &[Step<'_>]) -> Result<(
     Ok(())
 }
 
-/// Takes these lists of steps, one behind the other.
-pub fn play_each<R: Abort>(rt: &R, scene: &mut Scene, lists: &[&[Step<'_>]]) -> Result<(), Fail> {
-    for steps in lists {
-        play(rt, scene, steps)?;
-    }
-    Ok(())
+const NO_STEPS: &[Step<'static>] = &[];
+
+/// Takes these steps, others, and then the last ones.
+fn play_between<R: Abort>(
+    rt: &R,
+    scene: &mut Scene,
+    before: &[Step<'_>],
+    steps: &[Step<'_>],
+    behind: &[Step<'_>],
+) -> Result<(), Fail> {
+    play(rt, scene, before)?;
+    play(rt, scene, steps)?;
+    play(rt, scene, behind)
 }
 
-/// Takes these lists of steps, one behind the other, from a new core on.
-pub fn plays_each<R: Abort + AllocGlobal>(
+/// Takes these steps from a new core on, others, and then the last ones.
+pub fn plays_between<R: Abort + AllocGlobal>(
     rt: &R,
-    config: Config,
-    partitions: u32,
-    senders: u32,
-    lists: &[&[Step<'_>]],
+    setting: Setting,
+    before: &[Step<'_>],
+    steps: &[Step<'_>],
+    behind: &[Step<'_>],
 ) -> Result<(), Fail> {
-    let mut scene = Scene::open(rt.alloc(), config, partitions, senders)?;
-    play_each(rt, &mut scene, lists)
+    let mut scene = Scene::open(rt.alloc(), setting)?;
+    play_between(rt, &mut scene, before, steps, behind)
+}
+
+/// Takes the steps from a new core on that is opened so.
+pub fn plays_of<R: Abort + AllocGlobal>(
+    rt: &R,
+    setting: Setting,
+    steps: &[Step<'_>],
+) -> Result<(), Fail> {
+    plays_between(rt, setting, NO_STEPS, steps, NO_STEPS)
 }
 
 /// Takes the steps, from a new core on.
@@ -328,13 +350,5 @@ pub fn plays<R: Abort + AllocGlobal>(
     senders: u32,
     steps: &[Step<'_>],
 ) -> Result<(), Fail> {
-    plays_each(rt, config, partitions, senders, &[steps])
-}
-
-/// Takes the steps, which leave all that is to be seen of the core as it is.
-pub fn play_in_vain<R: Abort>(rt: &R, scene: &mut Scene, steps: &[Step<'_>]) -> Result<(), Fail> {
-    let before = scene.state()?;
-    play(rt, scene, steps)?;
-    is_text(rt, steps.len(), scene.state()?.as_str(), before.as_str());
-    Ok(())
+    plays_of(rt, Setting::of(config, partitions, senders), steps)
 }

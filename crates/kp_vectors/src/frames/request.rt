@@ -10,7 +10,7 @@ use kp_frames::{
 use serde::Deserialize;
 use std::alloc::Global;
 
-#[derive(Debug, Drop, Deserialize)]
+#[derive(Drop, Deserialize)]
 pub(crate) struct RequestLine {
     message: Message,
     content: String,
@@ -19,7 +19,7 @@ pub(crate) struct RequestLine {
     body: BodyLine,
 }
 
-#[derive(Debug, Drop, Deserialize)]
+#[derive(Drop, Deserialize)]
 #[serde(untagged)]
 enum BodyLine {
     Produce(ProduceLine),
@@ -27,7 +27,7 @@ enum BodyLine {
     InitProducerId(InitProducerIdLine),
 }
 
-#[derive(Debug, Drop, Deserialize)]
+#[derive(Drop, Deserialize)]
 #[serde(deny_unknown_fields)]
 struct ProduceLine {
     transactional_id: Option<String>,
@@ -36,27 +36,27 @@ struct ProduceLine {
     topics: Vec<TopicLine>,
 }
 
-#[derive(Debug, Drop, Deserialize)]
+#[derive(Drop, Deserialize)]
 #[serde(deny_unknown_fields)]
 struct TopicLine {
     topic: String,
     partitions: Vec<PartitionLine>,
 }
 
-#[derive(Debug, Drop, Deserialize)]
+#[derive(Drop, Deserialize)]
 #[serde(deny_unknown_fields)]
 struct PartitionLine {
     partition: i32,
     records: String,
 }
 
-#[derive(Debug, Drop, Deserialize)]
+#[derive(Drop, Deserialize)]
 #[serde(deny_unknown_fields)]
 struct MetadataLine {
     topics: Option<Vec<String>>,
 }
 
-#[derive(Debug, Drop, Deserialize)]
+#[derive(Drop, Deserialize)]
 #[serde(deny_unknown_fields)]
 struct InitProducerIdLine {
     transactional_id: Option<String>,

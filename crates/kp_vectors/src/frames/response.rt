@@ -11,7 +11,7 @@ use kp_frames::{
 use serde::Deserialize;
 use std::alloc::Global;
 
-#[derive(Debug, Drop, Deserialize)]
+#[derive(Drop, Deserialize)]
 pub(crate) struct ResponseLine {
     message: Message,
     content: String,
@@ -19,7 +19,7 @@ pub(crate) struct ResponseLine {
     body: BodyLine,
 }
 
-#[derive(Debug, Drop, Deserialize)]
+#[derive(Drop, Deserialize)]
 #[serde(untagged)]
 enum BodyLine {
     Produce(ProduceLine),
@@ -27,21 +27,21 @@ enum BodyLine {
     InitProducerId(InitProducerIdLine),
 }
 
-#[derive(Debug, Drop, Deserialize)]
+#[derive(Drop, Deserialize)]
 #[serde(deny_unknown_fields)]
 struct ProduceLine {
     topics: Vec<TopicProduceLine>,
     throttle_time_ms: i32,
 }
 
-#[derive(Debug, Drop, Deserialize)]
+#[derive(Drop, Deserialize)]
 #[serde(deny_unknown_fields)]
 struct TopicProduceLine {
     topic: String,
     partitions: Vec<PartitionProduceLine>,
 }
 
-#[derive(Debug, Drop, Deserialize)]
+#[derive(Drop, Deserialize)]
 #[serde(deny_unknown_fields)]
 struct PartitionProduceLine {
     partition: i32,
@@ -50,7 +50,7 @@ struct PartitionProduceLine {
     log_append_time_ms: i64,
 }
 
-#[derive(Debug, Drop, Deserialize)]
+#[derive(Drop, Deserialize)]
 #[serde(deny_unknown_fields)]
 struct MetadataLine {
     brokers: Vec<BrokerLine>,
@@ -58,7 +58,7 @@ struct MetadataLine {
     topics: Vec<TopicMetadataLine>,
 }
 
-#[derive(Debug, Drop, Deserialize)]
+#[derive(Drop, Deserialize)]
 #[serde(deny_unknown_fields)]
 struct BrokerLine {
     node_id: i32,
@@ -67,7 +67,7 @@ struct BrokerLine {
     rack: Option<String>,
 }
 
-#[derive(Debug, Drop, Deserialize)]
+#[derive(Drop, Deserialize)]
 #[serde(deny_unknown_fields)]
 struct TopicMetadataLine {
     error_code: i16,
@@ -77,7 +77,7 @@ struct TopicMetadataLine {
     partitions: Vec<PartitionMetadataLine>,
 }
 
-#[derive(Debug, Drop, Deserialize)]
+#[derive(Drop, Deserialize)]
 #[serde(deny_unknown_fields)]
 struct PartitionMetadataLine {
     error_code: i16,
@@ -87,7 +87,7 @@ struct PartitionMetadataLine {
     isr: Vec<i32>,
 }
 
-#[derive(Debug, Drop, Deserialize)]
+#[derive(Drop, Deserialize)]
 #[serde(deny_unknown_fields)]
 struct InitProducerIdLine {
     throttle_time_ms: i32,

@@ -9,7 +9,7 @@ use std::process::Abort;
 use std::test::Fail;
 
 /// A step, with what it shows. The first number is a sender's.
-#[derive(Clone, Copy, Debug)]
+#[derive(Clone, Copy)]
 pub enum Step {
     /// A record without a key, with a value of so many bytes, is sent: its partition and its number there.
     Send(u32, Target, usize, (u32, u64)),
@@ -112,37 +112,38 @@ fn reported(intake: &mut Intake, sender: u32, number: u64) -> Result<bool, Fail>
     }
 }
 
-fn is_sent<R: Abort>(rt: &R, step: Step, found: Sent, wanted: Sent) {
-    assert_eq!(rt; found, wanted, "at {step:?}");
+fn is_sent<R: Abort>(rt: &R, at: usize, found: Sent, wanted: Sent) {
+    assert_eq!(rt; found, wanted, "at {at}");
 }
 
-fn is_true<R: Abort>(rt: &R, step: Step, found: bool, wanted: bool) {
-    assert_eq!(rt; found, wanted, "at {step:?}");
+fn is_true<R: Abort>(rt: &R, at: usize, found: bool, wanted: bool) {
+    assert_eq!(rt; found, wanted, "at {at}");
 }
 
-fn is_number<R: Abort>(rt: &R, step: Step, found: Option<u64>, wanted: Option<u64>) {
-    assert_eq!(rt; found, wanted, "at {step:?}");
+fn is_number<R: Abort>(rt: &R, at: usize, found: Option<u64>, wanted: Option<u64>) {
+    assert_eq!(rt; found, wanted, "at {at}");
 }
 
 /// What a sender sends.
-fn hand_in<R: Abort + AllocGlobal>(rt: &R, lanes: &mut Lanes, step: Step) -> Result<(), Fail> {
+fn hand_in<R: Abort + AllocGlobal>(
+    rt: &R,
+    lanes: &mut Lanes,
+    at: usize,
+    step: Step,
+) -> Result<(), Fail> {
     let alloc = rt.alloc();
     match step {
         Step::Send(sender, target, len, place) => {
-            is_sent(
-                rt,
-                step,
-                send(alloc, lanes, sender, target, None, len)?,
-                Ok(place),
-            )
+            let sent = send(alloc, lanes, sender, target, None, len)?;
+            is_sent(rt, at, sent, Ok(place))
         }
         Step::Back(sender, target, len, fault) => {
             let sent = send(alloc, lanes, sender, target, None, len)?;
-            is_sent(rt, step, sent, Err((fault, Some(len))))
+            is_sent(rt, at, sent, Err((fault, Some(len))))
         }
         Step::SendKeyed(sender, target, place) => {
             let sent = send(alloc, lanes, sender, target, Some(b"21"), 1)?;
-            is_sent(rt, step, sent, Ok(place))
+            is_sent(rt, at, sent, Ok(place))
         }
         _ => {}
     }
@@ -150,15 +151,15 @@ fn hand_in<R: Abort + AllocGlobal>(rt: &R, lanes: &mut Lanes, step: Step) -> Res
 }
 
 /// What a sender does beside, and is told.
-fn look<R: Abort>(rt: &R, lanes: &mut Lanes, step: Step) -> Result<(), Fail> {
+fn look<R: Abort>(rt: &R, lanes: &mut Lanes, at: usize, step: Step) -> Result<(), Fail> {
     match step {
         Step::Flush(sender, wanted) => {
             let flushed = flush(lanes, sender)?;
-            assert_eq!(rt; flushed, wanted, "at {step:?}")
+            assert_eq!(rt; flushed, wanted, "at {at}")
         }
-        Step::Told(sender, wanted) => is_number(rt, step, told(lanes, sender)?, wanted),
+        Step::Told(sender, wanted) => is_number(rt, at, told(lanes, sender)?, wanted),
         Step::Waiting(sender, wanted) => {
-            is_number(rt, step, Some(waiting(lanes, sender)?), Some(wanted))
+            is_number(rt, at, Some(waiting(lanes, sender)?), Some(wanted))
         }
         _ => {}
     }
@@ -166,27 +167,27 @@ fn look<R: Abort>(rt: &R, lanes: &mut Lanes, step: Step) -> Result<(), Fail> {
 }
 
 /// What the intake takes and hands over.
-fn take_out<R: Abort>(rt: &R, intake: &mut Intake, step: Step) -> Result<(), Fail> {
+fn take_out<R: Abort>(rt: &R, intake: &mut Intake, at: usize, step: Step) -> Result<(), Fail> {
     match step {
         Step::Take(sender, wanted) => {
             let found = taken(intake, sender);
-            assert_eq!(rt; found, wanted, "at {step:?}")
+            assert_eq!(rt; found, wanted, "at {at}")
         }
-        Step::Asked(sender, wanted) => is_true(rt, step, asked(intake, sender), wanted),
+        Step::Asked(sender, wanted) => is_true(rt, at, asked(intake, sender), wanted),
         Step::Report(sender, number, wanted) => {
-            is_true(rt, step, reported(intake, sender, number)?, wanted)
+            is_true(rt, at, reported(intake, sender, number)?, wanted)
         }
-        Step::IntakeQuiet(wanted) => is_true(rt, step, intake.quiet(), wanted),
+        Step::IntakeQuiet(wanted) => is_true(rt, at, intake.quiet(), wanted),
         _ => {}
     }
     Ok(())
 }
 
 /// What the closer does.
-fn close<R: Abort>(rt: &R, closer: &mut Closer, step: Step) {
+fn close<R: Abort>(rt: &R, closer: &mut Closer, at: usize, step: Step) {
     match step {
         Step::Shut => closer.shut(),
-        Step::CloserQuiet(wanted) => is_true(rt, step, closer.quiet(), wanted),
+        Step::CloserQuiet(wanted) => is_true(rt, at, closer.quiet(), wanted),
         _ => {}
     }
 }
@@ -214,11 +215,11 @@ pub fn plays<R: Abort + AllocGlobal>(
         intake,
         closer,
     };
-    for step in steps {
-        hand_in(rt, &mut lanes, *step)?;
-        look(rt, &mut lanes, *step)?;
-        take_out(rt, &mut lanes.intake, *step)?;
-        close(rt, &mut lanes.closer, *step);
+    for (at, step) in steps.iter().enumerate() {
+        hand_in(rt, &mut lanes, at, *step)?;
+        look(rt, &mut lanes, at, *step)?;
+        take_out(rt, &mut lanes.intake, at, *step)?;
+        close(rt, &mut lanes.closer, at, *step);
     }
     Ok(())
 }

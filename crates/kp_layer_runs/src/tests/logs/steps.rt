@@ -9,7 +9,7 @@ use std::process::Abort;
 use std::test::Fail;
 
 /// A batch whose records are numbered from its base sequence on, each number in two bytes.
-#[derive(Clone, Copy, Debug)]
+#[derive(Clone, Copy)]
 pub struct Sample {
     pub producer_id: i64,
     pub epoch: i16,
@@ -18,7 +18,7 @@ pub struct Sample {
 }
 
 /// A step of a log's life, with what it shows.
-#[derive(Clone, Copy, Debug)]
+#[derive(Clone, Copy)]
 pub enum Step {
     /// A batch of epoch 0 is offered and answered so: its producer id, its base sequence, its number of records.
     Offer(i64, u16, u16, (i16, i64)),
@@ -132,20 +132,20 @@ fn append_others(alloc: Global, log: &mut PartitionLog, count: u16) -> Result<()
     Ok(())
 }
 
-fn is_answered<R: Abort>(rt: &R, step: Step, found: (i16, i64), wanted: (i16, i64)) {
-    assert_eq!(rt; found, wanted, "at {step:?}");
+fn is_answered<R: Abort>(rt: &R, place: usize, found: (i16, i64), wanted: (i16, i64)) {
+    assert_eq!(rt; found, wanted, "at {place}");
 }
 
 /// A batch that goes by the rule.
 fn offer_sample<R: Abort + AllocGlobal>(
     rt: &R,
     log: &mut PartitionLog,
-    step: Step,
+    place: usize,
     sample: Sample,
     wanted: (i16, i64),
 ) -> Result<(), Fail> {
     let bytes = batch_of(rt.alloc(), sample)?;
-    is_answered(rt, step, offer(log, &bytes)?, wanted);
+    is_answered(rt, place, offer(log, &bytes)?, wanted);
     Ok(())
 }
 
@@ -153,6 +153,7 @@ fn offer_sample<R: Abort + AllocGlobal>(
 fn offer_by_rule<R: Abort + AllocGlobal>(
     rt: &R,
     log: &mut PartitionLog,
+    place: usize,
     step: Step,
 ) -> Result<(), Fail> {
     match step {
@@ -163,7 +164,7 @@ fn offer_by_rule<R: Abort + AllocGlobal>(
                 base_sequence,
                 count,
             };
-            offer_sample(rt, log, step, sample, wanted)
+            offer_sample(rt, log, place, sample, wanted)
         }
         Step::OfferOf(producer_id, epoch, base_sequence, wanted) => {
             let sample = Sample {
@@ -172,11 +173,11 @@ fn offer_by_rule<R: Abort + AllocGlobal>(
                 base_sequence,
                 count: 1,
             };
-            offer_sample(rt, log, step, sample, wanted)
+            offer_sample(rt, log, place, sample, wanted)
         }
         Step::OfferLonger(wanted) => {
             let bytes = longer_batch(rt.alloc())?;
-            is_answered(rt, step, offer(log, &bytes)?, wanted);
+            is_answered(rt, place, offer(log, &bytes)?, wanted);
             Ok(())
         }
         _ => Ok(()),
@@ -187,6 +188,7 @@ fn offer_by_rule<R: Abort + AllocGlobal>(
 fn offer_told<R: Abort + AllocGlobal>(
     rt: &R,
     log: &mut PartitionLog,
+    place: usize,
     step: Step,
     whim: Whim,
     wanted: (i16, i64),
@@ -197,7 +199,7 @@ fn offer_told<R: Abort + AllocGlobal>(
     } else {
         offer_then(log, b"no batch", whim)?
     };
-    is_answered(rt, step, found, wanted);
+    is_answered(rt, place, found, wanted);
     Ok(())
 }
 
@@ -205,14 +207,15 @@ fn offer_told<R: Abort + AllocGlobal>(
 fn offer_by_whim<R: Abort + AllocGlobal>(
     rt: &R,
     log: &mut PartitionLog,
+    place: usize,
     step: Step,
 ) -> Result<(), Fail> {
     match step {
         Step::Refuse(code, wanted) | Step::RefuseNoBatch(code, wanted) => {
-            offer_told(rt, log, step, refuse(code)?, wanted)
+            offer_told(rt, log, place, step, refuse(code)?, wanted)
         }
         Step::Late(code, wanted) | Step::LateNoBatch(code, wanted) => {
-            offer_told(rt, log, step, late(code)?, wanted)
+            offer_told(rt, log, place, step, late(code)?, wanted)
         }
         _ => Ok(()),
     }
@@ -239,18 +242,18 @@ fn own(log: &PartitionLog, ids: &[i64]) -> Result<Vec<u64>, Fail> {
 }
 
 /// What is to be seen.
-fn look<R: Abort>(rt: &R, log: &PartitionLog, step: Step) -> Result<(), Fail> {
+fn look<R: Abort>(rt: &R, log: &PartitionLog, place: usize, step: Step) -> Result<(), Fail> {
     match step {
-        Step::Len(len) => assert_eq!(rt; log.len(), len, "at {step:?}"),
-        Step::Segments(count) => assert_eq!(rt; log.segments(), count, "at {step:?}"),
+        Step::Len(len) => assert_eq!(rt; log.len(), len, "at {place}"),
+        Step::Segments(count) => assert_eq!(rt; log.segments(), count, "at {place}"),
         Step::Stands(offset, id, number) => {
-            assert_eq!(rt; stored_at(log, offset), Some((id, number)), "at {step:?}")
+            assert_eq!(rt; stored_at(log, offset), Some((id, number)), "at {place}")
         }
-        Step::Owned(offset, id) => assert_eq!(rt; owner_at(log, offset), Some(id), "at {step:?}"),
-        Step::Free(offset) => assert_eq!(rt; owner_at(log, offset), None, "at {step:?}"),
+        Step::Owned(offset, id) => assert_eq!(rt; owner_at(log, offset), Some(id), "at {place}"),
+        Step::Free(offset) => assert_eq!(rt; owner_at(log, offset), None, "at {place}"),
         Step::Own(ids, wanted) => {
             let found = own(log, ids)?;
-            assert_eq!(rt; found.as_slice(), wanted, "at {step:?}")
+            assert_eq!(rt; found.as_slice(), wanted, "at {place}")
         }
         _ => {}
     }
@@ -260,13 +263,13 @@ fn look<R: Abort>(rt: &R, log: &PartitionLog, step: Step) -> Result<(), Fail> {
 /// Takes the steps, from a new log on.
 pub fn plays<R: Abort + AllocGlobal>(rt: &R, steps: &[Step]) -> Result<(), Fail> {
     let mut log = PartitionLog::new(rt.alloc());
-    for step in steps {
-        offer_by_rule(rt, &mut log, *step)?;
-        offer_by_whim(rt, &mut log, *step)?;
+    for (place, step) in steps.iter().enumerate() {
+        offer_by_rule(rt, &mut log, place, *step)?;
+        offer_by_whim(rt, &mut log, place, *step)?;
         if let Step::Others(count) = step {
             append_others(rt.alloc(), &mut log, *count)?;
         }
-        look(rt, &log, *step)?;
+        look(rt, &log, place, *step)?;
     }
     Ok(())
 }
