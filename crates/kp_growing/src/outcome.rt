@@ -1,5 +1,8 @@
 //! What calls come to.
 
+ghost use Rattle.std.specs.Prelude.{◌≡◌};
+ghost use Rattle.kp_growing.specs.Outcomes.{right_or_wrong, made_again, worse, word_of};
+
 /// What a call came to.
 #[derive(Clone, Copy, Debug, PartialEq, Eq)]
 pub enum Outcome {
@@ -10,7 +13,9 @@ pub enum Outcome {
 }
 
 impl Outcome {
-    pub fn of(right: bool) -> Outcome {
+    pub fn of(right: bool) -> Outcome
+        ensures { result ≡ right_or_wrong right }
+    {
         if right {
             Outcome::Right
         } else {
@@ -19,7 +24,9 @@ impl Outcome {
     }
 
     /// The call's outcome, where this is the outcome of the same call, made again.
-    pub fn after_refusal(self) -> Outcome {
+    pub fn after_refusal(self) -> Outcome
+        ensures { result ≡ made_again self }
+    {
         match self {
             Outcome::Right => Outcome::Refused,
             other => other,
@@ -27,7 +34,9 @@ impl Outcome {
     }
 
     /// The outcome of two calls.
-    pub fn and(self, other: Outcome) -> Outcome {
+    pub fn and(self, other: Outcome) -> Outcome
+        ensures { result ≡ worse self other }
+    {
         match (self, other) {
             (Outcome::Right, Outcome::Right) => Outcome::Right,
             (Outcome::Wrong, _) | (_, Outcome::Wrong) => Outcome::Wrong,
@@ -36,7 +45,9 @@ impl Outcome {
     }
 
     /// What is printed of it.
-    pub fn name(self) -> &'static str {
+    pub fn name(self) -> &'static str
+        ensures { result.now ≡ word_of self }
+    {
         match self {
             Outcome::Right => "right",
             Outcome::Refused => "out of memory",
