@@ -13,14 +13,13 @@ use kp_growing::{ask, tell};
 use std::io;
 use std::process::ExitCode;
 
-/// What the work of this name comes to.
-fn told_of(rt: &HostRuntime, name: &[u8]) -> Option<&'static str> {
-    Some(outcome_of(rt, work_of(name)?).name())
-}
-
 fn main(rt: HostRuntime) -> io::Result<ExitCode> {
-    let told = match ask(&rt)? {
-        Some(asked) => told_of(&rt, asked.work()),
+    let work = match ask(&rt)? {
+        Some(asked) => work_of(asked.work()),
+        None => None,
+    };
+    let told = match work {
+        Some(work) => Some(outcome_of(&rt, work).name()),
         None => None,
     };
     tell(&rt, told)
