@@ -1,0 +1,5 @@
+use Rattle.std.proofs.Common.{IsSome}
+use Rattle.kp_connection_runs.proofs.tests.handshakes.shake.Given as goal
+
+abbrev pub invariant-loop-count : goal.invariant-loop-count
+invariant-loop-count l = IsSome l.handshake
