@@ -1,119 +1,50 @@
-use futures::task::Poll;
-use futures::test::MockTask;
 use kp_connection::script::{Script, Step};
-use kp_connection::{ReadFault, Stream, Wire};
-use std::alloc::Global;
-use std::io;
-use std::test::Fail;
+use std::alloc::{AllocError, Global};
+use std::process::Abort;
 
-mod ending;
 mod handshakes;
-mod reading;
-mod writing;
+mod wires;
 
-/// More than any read here is offered.
-const ALL: usize = 1_000_000_000;
-
-/// What a poll answered.
-#[derive(Clone, Copy, Debug, PartialEq, Eq)]
-enum Answer {
-    Waits,
-    /// So many bytes came.
-    Came(usize),
-    /// All was written.
-    Written,
-    Failed(io::ErrorKind),
-    TooLarge,
-    OutOfMemory,
+/// How a stream over memory goes: what its reads and its writes do, again and again, and after how many bytes it ends.
+#[derive(Clone, Copy)]
+struct Pace {
+    reads: &'static [Step],
+    writes: &'static [Step],
+    ends_after: usize,
 }
 
-/// A wire, and the task in which it is polled.
-#[derive(Drop)]
-struct Talk<S> {
-    alloc: Global,
-    task: MockTask,
-    wire: Wire<S>,
+/// Each call moves all that it can, and the stream never ends.
+const AT_ONCE: Pace = Pace {
+    reads: &[],
+    writes: &[],
+    ends_after: usize::MAX,
+};
+
+/// A stream that gives these pieces, one behind the other.
+fn script_of(alloc: Global, pieces: &[&[u8]], pace: Pace) -> Result<Script, AllocError> {
+    let mut input = Vec::new(alloc);
+    for piece in pieces {
+        input.extend_from_slice(piece)?;
+    }
+    paced(alloc, input, pace)
 }
 
-impl<S: Stream> Talk<S> {
-    fn over(rt: &HostRuntime, stream: S) -> Result<Talk<S>, Fail> {
-        Ok(Talk {
-            alloc: rt.alloc(),
-            task: MockTask::new(rt)?,
-            wire: Wire::new(rt.alloc(), stream),
-        })
-    }
-
-    /// Reads at most so many bytes, and one at least.
-    fn read(&mut self, most: usize) -> Answer {
-        let most = most.max(1);
-        let wire = &mut self.wire;
-        answer_of(self.task.enter(|cx| wire.poll_read_once(cx, most)))
-    }
-
-    fn write(&mut self) -> Answer {
-        let wire = &mut self.wire;
-        match self.task.enter(|cx| wire.poll_write(cx)) {
-            Poll::Pending => Answer::Waits,
-            Poll::Ready(Ok(())) => Answer::Written,
-            Poll::Ready(Err(e)) => Answer::Failed(e.kind()),
-        }
-    }
-
-    /// Whether the frame was taken to be written.
-    fn send(&mut self, frame: &[u8]) -> Result<bool, Fail> {
-        let is_idle = self.wire.is_idle();
-        if is_idle {
-            self.wire.send(frame.to_vec(self.alloc)?);
-        }
-        Ok(is_idle)
-    }
-
-    fn is_idle(&self) -> bool {
-        self.wire.is_idle()
-    }
-
-    fn wanted(&self) -> usize {
-        self.wire.wanted()
-    }
-
-    fn frame(&mut self) -> Result<Option<Vec<u8>>, Fail> {
-        Ok(self.wire.next_frame()?)
-    }
-
-    fn is_woken(&self) -> bool {
-        self.task.is_woken()
-    }
+/// A stream that gives this input.
+fn paced(alloc: Global, input: Vec<u8>, pace: Pace) -> Result<Script, AllocError> {
+    let reads = pace.reads.to_vec(alloc)?;
+    let writes = pace.writes.to_vec(alloc)?;
+    let script = Script::new(alloc, input).reading(reads).writing(writes);
+    Ok(script.ending_after(pace.ends_after))
 }
 
-fn answer_of(polled: Poll<Result<usize, ReadFault>>) -> Answer {
-    match polled {
-        Poll::Pending => Answer::Waits,
-        Poll::Ready(Ok(count)) => Answer::Came(count),
-        Poll::Ready(Err(ReadFault::Io(e))) => Answer::Failed(e.kind()),
-        Poll::Ready(Err(ReadFault::TooLarge)) => Answer::TooLarge,
-        Poll::Ready(Err(ReadFault::OutOfMemory)) => Answer::OutOfMemory,
-    }
+fn is_true<R: Abort>(rt: &R, place: &str, found: bool) {
+    assert!(rt; found, "{place}");
 }
 
-impl Talk<Script> {
-    /// Over a stream that gives this input, in these steps.
-    fn reading(rt: &HostRuntime, input: &[u8], steps: Vec<Step>) -> Result<Talk<Script>, Fail> {
-        let input = input.to_vec(rt.alloc())?;
-        Talk::over(rt, Script::new(rt.alloc(), input).reading(steps))
-    }
+fn is_number<R: Abort>(rt: &R, place: &str, found: usize, wanted: usize) {
+    assert_eq!(rt; found, wanted, "{place}");
+}
 
-    /// Over a stream that takes output in these steps.
-    fn writing(rt: &HostRuntime, steps: Vec<Step>) -> Result<Talk<Script>, Fail> {
-        let script = Script::new(rt.alloc(), Vec::new(rt.alloc()));
-        Talk::over(rt, script.writing(steps))
-    }
-
-    /// What was written, and what was not read.
-    fn end(self) -> Result<(Vec<u8>, Vec<u8>), Fail> {
-        let Talk { alloc, wire, .. } = self;
-        let script = wire.into_stream();
-        let unread = script.unread().to_vec(alloc)?;
-        Ok((script.into_output(), unread))
-    }
+fn is_bytes<R: Abort>(rt: &R, place: &str, found: &[u8], wanted: &[u8]) {
+    assert_eq!(rt; found, wanted, "{place}");
 }

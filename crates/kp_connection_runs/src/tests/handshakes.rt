@@ -3,6 +3,7 @@
 ghost use Rattle.std.specs.Prelude.{IsSome};
 ghost use Rattle.futures.specs.Poll.{OnPending};
 
+use crate::tests::{Pace, paced};
 use futures::task::Poll;
 use futures::test::MockTask;
 use kp_connection::script::Script;
@@ -10,6 +11,8 @@ use kp_connection::{Handshake, HandshakeFault, Hello, Stream};
 use kp_rules::Names;
 use kp_wire::Text;
 use std::alloc::{AllocError, Global};
+use std::process::Abort;
+use std::random::RandomSource;
 use std::test::Fail;
 
 mod asking;
@@ -18,17 +21,17 @@ mod giving;
 mod refusing;
 
 /// The request for Metadata of one topic.
-const METADATA_REQUEST: [u8; 22] = [
+const METADATA_REQUEST: &[u8] = &[
     0, 0, 0, 18, 0, 3, 0, 1, 0, 0, 0, 0, 0, 1, b'c', 0, 0, 0, 1, 0, 1, b't',
 ];
 
 /// The request for a producer id without a transactional id, whose timeout is the greatest.
-const PRODUCER_ID_REQUEST: [u8; 21] = [
+const PRODUCER_ID_REQUEST: &[u8] = &[
     0, 0, 0, 17, 0, 22, 0, 0, 0, 0, 0, 1, 0, 1, b'c', 255, 255, 127, 255, 255, 255,
 ];
 
 /// A broker 0 at "h" and port 9092, and the topic with the partitions 1 and 0, in this order.
-const METADATA: [u8; 95] = [
+const METADATA: &[u8] = &[
     0, 0, 0, 91, 0, 0, 0, 0, 0, 0, 0, 1, 0, 0, 0, 0, 0, 1, b'h', 0, 0, 35, 132, 255, 255, 0, 0, 0,
     0, 0, 0, 0, 1, 0, 0, 0, 1, b't', 0, 0, 0, 0, 2, 0, 0, 0, 0, 0, 1, 0, 0, 0, 0, 0, 0, 0, 1, 0, 0,
     0, 0, 0, 0, 0, 1, 0, 0, 0, 0, 0, 0, 0, 0, 0, 0, 0, 0, 0, 0, 0, 0, 0, 1, 0, 0, 0, 0, 0, 0, 0, 1,
@@ -36,9 +39,16 @@ const METADATA: [u8; 95] = [
 ];
 
 /// The producer id 4000, of epoch 0.
-const PRODUCER_ID: [u8; 24] = [
+const PRODUCER_ID: &[u8] = &[
     0, 0, 0, 20, 0, 0, 0, 1, 0, 0, 0, 0, 0, 0, 0, 0, 0, 0, 0, 0, 15, 160, 0, 0,
 ];
+
+/// What comes of both answers.
+const HELLO: Hello = Hello {
+    partitions: 2,
+    producer_id: 4000,
+    next_correlation: 2,
+};
 
 /// What a handshake came to, and at which poll.
 #[derive(Drop)]
@@ -66,7 +76,7 @@ fn poll<S: Stream>(
 }
 
 /// Polled a thousand times at most.
-fn shake(rt: &HostRuntime, script: Script) -> Result<Outcome, Fail> {
+fn shake<R: Abort + RandomSource + AllocGlobal>(rt: &R, script: Script) -> Result<Outcome, Fail> {
     let task = MockTask::new(rt)?;
     let mut handshake = Handshake::new(rt.alloc(), script, names(rt.alloc())?);
     for count in 1..=1000u32 {
@@ -79,43 +89,52 @@ fn shake(rt: &HostRuntime, script: Script) -> Result<Outcome, Fail> {
     Ok(Outcome::Waits)
 }
 
-/// A stream that gives these answers, one behind the other.
-fn answering(alloc: Global, answers: &[&[u8]]) -> Result<Script, AllocError> {
+/// The fault that comes of a stream.
+fn fault_over<R: Abort + RandomSource + AllocGlobal>(
+    rt: &R,
+    script: Script,
+) -> Result<Option<HandshakeFault>, Fail> {
+    match shake(rt, script)? {
+        Outcome::Fails(fault) => Ok(Some(fault)),
+        _ => Ok(None),
+    }
+}
+
+/// These answers, one behind the other, of which the bytes at these places are others.
+fn changed(
+    alloc: Global,
+    answers: &[&[u8]],
+    changes: &[(usize, u8)],
+) -> Result<Vec<u8>, AllocError> {
     let mut input = Vec::new(alloc);
     for answer in answers {
         input.extend_from_slice(answer)?;
     }
-    Ok(Script::new(alloc, input))
-}
-
-/// The hello that comes of a stream, the stream behind it, and at which poll it came.
-fn hello_over(rt: &HostRuntime, script: Script) -> Result<(Hello, Script, u32), Fail> {
-    match shake(rt, script)? {
-        Outcome::Gives(hello, script, count) => Ok((hello, script, count)),
-        Outcome::Fails(_) => Err("a fault".into()),
-        Outcome::Waits => Err("it waits".into()),
+    for (place, byte) in changes {
+        if let Some(at) = input.get_mut(*place) {
+            *at = *byte;
+        }
     }
+    Ok(input)
 }
 
-/// The fault that comes of a stream.
-fn fault_over(rt: &HostRuntime, script: Script) -> Result<HandshakeFault, Fail> {
-    match shake(rt, script)? {
-        Outcome::Fails(fault) => Ok(fault),
-        Outcome::Gives(..) => Err("a hello".into()),
-        Outcome::Waits => Err("it waits".into()),
-    }
+/// That this fault comes of a stream that gives these answers.
+fn fails<R: Abort + RandomSource + AllocGlobal>(
+    rt: &R,
+    shows: &str,
+    input: Vec<u8>,
+    pace: Pace,
+    wanted: HandshakeFault,
+) -> Result<(), Fail> {
+    let found = fault_over(rt, paced(rt.alloc(), input, pace)?)?;
+    is_fault(rt, shows, found, wanted);
+    Ok(())
 }
 
-/// The fault that comes of these answers.
-fn fault_of(rt: &HostRuntime, answers: &[&[u8]]) -> Result<HandshakeFault, Fail> {
-    fault_over(rt, answering(rt.alloc(), answers)?)
+fn is_fault<R: Abort>(rt: &R, shows: &str, found: Option<HandshakeFault>, wanted: HandshakeFault) {
+    assert_eq!(rt; found, Some(wanted), "{shows}");
 }
 
-/// These bytes, but for the one at this place.
-fn with(alloc: Global, bytes: &[u8], place: usize, byte: u8) -> Result<Vec<u8>, AllocError> {
-    let mut changed = bytes.to_vec(alloc)?;
-    if let Some(at) = changed.get_mut(place) {
-        *at = byte;
-    }
-    Ok(changed)
+fn is_hello<R: Abort>(rt: &R, shows: &str, found: Hello) {
+    assert_eq!(rt; found, HELLO, "{shows}");
 }

@@ -1,53 +1,57 @@
 //! Streams that end or fail before the hello.
 
-use crate::tests::handshakes::{METADATA, PRODUCER_ID, answering, fault_over};
+use crate::tests::handshakes::{METADATA, PRODUCER_ID, changed, fails};
+use crate::tests::{AT_ONCE, Pace};
 use kp_connection::HandshakeFault;
-use kp_connection::script::{Step, failing_at};
+use kp_connection::script::Step;
 use std::test::Fail;
 
-/// 22 bytes of a request and 50 of its answer go.
-#[test]
-fn the_stream_ends_in_the_middle_of_the_first_answer(rt: HostRuntime) -> Result<(), Fail> {
-    let script = answering(rt.alloc(), &[&METADATA, &PRODUCER_ID])?.ending_after(72);
-    assert_eq!(rt; fault_over(&rt, script)?, HandshakeFault::Io);
-    Ok(())
-}
+const MOVE: Step = Step::Move(usize::MAX);
 
-/// All bytes but the last one go, of 162.
-#[test]
-fn the_stream_ends_before_the_last_byte_of_the_second_answer(rt: HostRuntime) -> Result<(), Fail> {
-    let script = answering(rt.alloc(), &[&METADATA, &PRODUCER_ID])?.ending_after(161);
-    assert_eq!(rt; fault_over(&rt, script)?, HandshakeFault::Io);
-    Ok(())
-}
+/// The requests have 43 bytes and the answers 119. An answer comes in two reads: its size, and the rest.
+const PACES: &[(&str, Pace)] = &[
+    (
+        "the stream ends in the middle of the first answer: 22 bytes of a request and 50 of its answer go",
+        Pace {
+            ends_after: 72,
+            ..AT_ONCE
+        },
+    ),
+    (
+        "the stream ends before the last byte of the second answer",
+        Pace {
+            ends_after: 161,
+            ..AT_ONCE
+        },
+    ),
+    (
+        "the third read fails",
+        Pace {
+            reads: &[MOVE, MOVE, Step::Fail],
+            ..AT_ONCE
+        },
+    ),
+    (
+        "the second write fails",
+        Pace {
+            writes: &[MOVE, Step::Fail],
+            ..AT_ONCE
+        },
+    ),
+    (
+        "a write takes no byte",
+        Pace {
+            writes: &[Step::Move(5), Step::End],
+            ..AT_ONCE
+        },
+    ),
+];
 
-/// The first answer comes in two reads: its size, and the rest.
 #[test]
-fn the_third_read_fails(rt: HostRuntime) -> Result<(), Fail> {
-    let script = answering(rt.alloc(), &[&METADATA, &PRODUCER_ID])?.reading(failing_at(
-        rt.alloc(),
-        3,
-    )?);
-    assert_eq!(rt; fault_over(&rt, script)?, HandshakeFault::Io);
-    Ok(())
-}
-
-#[test]
-fn the_second_write_fails(rt: HostRuntime) -> Result<(), Fail> {
-    let script = answering(rt.alloc(), &[&METADATA, &PRODUCER_ID])?.writing(failing_at(
-        rt.alloc(),
-        2,
-    )?);
-    assert_eq!(rt; fault_over(&rt, script)?, HandshakeFault::Io);
-    Ok(())
-}
-
-#[test]
-fn a_write_takes_no_byte(rt: HostRuntime) -> Result<(), Fail> {
-    let script = answering(rt.alloc(), &[&METADATA, &PRODUCER_ID])?.writing(vec![in rt.alloc();
-        Step::Move(5),
-        Step::End,
-    ]?);
-    assert_eq!(rt; fault_over(&rt, script)?, HandshakeFault::Io);
+fn a_stream_that_ends_or_fails_is_a_fault_of_the_stream(rt: HostRuntime) -> Result<(), Fail> {
+    for (shows, pace) in PACES {
+        let input = changed(rt.alloc(), &[METADATA, PRODUCER_ID], &[])?;
+        fails(&rt, shows, input, *pace, HandshakeFault::Io)?;
+    }
     Ok(())
 }

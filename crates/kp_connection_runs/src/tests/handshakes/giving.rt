@@ -1,61 +1,72 @@
 //! Handshakes that give their hello.
 
 use crate::tests::handshakes::{
-    METADATA, METADATA_REQUEST, PRODUCER_ID, PRODUCER_ID_REQUEST, answering, hello_over,
+    METADATA, METADATA_REQUEST, Outcome, PRODUCER_ID, PRODUCER_ID_REQUEST, is_hello, shake,
 };
-use kp_connection::Hello;
-use kp_connection::script::Step;
+use crate::tests::{AT_ONCE, Pace, is_bytes, is_number, is_true, script_of};
+use kp_connection::script::{Script, Step};
+use std::process::Abort;
+use std::random::RandomSource;
 use std::test::Fail;
 
-const HELLO: Hello = Hello {
-    partitions: 2,
-    producer_id: 4000,
-    next_correlation: 2,
-};
-
-#[test]
-fn partitions_1_and_0_are_2_in_any_order(rt: HostRuntime) -> Result<(), Fail> {
-    let script = answering(rt.alloc(), &[&METADATA, &PRODUCER_ID])?;
-    let (hello, script, count) = hello_over(&rt, script)?;
-    assert_eq!(rt; hello, HELLO);
-    assert_eq!(rt; count, 1);
-    assert!(rt; script.unread().is_empty());
-    Ok(())
-}
-
-#[test]
-fn both_requests_are_written_and_nothing_else(rt: HostRuntime) -> Result<(), Fail> {
-    let script = answering(rt.alloc(), &[&METADATA, &PRODUCER_ID])?;
-    let (_, script, _) = hello_over(&rt, script)?;
-    let output = script.output();
-    assert_eq!(rt; output.len(), 43);
-    assert!(rt; output.starts_with(&METADATA_REQUEST));
-    assert!(rt; output.ends_with(&PRODUCER_ID_REQUEST));
-    Ok(())
+/// A handshake: its stream's pace, what stands behind its answers, and at which poll the hello comes.
+struct Shake {
+    shows: &'static str,
+    pace: Pace,
+    behind: &'static [u8],
+    polls: usize,
 }
 
 /// The requests have 43 bytes and the answers 119, and one poll is behind the last wait.
-#[test]
-fn a_byte_at_a_time_with_a_wait_before_each_gives_the_same(rt: HostRuntime) -> Result<(), Fail> {
-    let script = answering(rt.alloc(), &[&METADATA, &PRODUCER_ID])?
-        .reading(vec![in rt.alloc(); Step::Wait, Step::Move(1)]?)
-        .writing(vec![in rt.alloc(); Step::Wait, Step::Move(1)]?);
-    let (hello, script, count) = hello_over(&rt, script)?;
-    assert_eq!(rt; hello, HELLO);
-    assert_eq!(rt; count, 163);
-    assert!(rt; script.unread().is_empty());
+const SHAKES: &[Shake] = &[
+    Shake {
+        shows: "partitions 1 and 0 are 2 in any order",
+        pace: AT_ONCE,
+        behind: &[],
+        polls: 1,
+    },
+    Shake {
+        shows: "a byte at a time with a wait before each gives the same",
+        pace: Pace {
+            reads: &[Step::Wait, Step::Move(1)],
+            writes: &[Step::Wait, Step::Move(1)],
+            ..AT_ONCE
+        },
+        behind: &[],
+        polls: 163,
+    },
+    Shake {
+        shows: "bytes behind the second answer stay in the stream",
+        pace: AT_ONCE,
+        behind: &[7, 8],
+        polls: 1,
+    },
+];
+
+/// Both requests were written, one behind the other, and nothing else; and these bytes were not read.
+fn is_script<R: Abort>(rt: &R, shows: &str, script: &Script, behind: &[u8]) {
     let output = script.output();
-    assert_eq!(rt; output.len(), 43);
-    assert!(rt; output.starts_with(&METADATA_REQUEST));
-    assert!(rt; output.ends_with(&PRODUCER_ID_REQUEST));
+    is_number(rt, shows, output.len(), 43);
+    is_true(rt, shows, output.starts_with(METADATA_REQUEST));
+    is_true(rt, shows, output.ends_with(PRODUCER_ID_REQUEST));
+    is_bytes(rt, shows, script.unread(), behind);
+}
+
+fn gives<R: Abort + RandomSource + AllocGlobal>(rt: &R, case: &Shake) -> Result<(), Fail> {
+    let script = script_of(rt.alloc(), &[METADATA, PRODUCER_ID, case.behind], case.pace)?;
+    let Outcome::Gives(hello, script, count) = shake(rt, script)? else {
+        return Err(case.shows.into());
+    };
+    is_hello(rt, case.shows, hello);
+    is_number(rt, case.shows, count as usize, case.polls);
+    is_script(rt, case.shows, &script, case.behind);
     Ok(())
 }
 
 #[test]
-fn bytes_behind_the_second_answer_stay_in_the_stream(rt: HostRuntime) -> Result<(), Fail> {
-    let script = answering(rt.alloc(), &[&METADATA, &PRODUCER_ID, &[7, 8]])?;
-    let (hello, script, _) = hello_over(&rt, script)?;
-    assert_eq!(rt; hello, HELLO);
-    assert_eq!(rt; script.unread(), [7, 8].as_slice());
+fn both_answers_give_a_hello_however_they_come(rt: HostRuntime) -> Result<(), Fail> {
+    for case in SHAKES {
+        gives(&rt, case)?;
+    }
     Ok(())
 }

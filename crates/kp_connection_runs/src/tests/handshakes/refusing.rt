@@ -1,157 +1,133 @@
 //! Answers that give no hello.
 
-use crate::tests::handshakes::{METADATA, PRODUCER_ID, fault_of, with};
-use kp_connection::HandshakeFault;
+use crate::tests::AT_ONCE;
+use crate::tests::handshakes::{METADATA, PRODUCER_ID, changed, fails};
+use kp_connection::HandshakeFault::{self, BadAnswer, Frame, Refused};
 use kp_frames::FrameFault;
 use std::test::Fail;
 
-#[test]
-fn partitions_0_and_2_are_no_two(rt: HostRuntime) -> Result<(), Fail> {
-    let metadata = with(rt.alloc(), &METADATA, 48, 2)?;
-    assert_eq!(rt;
-        fault_of(&rt, &[&metadata, &PRODUCER_ID])?,
-        HandshakeFault::BadAnswer
-    );
-    Ok(())
+/// The place of the second answer.
+const ID: usize = 95;
+
+/// Answers of which the bytes at these places are others, and the fault that comes of them.
+struct Refusal {
+    shows: &'static str,
+    answers: &'static [&'static [u8]],
+    changes: &'static [(usize, u8)],
+    fault: HandshakeFault,
 }
 
-#[test]
-fn partition_1_twice_is_no_two(rt: HostRuntime) -> Result<(), Fail> {
-    let metadata = with(rt.alloc(), &METADATA, 74, 1)?;
-    assert_eq!(rt;
-        fault_of(&rt, &[&metadata, &PRODUCER_ID])?,
-        HandshakeFault::BadAnswer
-    );
-    Ok(())
-}
+/// Both answers as they should be.
+const BOTH: &[&[u8]] = &[METADATA, PRODUCER_ID];
 
-/// The answer ends behind the count of the partitions, 0.
-#[test]
-fn a_topic_without_a_partition_is_a_bad_answer(rt: HostRuntime) -> Result<(), Fail> {
-    let mut metadata = with(rt.alloc(), &METADATA, 3, 39)?;
-    metadata.truncate(43);
-    let metadata = with(rt.alloc(), &metadata, 42, 0)?;
-    assert_eq!(rt;
-        fault_of(&rt, &[&metadata, &PRODUCER_ID])?,
-        HandshakeFault::BadAnswer
-    );
-    Ok(())
-}
-
-#[test]
-fn a_topic_of_another_name_is_a_bad_answer(rt: HostRuntime) -> Result<(), Fail> {
-    let metadata = with(rt.alloc(), &METADATA, 37, b'u')?;
-    assert_eq!(rt;
-        fault_of(&rt, &[&metadata, &PRODUCER_ID])?,
-        HandshakeFault::BadAnswer
-    );
-    Ok(())
-}
-
-#[test]
-fn a_topic_with_code_3_is_refused_with_3(rt: HostRuntime) -> Result<(), Fail> {
-    let metadata = with(rt.alloc(), &METADATA, 34, 3)?;
-    assert_eq!(rt;
-        fault_of(&rt, &[&metadata, &PRODUCER_ID])?,
-        HandshakeFault::Refused(3)
-    );
-    Ok(())
-}
-
-#[test]
-fn the_code_of_a_topic_comes_before_its_partitions(rt: HostRuntime) -> Result<(), Fail> {
-    let metadata = with(rt.alloc(), &METADATA, 48, 2)?;
-    let metadata = with(rt.alloc(), &metadata, 34, 3)?;
-    assert_eq!(rt;
-        fault_of(&rt, &[&metadata, &PRODUCER_ID])?,
-        HandshakeFault::Refused(3)
-    );
-    Ok(())
-}
-
-#[test]
-fn a_first_answer_to_request_1_is_a_bad_answer(rt: HostRuntime) -> Result<(), Fail> {
-    let metadata = with(rt.alloc(), &METADATA, 7, 1)?;
-    assert_eq!(rt;
-        fault_of(&rt, &[&metadata, &PRODUCER_ID])?,
-        HandshakeFault::BadAnswer
-    );
-    Ok(())
-}
-
-#[test]
-fn a_second_answer_to_request_0_is_a_bad_answer(rt: HostRuntime) -> Result<(), Fail> {
-    let producer_id = with(rt.alloc(), &PRODUCER_ID, 7, 0)?;
-    assert_eq!(rt;
-        fault_of(&rt, &[&METADATA, &producer_id])?,
-        HandshakeFault::BadAnswer
-    );
-    Ok(())
-}
+/// A broker 0 at "h" and port 9092, and the topic with no partition, whose count it ends behind.
+const NO_PARTITION: &[u8] = &[
+    0, 0, 0, 39, 0, 0, 0, 0, 0, 0, 0, 1, 0, 0, 0, 0, 0, 1, b'h', 0, 0, 35, 132, 255, 255, 0, 0, 0,
+    0, 0, 0, 0, 1, 0, 0, 0, 1, b't', 0, 0, 0, 0, 0,
+];
 
 /// Code 35, producer id -1 and epoch -1.
-#[test]
-fn an_id_with_code_35_is_refused_with_35(rt: HostRuntime) -> Result<(), Fail> {
-    let producer_id = [
-        0, 0, 0, 20, 0, 0, 0, 1, 0, 0, 0, 0, 0, 35, 255, 255, 255, 255, 255, 255, 255, 255, 255,
-        255,
-    ];
-    assert_eq!(rt;
-        fault_of(&rt, &[&METADATA, &producer_id])?,
-        HandshakeFault::Refused(35)
-    );
-    Ok(())
-}
+const ID_OF_CODE_35: &[u8] = &[
+    0, 0, 0, 20, 0, 0, 0, 1, 0, 0, 0, 0, 0, 35, 255, 255, 255, 255, 255, 255, 255, 255, 255, 255,
+];
 
 /// Code 0, producer id -1 and epoch 0.
-#[test]
-fn the_id_of_no_producer_is_a_bad_answer(rt: HostRuntime) -> Result<(), Fail> {
-    let producer_id = [
-        0, 0, 0, 20, 0, 0, 0, 1, 0, 0, 0, 0, 0, 0, 255, 255, 255, 255, 255, 255, 255, 255, 0, 0,
-    ];
-    assert_eq!(rt;
-        fault_of(&rt, &[&METADATA, &producer_id])?,
-        HandshakeFault::BadAnswer
-    );
-    Ok(())
-}
+const ID_OF_NOBODY: &[u8] = &[
+    0, 0, 0, 20, 0, 0, 0, 1, 0, 0, 0, 0, 0, 0, 255, 255, 255, 255, 255, 255, 255, 255, 0, 0,
+];
+
+const REFUSALS: &[Refusal] = &[
+    Refusal {
+        shows: "partitions 0 and 2 are no two",
+        answers: BOTH,
+        changes: &[(48, 2)],
+        fault: BadAnswer,
+    },
+    Refusal {
+        shows: "partition 1 twice is no two",
+        answers: BOTH,
+        changes: &[(74, 1)],
+        fault: BadAnswer,
+    },
+    Refusal {
+        shows: "a topic without a partition is a bad answer",
+        answers: &[NO_PARTITION, PRODUCER_ID],
+        changes: &[],
+        fault: BadAnswer,
+    },
+    Refusal {
+        shows: "a topic of another name is a bad answer",
+        answers: BOTH,
+        changes: &[(37, b'u')],
+        fault: BadAnswer,
+    },
+    Refusal {
+        shows: "a topic with code 3 is refused with 3",
+        answers: BOTH,
+        changes: &[(34, 3)],
+        fault: Refused(3),
+    },
+    Refusal {
+        shows: "the code of a topic comes before its partitions",
+        answers: BOTH,
+        changes: &[(48, 2), (34, 3)],
+        fault: Refused(3),
+    },
+    Refusal {
+        shows: "a first answer to request 1 is a bad answer",
+        answers: BOTH,
+        changes: &[(7, 1)],
+        fault: BadAnswer,
+    },
+    Refusal {
+        shows: "a second answer to request 0 is a bad answer",
+        answers: BOTH,
+        changes: &[(ID + 7, 0)],
+        fault: BadAnswer,
+    },
+    Refusal {
+        shows: "an id with code 35 is refused with 35",
+        answers: &[METADATA, ID_OF_CODE_35],
+        changes: &[],
+        fault: Refused(35),
+    },
+    Refusal {
+        shows: "the id of no producer is a bad answer",
+        answers: &[METADATA, ID_OF_NOBODY],
+        changes: &[],
+        fault: BadAnswer,
+    },
+    Refusal {
+        shows: "an id of epoch 1 is a bad answer",
+        answers: BOTH,
+        changes: &[(ID + 23, 1)],
+        fault: BadAnswer,
+    },
+    Refusal {
+        shows: "an answer whose frame ends before it is short",
+        answers: BOTH,
+        changes: &[(3, 90)],
+        fault: Frame(FrameFault::Short),
+    },
+    Refusal {
+        shows: "an answer whose frame goes on behind it trails",
+        answers: &[METADATA, PRODUCER_ID, &[0]],
+        changes: &[(ID + 3, 21)],
+        fault: Frame(FrameFault::Trailing),
+    },
+    Refusal {
+        shows: "an answer of a size that no frame has is too large",
+        answers: BOTH,
+        changes: &[(0, 255)],
+        fault: Frame(FrameFault::TooLarge),
+    },
+];
 
 #[test]
-fn an_id_of_epoch_1_is_a_bad_answer(rt: HostRuntime) -> Result<(), Fail> {
-    let producer_id = with(rt.alloc(), &PRODUCER_ID, 23, 1)?;
-    assert_eq!(rt;
-        fault_of(&rt, &[&METADATA, &producer_id])?,
-        HandshakeFault::BadAnswer
-    );
-    Ok(())
-}
-
-#[test]
-fn an_answer_whose_frame_ends_before_it_is_short(rt: HostRuntime) -> Result<(), Fail> {
-    let metadata = with(rt.alloc(), &METADATA, 3, 90)?;
-    assert_eq!(rt;
-        fault_of(&rt, &[&metadata, &PRODUCER_ID])?,
-        HandshakeFault::Frame(FrameFault::Short)
-    );
-    Ok(())
-}
-
-#[test]
-fn an_answer_whose_frame_goes_on_behind_it_trails(rt: HostRuntime) -> Result<(), Fail> {
-    let producer_id = with(rt.alloc(), &PRODUCER_ID, 3, 21)?;
-    assert_eq!(rt;
-        fault_of(&rt, &[&METADATA, &producer_id, &[0]])?,
-        HandshakeFault::Frame(FrameFault::Trailing)
-    );
-    Ok(())
-}
-
-#[test]
-fn an_answer_of_a_size_that_no_frame_has_is_too_large(rt: HostRuntime) -> Result<(), Fail> {
-    let metadata = with(rt.alloc(), &METADATA, 0, 255)?;
-    assert_eq!(rt;
-        fault_of(&rt, &[&metadata, &PRODUCER_ID])?,
-        HandshakeFault::Frame(FrameFault::TooLarge)
-    );
+fn answers_that_give_no_hello_tell_their_fault(rt: HostRuntime) -> Result<(), Fail> {
+    for case in REFUSALS {
+        let input = changed(rt.alloc(), case.answers, case.changes)?;
+        fails(&rt, case.shows, input, AT_ONCE, case.fault)?;
+    }
     Ok(())
 }

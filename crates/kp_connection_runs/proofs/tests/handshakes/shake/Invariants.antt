@@ -2,4 +2,4 @@ use Rattle.std.proofs.Common.{IsSome}
 use Rattle.kp_connection_runs.proofs.tests.handshakes.shake.Given as goal
 
 abbrev pub invariant-loop-count : goal.invariant-loop-count
-invariant-loop-count l = IsSome l.handshake
+invariant-loop-count g l = IsSome l.handshake

@@ -1,26 +1,32 @@
 //! Where the stream ends.
 
-use crate::tests::{ALL, Answer, Talk};
+use crate::tests::wires::Answer::{Came, Failed, Waits, Written};
+use crate::tests::wires::Call::{self, Frame, Read, Send, Write};
+use crate::tests::wires::{ALL, Talk, play_all, plays};
+use crate::tests::{AT_ONCE, Pace};
 use futures::task::Poll;
 use futures::test::MockTask;
 use kp_connection::Plain;
-use kp_connection::script::Script;
-use std::io::ErrorKind;
+use std::io::ErrorKind::WriteZero;
 use std::test::Fail;
 use tokio::io::{AsyncRead, AsyncWrite, DuplexStream, duplex};
 
 #[test]
 fn the_stream_ends_after_7_bytes_in_both_directions(rt: HostRuntime) -> Result<(), Fail> {
-    let input = vec![in rt.alloc(); 0, 0, 0, 2, 7, 8]?;
-    let mut talk = Talk::over(&rt, Script::new(rt.alloc(), input).ending_after(7))?;
-    assert!(rt; talk.send(&[0, 0, 0, 0])?);
-    assert_eq!(rt; talk.write(), Answer::Written);
-    assert_eq!(rt; talk.read(ALL), Answer::Came(3));
-    assert_eq!(rt; talk.read(ALL), Answer::Came(0));
-    assert!(rt; talk.frame()?.is_none());
-    assert!(rt; talk.send(&[0, 0, 0, 0])?);
-    assert_eq!(rt; talk.write(), Answer::Failed(ErrorKind::WriteZero));
-    Ok(())
+    const PACE: Pace = Pace {
+        ends_after: 7,
+        ..AT_ONCE
+    };
+    const CALLS: &[Call] = &[
+        Send(&[0, 0, 0, 0]),
+        Write(Written),
+        Read(ALL, Came(3)),
+        Read(ALL, Came(0)),
+        Frame(None),
+        Send(&[0, 0, 0, 0]),
+        Write(Failed(WriteZero)),
+    ];
+    plays(&rt, &[&[0, 0, 0, 2, 7, 8]], PACE, CALLS, (&[0, 0, 0, 0], 3))
 }
 
 /// How many bytes the far end takes of 5, and how many it gives of a frame of 5.
@@ -40,16 +46,12 @@ fn exchange(task: &MockTask, far: &mut DuplexStream) -> (Option<usize>, Option<u
 /// Tokio's own stream over memory, whose other end is dropped.
 #[test]
 fn a_wire_runs_over_a_stream_of_tokio(rt: HostRuntime) -> Result<(), Fail> {
+    const BEFORE: &[Call] = &[Read(ALL, Waits), Send(&[0, 0, 0, 0]), Write(Written)];
+    const BEHIND: &[Call] = &[Read(ALL, Came(5)), Frame(Some(&[7])), Read(ALL, Came(0))];
     let (near, mut far) = duplex(rt.alloc(), 16)?;
-    let task = MockTask::new(&rt)?;
     let mut talk = Talk::over(&rt, Plain { inner: near })?;
-    assert_eq!(rt; talk.read(ALL), Answer::Waits);
-    assert!(rt; talk.send(&[0, 0, 0, 0])?);
-    assert_eq!(rt; talk.write(), Answer::Written);
-    assert_eq!(rt; exchange(&task, &mut far), (Some(4), Some(5)));
+    play_all(&rt, &mut talk, BEFORE)?;
+    assert_eq!(rt; exchange(&talk.task, &mut far), (Some(4), Some(5)));
     drop(far);
-    assert_eq!(rt; talk.read(ALL), Answer::Came(5));
-    assert_eq!(rt; talk.frame()?.ok_or("a frame")?.as_slice(), [7].as_slice());
-    assert_eq!(rt; talk.read(ALL), Answer::Came(0));
-    Ok(())
+    play_all(&rt, &mut talk, BEHIND)
 }
