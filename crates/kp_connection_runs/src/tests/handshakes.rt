@@ -75,18 +75,30 @@ fn poll<S: Stream>(
     task.poll(handshake)
 }
 
-/// Polled a thousand times at most.
-fn shake<R: Abort + RandomSource + AllocGlobal>(rt: &R, script: Script) -> Result<Outcome, Fail> {
-    let task = MockTask::new(rt)?;
-    let mut handshake = Handshake::new(rt.alloc(), script, names(rt.alloc())?);
+/// Polled a thousand times at most: at which poll it is ready, and what it gives.
+fn poll_often<S: Stream>(
+    task: &MockTask,
+    handshake: &mut Handshake<S>,
+) -> Option<(u32, Result<(Hello, S), HandshakeFault>)>
+    requires { IsSome handshake.old }
+{
     for count in 1..=1000u32 {
-        match poll(&task, &mut handshake) {
-            Poll::Pending => {}
-            Poll::Ready(Ok((hello, script))) => return Ok(Outcome::Gives(hello, script, count)),
-            Poll::Ready(Err(fault)) => return Ok(Outcome::Fails(fault)),
+        if let Poll::Ready(found) = poll(task, handshake) {
+            return Some((count, found));
         }
     }
-    Ok(Outcome::Waits)
+    None
+}
+
+fn shake<R: Abort + RandomSource + AllocGlobal>(rt: &R, script: Script) -> Result<Outcome, Fail> {
+    let task = MockTask::new(rt)?;
+    let names = names(rt.alloc())?;
+    let mut handshake = Handshake::new(rt.alloc(), script, names);
+    Ok(match poll_often(&task, &mut handshake) {
+        None => Outcome::Waits,
+        Some((count, Ok((hello, script)))) => Outcome::Gives(hello, script, count),
+        Some((_, Err(fault))) => Outcome::Fails(fault),
+    })
 }
 
 /// The fault that comes of a stream.

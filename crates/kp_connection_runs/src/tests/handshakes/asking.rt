@@ -1,12 +1,14 @@
 //! What a broker at the far end of a stream sees, poll by poll.
 
+ghost use Rattle.std.specs.Prelude.{IsSome, IfOk};
+
 use crate::tests::handshakes::{
     HELLO, METADATA, METADATA_REQUEST, PRODUCER_ID, PRODUCER_ID_REQUEST, changed, names, poll,
 };
 use crate::tests::{is_bytes, is_number, is_true};
 use futures::task::Poll;
 use futures::test::MockTask;
-use kp_connection::{Handshake, HandshakeFault, Hello, Plain};
+use kp_connection::{Handshake, HandshakeFault, Hello, Plain, Stream};
 use std::process::Abort;
 use std::random::RandomSource;
 use std::test::Fail;
@@ -94,6 +96,41 @@ fn is_outcome<R: Abort>(
     assert_eq!(rt; found, wanted);
 }
 
+/// The handshake waits in each of these turns.
+fn waits<R: Abort, S: Stream>(
+    rt: &R,
+    far: &mut Far,
+    task: &MockTask,
+    handshake: &mut Handshake<S>,
+    turns: &[Turn],
+) -> Result<(), Fail>
+    requires { IsSome handshake.old }
+    ensures { IfOk result (λ _. IsSome handshake.new) }
+{
+    for turn in turns {
+        says(rt, "a turn", far, turn.says);
+        let Poll::Pending = poll(task, handshake) else {
+            return Err("it does not wait".into());
+        };
+        hears(rt, "a turn", far, turn.hears)?;
+    }
+    Ok(())
+}
+
+/// What comes of the next poll, where it does not wait.
+fn outcome<S: Stream>(
+    task: &MockTask,
+    handshake: &mut Handshake<S>,
+) -> Result<Result<Hello, HandshakeFault>, Fail>
+    requires { IsSome handshake.old }
+{
+    match poll(task, handshake) {
+        Poll::Ready(Ok((hello, _))) => Ok(Ok(hello)),
+        Poll::Ready(Err(fault)) => Ok(Err(fault)),
+        Poll::Pending => Err("it waits".into()),
+    }
+}
+
 /// What comes of a handshake, whose stream is dropped then.
 fn shakes<R: Abort + RandomSource + AllocGlobal>(
     rt: &R,
@@ -103,20 +140,11 @@ fn shakes<R: Abort + RandomSource + AllocGlobal>(
     last: &[u8],
 ) -> Result<Result<Hello, HandshakeFault>, Fail> {
     let task = MockTask::new(rt)?;
-    let mut handshake = Handshake::new(rt.alloc(), near, names(rt.alloc())?);
-    for turn in turns {
-        says(rt, "a turn", far, turn.says);
-        let Poll::Pending = poll(&task, &mut handshake) else {
-            return Err("it does not wait".into());
-        };
-        hears(rt, "a turn", far, turn.hears)?;
-    }
+    let names = names(rt.alloc())?;
+    let mut handshake = Handshake::new(rt.alloc(), near, names);
+    waits(rt, far, &task, &mut handshake, turns)?;
     says(rt, "the last turn", far, last);
-    match poll(&task, &mut handshake) {
-        Poll::Ready(Ok((hello, _))) => Ok(Ok(hello)),
-        Poll::Ready(Err(fault)) => Ok(Err(fault)),
-        Poll::Pending => Err("it waits".into()),
-    }
+    outcome(&task, &mut handshake)
 }
 
 #[test]
