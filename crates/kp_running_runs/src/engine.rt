@@ -11,7 +11,7 @@ use kp_connection::{Handshake, Hello, Plain};
 use kp_core::{Core, Names};
 use kp_engine::{Engine, Stop};
 use kp_lanes::Intake;
-use kp_running::{Bells, Millis, Running};
+use kp_running::{Bells, Millis, Running, Turning};
 use kp_wire::Text;
 use std::alloc::{AllocError, AllocGlobal, Global};
 use std::net::{Net, SocketAddr, TcpListener};
@@ -60,6 +60,58 @@ fn ends_of(alloc: Global, hello: Hello, lanes: Unused) -> Result<(Core, Intake),
     Ok((core, intake))
 }
 
+/// Connects, and introduces the producer.
+fn greet<R>(
+    rt: &R,
+    runtime: &mut LocalRuntime,
+    address: SocketAddr,
+) -> Result<(Hello, Plain<TcpStream>), Wrong>
+where
+    R: Wait + Clock + RandomSource + AllocGlobal,
+    R: Net<Listener = TcpListener, Stream = std::net::TcpStream>,
+{
+    let connect = TcpStream::connect(rt, address, runtime.handle().reactor());
+    let socket = runtime.block_on(rt, connect)??;
+    socket.set_nodelay(true)?;
+    let names = names(rt.alloc())?;
+    let greeting = Handshake::new(rt.alloc(), Plain { inner: socket }, names);
+    Ok(runtime.block_on(rt, greeting)??)
+}
+
+/// An engine of a new core and these lanes, over the stream on which it was introduced.
+fn engine_of<'a, R: Clock + AllocGlobal>(
+    rt: &'a R,
+    hello: Hello,
+    lanes: Unused,
+    stream: Plain<TcpStream>,
+) -> Result<Engine<Plain<TcpStream>, Millis<'a, R>>, Wrong> {
+    let (core, intake) = ends_of(rt.alloc(), hello, lanes)?;
+    let clock = Millis::new(rt)?;
+    match Engine::new(rt.alloc(), core, intake, stream, clock, false) {
+        Ok(engine) => Ok(engine),
+        Err(_) => Err(Wrong::OutOfMemory),
+    }
+}
+
+/// Runs an engine to its stop.
+fn run_to_stop<R: Wait + Clock + RandomSource + AllocGlobal, E: Turning>(
+    rt: &R,
+    runtime: &mut LocalRuntime,
+    bells: &Bells,
+    engine: E,
+) -> Result<(E, E::Stop), Wrong> {
+    match Running::new(rt, runtime.handle(), bells, engine) {
+        Ok(running) => Ok(runtime.block_on(rt, running)?),
+        Err(_) => Err(Wrong::OutOfMemory),
+    }
+}
+
+/// How many items and reports it held back.
+fn held_of<R: Clock>(engine: Engine<Plain<TcpStream>, Millis<'_, R>>) -> usize {
+    let held = engine.into_parts().held;
+    held.items.len().saturating_add(held.reports.len())
+}
+
 /// Connects, introduces the producer and runs an engine to its stop.
 pub(crate) fn run<R>(
     rt: &R,
@@ -72,33 +124,28 @@ where
     R: Net<Listener = TcpListener, Stream = std::net::TcpStream>,
 {
     let mut runtime = LocalRuntime::new(rt)?;
-    let connect = TcpStream::connect(rt, address, runtime.handle().reactor());
-    let socket = runtime.block_on(rt, connect)??;
-    socket.set_nodelay(true)?;
-    let greeting = Handshake::new(rt.alloc(), Plain { inner: socket }, names(rt.alloc())?);
-    let (hello, stream) = runtime.block_on(rt, greeting)??;
+    let (hello, stream) = greet(rt, &mut runtime, address)?;
+    run_on(rt, &mut runtime, bells, hello, lanes, stream)
+}
+
+/// Runs an engine to its stop, over the stream on which the producer was introduced.
+fn run_on<R: Wait + Clock + RandomSource + AllocGlobal>(
+    rt: &R,
+    runtime: &mut LocalRuntime,
+    bells: &Bells,
+    hello: Hello,
+    lanes: Unused,
+    stream: Plain<TcpStream>,
+) -> Result<Ended, Wrong> {
     let start = Instant::now(rt)?;
-    let (core, intake) = ends_of(rt.alloc(), hello, lanes)?;
-    let clock = Millis::new(rt)?;
-    let Ok(engine) = Engine::new(rt.alloc(), core, intake, stream, clock, false) else {
-        return Err(Wrong::OutOfMemory);
-    };
+    let engine = engine_of(rt, hello, lanes, stream)?;
     let counted = Counted { engine, polls: 0 };
-    let Ok(running) = Running::new(rt, runtime.handle(), bells, counted) else {
-        return Err(Wrong::OutOfMemory);
-    };
-    let (counted, stop) = runtime.block_on(rt, running)?;
-    let millis = start.elapsed(rt)?.as_millis();
+    let (counted, stop) = run_to_stop(rt, runtime, bells, counted)?;
     let Counted { engine, polls } = counted;
-    let parts = engine.into_parts();
     Ok(Ended {
         stop,
-        held: parts
-            .held
-            .items
-            .len()
-            .saturating_add(parts.held.reports.len()),
+        held: held_of(engine),
         polls,
-        millis,
+        millis: start.elapsed(rt)?.as_millis(),
     })
 }

@@ -76,6 +76,21 @@ where
     let listener = TcpListener::bind(rt, SocketAddr::from((Ipv4Addr::LOCALHOST, 0)))?;
     let address = listener.local_addr()?;
     let mut broker = Broker::new(rt.alloc(), "t", 1, address.port())?;
+    run_over(rt, plan, &listener, address, &mut broker)
+}
+
+/// Runs all three threads, over a broker that listens.
+fn run_over<R>(
+    rt: &R,
+    plan: Plan,
+    listener: &TcpListener,
+    address: SocketAddr,
+    broker: &mut Broker,
+) -> Result<(Ended, Account), Wrong>
+where
+    R: Wait + Threads + Clock + RandomSource + AllocGlobal + Sync,
+    R: Net<Listener = TcpListener, Stream = TcpStream>,
+{
     let bells = Bells::new(rt.alloc(), 1)?;
     let (sender, lanes, closer) = open(rt.alloc())?;
     let over = AtomicBool::new(false);
@@ -84,7 +99,7 @@ where
     let waiting = Waiting::new(sender, closer, bells.engine(), bells.of(0), stopped);
     let (served, (account, ended)) = thread::join(
         rt,
-        || broker::serve_all(rt, &listener, &mut broker, over),
+        || broker::serve_all(rt, listener, broker, over),
         move || {
             let both = run_both(rt, plan, address, bells, lanes, stopped, waiting);
             broker::end(rt, address, over);
