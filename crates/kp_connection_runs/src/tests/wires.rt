@@ -112,7 +112,7 @@ fn is_frame<R: Abort>(rt: &R, place: &str, found: Option<Vec<u8>>, wanted: Optio
     }
 }
 
-fn play<S: Stream, R: Abort + RandomSource + AllocGlobal>(
+fn play<S: Stream, R: Abort>(
     rt: &R,
     place: &str,
     talk: &mut Talk<S>,
@@ -130,11 +130,7 @@ fn play<S: Stream, R: Abort + RandomSource + AllocGlobal>(
     Ok(())
 }
 
-fn play_all<S: Stream, R: Abort + RandomSource + AllocGlobal>(
-    rt: &R,
-    talk: &mut Talk<S>,
-    calls: &[Call],
-) -> Result<(), Fail> {
+fn play_all<S: Stream, R: Abort>(rt: &R, talk: &mut Talk<S>, calls: &[Call]) -> Result<(), Fail> {
     for (at, call) in calls.iter().enumerate() {
         let place = format!(in talk.alloc; "call {at}")?;
         play(rt, &place, talk, *call)?;

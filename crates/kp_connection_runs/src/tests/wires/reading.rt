@@ -3,9 +3,11 @@
 use crate::tests::wires::Answer::{Came, Failed, TooLarge, Waits};
 use crate::tests::wires::Call::{self, Frame, Read, Wants, Woken};
 use crate::tests::wires::{ALL, Talk, play_all, plays};
-use crate::tests::{AT_ONCE, Pace, paced};
-use kp_connection::script::Step;
+use crate::tests::{AT_ONCE, Pace, is_number, is_true, paced};
+use kp_connection::script::{Script, Step};
+use std::alloc::Global;
 use std::io::ErrorKind::ConnectionReset;
+use std::process::Abort;
 use std::test::Fail;
 
 /// Two frames, of which the second is empty, and the size of a third.
@@ -14,34 +16,41 @@ const FRAMES: &[u8] = &[0, 0, 0, 1, 7, 0, 0, 0, 0, 0, 0, 0, 2];
 /// A byte comes, and then there is a wait.
 const BYTE: [Call; 3] = [Read(ALL, Came(1)), Read(ALL, Waits), Woken];
 
+/// The frame that each byte of the stream ends, where it ends one.
+const FRAMES_ENDED: [Option<&'static [u8]>; 13] = [
+    None,
+    None,
+    None,
+    None,
+    Some(&[7]),
+    None,
+    None,
+    None,
+    Some(&[]),
+    None,
+    None,
+    None,
+    None,
+];
+
+/// Each byte comes by itself, and behind the last there is none.
+fn byte_by_byte(alloc: Global) -> Result<Vec<Call>, Fail> {
+    let mut calls = Vec::new(alloc);
+    for frame in FRAMES_ENDED {
+        calls.extend_from_slice(&BYTE)?;
+        calls.push(Frame(frame))?;
+    }
+    calls.push(Read(ALL, Waits))?;
+    Ok(calls)
+}
+
 #[test]
 fn frames_come_a_byte_at_a_time_with_waits_between(rt: HostRuntime) -> Result<(), Fail> {
     const PACE: Pace = Pace {
         reads: &[Step::Move(1), Step::Wait],
         ..AT_ONCE
     };
-    // Each byte, and the frame that it ends.
-    const FRAMES_ENDED: [Option<&'static [u8]>; 13] = [
-        None,
-        None,
-        None,
-        None,
-        Some(&[7]),
-        None,
-        None,
-        None,
-        Some(&[]),
-        None,
-        None,
-        None,
-        None,
-    ];
-    let mut calls = Vec::new(rt.alloc());
-    for frame in FRAMES_ENDED {
-        calls.extend_from_slice(&BYTE)?;
-        calls.push(Frame(frame))?;
-    }
-    calls.push(Read(ALL, Waits))?;
+    let calls = byte_by_byte(rt.alloc())?;
     plays(&rt, &[FRAMES], PACE, &calls, (&[], 0))
 }
 
@@ -62,21 +71,36 @@ fn no_byte_is_read_behind_a_frame_where_only_what_it_wants_is_asked_for(
     plays(&rt, &[FRAMES], AT_ONCE, CALLS, (&[], 8))
 }
 
-/// The frame with the greatest content, 16 MiB of 9s, comes in reads of 64 KiB, and one of 4 bytes, as many as its size takes.
+/// A stream that gives the frame with the greatest content, 16 MiB of 9s.
+fn greatest(alloc: Global) -> Result<Script, Fail> {
+    let mut input = vec![in alloc; 1, 0, 0, 0]?;
+    input.resize(16_777_220, 9)?;
+    Ok(paced(alloc, input, AT_ONCE)?)
+}
+
+fn is_greatest<R: Abort>(rt: &R, content: &[u8]) {
+    is_number(rt, "its length", content.len(), 16_777_216);
+    let is_nines = content.iter().all(|byte| *byte == 9);
+    is_true(rt, "its bytes", is_nines);
+}
+
+/// In reads of 64 KiB, and one of 4 bytes, as many as its size takes.
+fn comes_in_pieces<R: Abort>(rt: &R, talk: &mut Talk<Script>) -> Result<(), Fail> {
+    const PIECE: &[Call] = &[Read(ALL, Came(65_536)), Frame(None)];
+    const LAST: &[Call] = &[Read(ALL, Came(4))];
+    for _ in 0..256 {
+        play_all(rt, talk, PIECE)?;
+    }
+    play_all(rt, talk, LAST)?;
+    let content = talk.wire.next_frame()?.ok_or("a frame")?;
+    is_greatest(rt, &content);
+    Ok(())
+}
+
 #[test]
 fn the_greatest_frame_comes(rt: HostRuntime) -> Result<(), Fail> {
-    const CALLS: &[Call] = &[Read(ALL, Came(65_536)), Frame(None)];
-    let mut input = vec![in rt.alloc(); 1, 0, 0, 0]?;
-    input.resize(16_777_220, 9)?;
-    let mut talk = Talk::over(&rt, paced(rt.alloc(), input, AT_ONCE)?)?;
-    for _ in 0..256 {
-        play_all(&rt, &mut talk, CALLS)?;
-    }
-    play_all(&rt, &mut talk, &[Read(ALL, Came(4))])?;
-    let content = talk.wire.next_frame()?.ok_or("a frame")?;
-    assert_eq!(rt; content.len(), 16_777_216);
-    assert!(rt; content.iter().all(|byte| *byte == 9));
-    Ok(())
+    let mut talk = Talk::over(&rt, greatest(rt.alloc())?)?;
+    comes_in_pieces(&rt, &mut talk)
 }
 
 #[test]
