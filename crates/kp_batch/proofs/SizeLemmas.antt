@@ -1,6 +1,6 @@
 -- Sizes of fields, of records and of batches.
-use Rattle.std.proofs.Common.{◌≡◌, ℕ, zero, suc, ◌+◌, ◌-◌, ◌/◌, ◌<◌, ◌≤◌, List, [], ◌∷◌, ◌++◌, length, map, get_or, drop, ℤ, pos, negsuc, Option, Some, None, unwrap_or, inl, inr, refl, sym, ap, subst, ◌∙◌, arith}
-use Rattle.std.specs.Prelude.{FitsSigned, IsNone, IfSome}
+use Rattle.std.proofs.Common.{◌≡◌, ℕ, zero, suc, ◌+◌, ◌-◌, ◌/◌, ◌<◌, ◌≤◌, List, [], ◌∷◌, ◌++◌, length, map, get_or, drop, ℤ, pos, negsuc, Option, Some, None, inl, inr, refl, sym, ap, subst, ◌∙◌, arith}
+use Rattle.std.specs.Prelude.{FitsSigned}
 use Rattle.std.specs.Int.{w32, w64}
 use Rattle.std.specs.List.{flat_map, AllByRecursion}
 use Rattle.std.specs.Str.{IsUtf8}
@@ -9,7 +9,6 @@ use Rattle.std.proofs.lemmas.Bool.Decides.{nat_tests}
 use Rattle.std.proofs.lemmas.List.{length-append, length-map, drop_all, append-nil, nil_from_length}
 use Rattle.kp_wire.proofs.ListLemmas.{drop_here, length-flat_map-cons, length-flat_map-some}
 use Rattle.kp_batch.proofs.RelativeLemmas.{length-relatives_from, relatives_from-here}
-use Rattle.kp_wire.specs.Sizes.{IsSize}
 use Rattle.kp_wire.specs.Varint.{varint, varlong, zigzag, groups}
 use Rattle.kp_wire.proofs.VarintLemmas.{groups_some, length-groups_none, length-groups_last, length-groups_more}
 use Rattle.kp_batch.specs.declared.record.Header.{Header}
@@ -68,15 +67,6 @@ told_large n m e h = omega arith
 
 pub told_sum : (a b m n : ℕ) → up_to_limit a ≡ up_to_limit m → up_to_limit b ≡ up_to_limit n → up_to_limit (a + b) ≡ up_to_limit (m + n)
 told_sum a b m n e f = omega arith
-
--- a size, or a number above the limit where there is none
-pub told_or : (o : Option ℕ) (fits : Type 0) (s : List ℕ) → IsSize fits s o → (IsNone o → 2147483647 < length s) → up_to_limit (unwrap_or o 2147483648) ≡ up_to_limit (length s)
-told_or None fits s size long = let above = long refl in omega (arith, above)
-told_or (Some n) fits s size long = omega (arith, size.1)
-
-pub few_or : (o : Option ℕ) → IfSome o (λ n. n ≤ 2147483652) → unwrap_or o 2147483648 ≤ 2147483652
-few_or None few = omega arith
-few_or (Some n) few = few
 
 pub size_of_batch-is : (rs : List Record) → size_of_batch rs ≡ 61 + bytes_from (base_timestamp rs) 0 rs
 unfolding size_of_batch

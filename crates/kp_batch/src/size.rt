@@ -43,7 +43,20 @@ pub(crate) fn add_sizes(a: u64, b: u64) -> u64
     if sum > SIZE_LIMIT { u64::MAX } else { sum }
 }
 
-/// The size of so many bytes with their length before them. None where they are more than a length can say.
+/// The size of so many bytes with their length before them, or a size above the limit where it is above.
+#[inline]
+fn sized_len(len: usize) -> u64
+    ensures told { up_to_limit result ≡ up_to_limit (length (varint.spell (pos len)) + len) }
+    ensures value { len ≤ SIZE_LIMIT → result ≡ length (varint.spell (pos len)) + len }
+    ensures few { result ≤ SIZE_LIMIT + 5 }
+{
+    if len as u64 > SIZE_LIMIT {
+        return TOO_LARGE;
+    }
+    varint_len(len as i32) + len as u64
+}
+
+/// The same; None where the bytes are more than a length can say.
 #[inline]
 fn size_of_sized(len: usize) -> Option<u64>
     ensures short { IsSome result → len ≤ SIZE_LIMIT }
@@ -54,7 +67,7 @@ fn size_of_sized(len: usize) -> Option<u64>
     if len as u64 > SIZE_LIMIT {
         return None;
     }
-    Some(varint_len(len as i32) + len as u64)
+    Some(sized_len(len))
 }
 
 #[inline]
@@ -71,13 +84,17 @@ fn size_of_nullable(bytes: &Option<Blob>) -> Option<u64>
 }
 
 /// The size of the bytes with their length before them, or of the length of null; a size above the limit where it is
-/// above.
+/// above. Each record is measured by it, so it takes no detour by `Option`.
 #[inline]
+#[tactic(auto, unfolding(crate::specs::Record::bytes_or_null, crate::specs::Record::length_field))]
 fn nullable_size(bytes: &Option<Blob>) -> u64
     ensures told { up_to_limit result ≡ up_to_limit (length ((bytes_or_null 0).spell bytes.now)) }
     ensures few { result ≤ SIZE_LIMIT + 5 }
 {
-    size_of_nullable(bytes).unwrap_or(TOO_LARGE)
+    match bytes {
+        None => varint_len(-1),
+        Some(bytes) => sized_len(bytes.len()),
+    }
 }
 
 /// The size of the header. None where its key or its value is more than its length can say.
