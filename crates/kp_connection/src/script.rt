@@ -1,13 +1,13 @@
 //! A stream over memory for tests, which moves bytes, waits, fails and ends as it was told to.
 
-ghost use Rattle.std.specs.Prelude.{◌≡◌, ◌-◌, ◌<◌, ◌++◌, ◌∷◌, [], replicate, IfOk};
+ghost use Rattle.std.specs.Prelude.{◌≡◌, []};
 ghost use Rattle.kp_connection.specs.Script.{TakesStep};
 
 mod playing;
 
 use crate::kept::Kept;
 use http_server::Log;
-use std::alloc::{AllocError, Global};
+use std::alloc::Global;
 use std::collections::VecDeque;
 use std::marker::Model;
 
@@ -64,16 +64,6 @@ impl Model for Script {
       writes = s.writes.items;
       left = s.left;
     } };
-}
-
-/// Steps of which the last, the call number `count`, fails, and each before it moves all that it can.
-pub fn failing_at(alloc: Global, count: usize) -> Result<Vec<Step>, AllocError>
-    requires { 0 < count }
-    ensures { IfOk result (λ steps. steps.items ≡ replicate (count - 1) ALL ++ Step.Fail ∷ []) }
-{
-    let mut steps = vec![in alloc; ALL; count - 1]?;
-    steps.push(Step::Fail)?;
-    Ok(steps)
 }
 
 impl Script {
