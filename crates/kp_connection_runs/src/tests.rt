@@ -20,13 +20,18 @@ const AT_ONCE: Pace = Pace {
     ends_after: usize::MAX,
 };
 
+/// These pieces, one behind the other.
+fn joined(alloc: Global, pieces: &[&[u8]]) -> Result<Vec<u8>, AllocError> {
+    let mut bytes = Vec::new(alloc);
+    for piece in pieces {
+        bytes.extend_from_slice(piece)?;
+    }
+    Ok(bytes)
+}
+
 /// A stream that gives these pieces, one behind the other.
 fn script_of(alloc: Global, pieces: &[&[u8]], pace: Pace) -> Result<Script, AllocError> {
-    let mut input = Vec::new(alloc);
-    for piece in pieces {
-        input.extend_from_slice(piece)?;
-    }
-    paced(alloc, input, pace)
+    paced(alloc, joined(alloc, pieces)?, pace)
 }
 
 /// A stream that gives this input.

@@ -3,7 +3,7 @@
 ghost use Rattle.std.specs.Prelude.{IsSome};
 ghost use Rattle.futures.specs.Poll.{OnPending};
 
-use crate::tests::{Pace, paced};
+use crate::tests::{Pace, joined, paced};
 use futures::task::Poll;
 use futures::test::MockTask;
 use kp_connection::script::Script;
@@ -118,10 +118,7 @@ fn changed(
     answers: &[&[u8]],
     changes: &[(usize, u8)],
 ) -> Result<Vec<u8>, AllocError> {
-    let mut input = Vec::new(alloc);
-    for answer in answers {
-        input.extend_from_slice(answer)?;
-    }
+    let mut input = joined(alloc, answers)?;
     for (place, byte) in changes {
         if let Some(at) = input.get_mut(*place) {
             *at = *byte;
