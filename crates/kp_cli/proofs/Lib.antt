@@ -1,3 +1,4 @@
+mod BrokerWordsLemmas
 mod CommandLineLemmas
 mod LineLemmas
 mod OfferedLemmas
@@ -5,4 +6,5 @@ mod PackedLemmas
 mod ReplayLemmas
 mod RunLemmas
 mod RunTextLemmas
+mod RunWordsLemmas
 mod RunLooksLemmas

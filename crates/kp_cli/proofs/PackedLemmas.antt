@@ -1,8 +1,5 @@
 -- The text of values that were packed.
-use Rattle.std.proofs.Common.{◌≡◌, ℕ, ◌+◌, ◌<◌, ◌≤◌, List, [], ◌∷◌, ◌++◌, length, get_or, drop, pos, ℤ, refl, ap, sym, ◌∙◌, arith, add-one, lit≤, Result, Ok, Err, MatchResult, Some, slice_get}
-use Rattle.std.specs.Option.{option_map}
-use Rattle.std.proofs.lemmas.Option.{get_or_from_slice_get, slice_get-map}
-use Rattle.std.proofs.Math.Seq.{drop-cons}
+use Rattle.std.proofs.Common.{◌≡◌, ℕ, ◌+◌, ◌<◌, ◌≤◌, List, [], ◌∷◌, ◌++◌, length, pos, ℤ, refl, ap, ◌∙◌, arith, lit≤, Result, Ok, Err, MatchResult}
 use Rattle.kp_batch.specs.declared.size.TheConstants.{SIZE_LIMIT}
 use Rattle.kp_batch.specs.Spelling.{measured, size_of_batch}
 use Rattle.kp_batch.proofs.SizeLemmas.{small_measured, large_measured}

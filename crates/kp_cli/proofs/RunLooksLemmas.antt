@@ -1,6 +1,6 @@
 -- What keeps a run from beginning, and what it prints.
-use Rattle.std.proofs.Common.{◌≡◌, ◌⊎◌, ◌∙◌, ℕ, List, ap, inl, inr, sym, subst}
-use Rattle.std.specs.Prelude.{Option, Some, None, Result, Ok, Err, IfSome, IsErrAnd}
+use Rattle.std.proofs.Common.{◌≡◌, ◌∙◌, ℕ, List, ap, inl, subst}
+use Rattle.std.specs.Prelude.{Option, Some, None, Result, Err, IfSome, IsErrAnd}
 use Rattle.std.proofs.lemmas.Result.{err_from_is_err_and}
 use Rattle.kp_run.specs.Options.{AreFine, RefusedFor}
 use Rattle.kp_run.specs.declared.fault.RunFault.{RunFault}

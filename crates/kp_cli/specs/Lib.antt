@@ -1,3 +1,4 @@
+pub mod BrokerWords
 pub mod CommandLine
 pub mod Commands
 pub mod Faults
@@ -8,4 +9,5 @@ pub mod Replays
 pub mod Report
 pub mod RunCommand
 pub mod RunText
+pub mod RunWords
 pub mod Runs

@@ -1,6 +1,8 @@
 //! The words of `run`, by clap.
 
-ghost use Rattle.std.specs.Prelude.{◌≤◌, unwrap_or, IfOk};
+ghost use Rattle.std.specs.Prelude.{◌≡◌, ◌≤◌, List, Some, None, codes, unwrap_or, IfOk, IfSome, MatchOption, MatchResult};
+ghost use Rattle.clap.specs.Words.{Row, first_of, one_of, subcommand_name_of, subcommand_rows_of};
+ghost use Rattle.kp_cli.specs.RunWords.{AsksFor, AsksForConfig, AsksForPlace, AsksForRun, IsFlag, IsRefused, IsSaid, IsSaidOr, rows_in};
 
 use crate::broker_words::address_of;
 use clap::ArgMatches;
@@ -15,27 +17,57 @@ pub struct Wanted<'a> {
     pub options: Options<'a>,
 }
 
+/// The number that an option says, where it says one.
+fn number_of(matches: &ArgMatches<'_>, name: &str) -> Option<u64>
+    ensures { IsSaid 64 (one_of name.now (rows_in matches.now)) result }
+{
+    matches.get_one(name)
+}
+
+/// The same of 32 bits.
+fn small_number_of(matches: &ArgMatches<'_>, name: &str) -> Option<u32>
+    ensures { IsSaid 32 (one_of name.now (rows_in matches.now)) result }
+{
+    matches.get_one(name)
+}
+
+/// The number that an option says, or the usual one.
+fn number_or(matches: &ArgMatches<'_>, name: &str, usual: u64) -> u64
+    ensures { IsSaidOr 64 (one_of name.now (rows_in matches.now)) usual result }
+{
+    number_of(matches, name).unwrap_or(usual)
+}
+
+/// Whether a flag stands there.
+fn flag_of(matches: &ArgMatches<'_>, name: &str) -> bool
+    ensures { IsFlag (one_of name.now (rows_in matches.now)) result }
+{
+    matches.get_flag(name)
+}
+
 /// The configuration that the words ask for.
-fn config_of(matches: &ArgMatches<'_>) -> Config {
+fn config_of(matches: &ArgMatches<'_>) -> Config
+    ensures { AsksForConfig (rows_in matches.now) result }
+{
     let usual = Config::default();
     Config {
-        batch_size: matches.get_one("batch-size").unwrap_or(usual.batch_size),
-        linger_ms: matches.get_one("linger").unwrap_or(usual.linger_ms),
-        request_timeout_ms: matches
-            .get_one("request-timeout")
-            .unwrap_or(usual.request_timeout_ms),
-        max_in_flight_requests_per_connection: matches
-            .get_one("max-in-flight")
-            .unwrap_or(usual.max_in_flight_requests_per_connection),
-        sequence_limit: matches
-            .get_one("sequence-limit")
-            .unwrap_or(usual.sequence_limit),
+        batch_size: number_or(matches, "batch-size", usual.batch_size),
+        linger_ms: number_or(matches, "linger", usual.linger_ms),
+        request_timeout_ms: number_or(matches, "request-timeout", usual.request_timeout_ms),
+        max_in_flight_requests_per_connection: number_or(
+            matches,
+            "max-in-flight",
+            usual.max_in_flight_requests_per_connection,
+        ),
+        sequence_limit: number_or(matches, "sequence-limit", usual.sequence_limit),
         ..usual
     }
 }
 
 /// Where the words say that the broker is.
-fn place_of<'a>(matches: &ArgMatches<'a>) -> Result<Place<'a>, &'static str> {
+fn place_of<'a>(matches: &ArgMatches<'a>) -> Result<Place<'a>, &'static str>
+    ensures { MatchResult result (AsksForPlace (rows_in matches.now)) (λ _. IsRefused (rows_in matches.now)) }
+{
     match matches.get_str("broker") {
         None => Ok(Place::Here(matches.get_str("fault"))),
         Some(word) => {
@@ -49,22 +81,23 @@ fn place_of<'a>(matches: &ArgMatches<'a>) -> Result<Place<'a>, &'static str> {
 
 /// How many partitions the words ask for. Clap has refused numbers out of range.
 fn partitions_of(matches: &ArgMatches<'_>) -> Result<Option<u32>, &'static str>
-    ensures { IfOk result (λ said. (1 ≤ unwrap_or said 1) × (unwrap_or said 1 ≤ PARTITION_LIMIT)) }
+    ensures limits { IfOk result (λ said. (1 ≤ unwrap_or said 1) × (unwrap_or said 1 ≤ PARTITION_LIMIT)) }
+    ensures said { MatchResult result (λ said. IsSaid 32 (one_of (codes "partitions") (rows_in matches.now)) said) (λ _. IsRefused (rows_in matches.now)) }
 {
-    match matches.get_one::<u32>("partitions") {
-        None => Ok(None),
-        Some(partitions) if partitions >= 1 && partitions <= PARTITION_LIMIT => Ok(Some(
-            partitions,
-        )),
-        Some(_) => Err("a topic has 1 to 1024 partitions"),
+    match small_number_of(matches, "partitions") {
+        Some(partitions) if partitions < 1 || partitions > PARTITION_LIMIT => Err(
+            "a topic has 1 to 1024 partitions",
+        ),
+        said => Ok(said),
     }
 }
 
 /// How many senders the words ask for. Clap has refused numbers out of range.
 fn senders_of(matches: &ArgMatches<'_>) -> Result<u32, &'static str>
-    ensures { IfOk result (λ senders. (1 ≤ senders) × (senders ≤ SENDER_LIMIT)) }
+    ensures limits { IfOk result (λ senders. (1 ≤ senders) × (senders ≤ SENDER_LIMIT)) }
+    ensures said { MatchResult result (λ senders. IsSaidOr 32 (one_of (codes "senders") (rows_in matches.now)) 1 senders) (λ _. IsRefused (rows_in matches.now)) }
 {
-    match matches.get_one::<u32>("senders") {
+    match small_number_of(matches, "senders") {
         None => Ok(1),
         Some(senders) if senders >= 1 && senders <= SENDER_LIMIT => Ok(senders),
         Some(_) => Err("there are 1 to 64 senders"),
@@ -73,32 +106,38 @@ fn senders_of(matches: &ArgMatches<'_>) -> Result<u32, &'static str>
 
 /// After how many records the words ask for a flush. Clap has refused numbers out of range.
 fn flush_of(matches: &ArgMatches<'_>) -> Result<Option<u64>, &'static str>
-    ensures { IfOk result (λ said. 1 ≤ unwrap_or said 1) }
+    ensures limits { IfOk result (λ said. 1 ≤ unwrap_or said 1) }
+    ensures said { MatchResult result (λ said. IsSaid 64 (one_of (codes "flush-every") (rows_in matches.now)) said) (λ _. IsRefused (rows_in matches.now)) }
 {
-    match matches.get_one::<u64>("flush-every") {
-        None => Ok(None),
-        Some(records) if records >= 1 => Ok(Some(records)),
-        Some(_) => Err("a flush comes after a record at least"),
+    match number_of(matches, "flush-every") {
+        Some(0) => Err("a flush comes after a record at least"),
+        said => Ok(said),
     }
 }
 
 /// What the words ask for, or why they can't be meant.
-fn options_of<'a>(matches: &ArgMatches<'a>) -> Result<Options<'a>, &'static str> {
+fn options_of<'a>(matches: &ArgMatches<'a>) -> Result<Options<'a>, &'static str>
+    ensures { MatchResult result (AsksFor (rows_in matches.now)) (λ _. IsRefused (rows_in matches.now)) }
+{
     Ok(Options {
         topic: matches.get_str("topic").unwrap_or("t"),
         partitions: partitions_of(matches)?,
         senders: senders_of(matches)?,
         config: config_of(matches),
         place: place_of(matches)?,
-        keyed: matches.get_flag("keyed"),
-        audits: matches.get_flag("audit"),
+        keyed: flag_of(matches, "keyed"),
+        audits: flag_of(matches, "audit"),
         flush_every: flush_of(matches)?,
-        totals: matches.get_flag("totals"),
+        totals: flag_of(matches, "totals"),
     })
 }
 
 /// What the words ask for, where they ask for a run; or why they can't be meant.
-pub fn wanted_of<'a>(matches: &ArgMatches<'a>) -> Option<Result<Wanted<'a>, &'static str>> {
+pub fn wanted_of<'a>(matches: &ArgMatches<'a>) -> Option<Result<Wanted<'a>, &'static str>>
+    ensures run { (rows : List Row) → subcommand_rows_of matches.now ≡ Some (codes "run", rows)
+        → MatchOption result (first_of (codes "file") rows ≡ None) (λ answer. MatchResult answer (AsksForRun rows) (λ _. IsRefused rows)) }
+    ensures its { IfSome result (λ _. subcommand_name_of matches.now ≡ Some (codes "run")) }
+{
     let matches = matches.subcommand_matches("run")?;
     let file = matches.get_str("file")?;
     match options_of(matches) {

@@ -1,4 +1,4 @@
-use Rattle.std.proofs.Common.{ap, inr, ◌∙◌}
+use Rattle.std.proofs.Common.{inr}
 use Rattle.std.proofs.lemmas.Result.{on_ok_weaker}
 use Rattle.kp_cli.proofs.RunLooksLemmas.{prints_run, told_first}
 use Rattle.kp_cli.proofs.program.run_file.Goals as goal

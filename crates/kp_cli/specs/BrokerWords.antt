@@ -1,0 +1,34 @@
+-- Which address the word for a broker names.
+use Rattle.std.specs.Prelude.{◌≡◌, ℕ, ◌<◌, ◌^◌, ◌⊎◌, List, [], ◌∷◌, ◌++◌, codes, Option, MatchOption}
+use Rattle.std.specs.Net.Addr.{ipv4_octets}
+use Rattle.std.specs.Net.Grammar.{IsNumber, IsSocketText}
+use Rattle.std.specs.Net.Socket.{v4_ip, v4_port}
+use Rattle.std.specs.declared.net.socket_addr.SocketAddr.{SocketAddr}
+use Rattle.std.specs.declared.net.socket_addr.SocketAddr.TheVariants.{V4}
+use Rattle.std.specs.declared.net.socket_addr.SocketAddrV4.{SocketAddrV4}
+
+-- digits alone, which write a port
+abbrev pub WritesPort : List ℕ → ℕ → Type 0
+WritesPort digits port = IsNumber 10 digits port × (port < 2 ^ 16)
+
+-- the port that the digits write, or none where they write none
+abbrev pub IsPortOf : List ℕ → Option ℕ → Type 0
+IsPortOf digits answer = MatchOption answer ((port : ℕ) → ¬ WritesPort digits port) (λ port. WritesPort digits port)
+
+-- `localhost:` and a port, for 127.0.0.1 at this port
+pub record IsLocalhost (word : List ℕ) (address : SocketAddr) : Type 0 where
+  pub local : SocketAddrV4
+  pub digits : List ℕ
+  pub named : address ≡ V4 local
+  pub octets : ipv4_octets (v4_ip local) ≡ 127 ∷ 0 ∷ 0 ∷ 1 ∷ []
+  pub spelled : word ≡ codes "localhost:" ++ digits
+  pub port : WritesPort digits (v4_port local)
+
+-- the word names this address: as localhost, or as `IP:PORT`
+abbrev pub NamesBroker : List ℕ → SocketAddr → Type 0
+NamesBroker word address = IsLocalhost word address ⊎ IsSocketText word address
+
+-- the address that the word names, or none where it names none
+abbrev pub IsAddressOf : List ℕ → Option SocketAddr → Type 0
+IsAddressOf word answer =
+    MatchOption answer ((address : SocketAddr) → ¬ NamesBroker word address) (λ address. NamesBroker word address)
