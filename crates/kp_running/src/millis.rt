@@ -1,6 +1,6 @@
 //! The runtime's clock as an engine's.
 
-ghost use Rattle.std.specs.Prelude.{◌≡◌, ◌≤◌, map};
+ghost use Rattle.std.specs.Prelude.{◌≡◌, ◌≤◌, [], map, IfOk};
 
 use http_server::Log;
 use std::io;
@@ -45,13 +45,19 @@ pub struct Millis<'a, R> {
 }
 
 impl<'a, R: Clock> Millis<'a, R> {
-    /// It shows 0.
-    pub fn new(rt: &'a R) -> io::Result<Millis<'a, R>> {
+    /// Since now. It shows 0, and has told nothing.
+    pub fn new(rt: &'a R) -> io::Result<Millis<'a, R>>
+        ensures shows { IfOk result (λ clock. clock.passed.shown ≡ 0) }
+        ensures told { IfOk result (λ clock. clock.told.items ≡ []) }
+    {
         Ok(Millis::since(rt, Instant::now(rt)?))
     }
 
-    /// Since that moment.
-    pub fn since(rt: &'a R, start: Instant) -> Millis<'a, R> {
+    /// Since that moment. It shows 0, and has told nothing.
+    pub fn since(rt: &'a R, start: Instant) -> Millis<'a, R>
+        ensures shows { result.passed ≡ record { start = start; shown = 0 } }
+        ensures told { result.told.items ≡ [] }
+    {
         Millis {
             rt,
             passed: Passed::since(start),
