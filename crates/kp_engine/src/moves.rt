@@ -22,58 +22,6 @@ pub struct Moves {
 }
 
 impl Moves {
-    /// Nothing.
-    pub(crate) fn none() -> Moves {
-        Moves {
-            moment: 0,
-            any: false,
-            served: [false; MOST_SENDERS],
-            requests: 0,
-            replies: 0,
-            bytes_given: 0,
-            bytes_heard: 0,
-        }
-    }
-
-    /// This call was made. A request that goes out has a call of its own.
-    pub(crate) fn note(&mut self, call: &Turned) {
-        match call {
-            Turned::Tick(now, _) => self.moment = *now,
-            Turned::Append(_, None) | Turned::Flush | Turned::Close | Turned::Told(_) => {
-                self.any = true;
-            }
-            Turned::Reply(_, content, Ok(replied)) => {
-                self.any = true;
-                self.replies = self.replies.saturating_add(u64::from(replied.known));
-                self.bytes_heard = self.bytes_heard.saturating_add(content.len() as u64);
-            }
-            Turned::Append(_, Some(_))
-            | Turned::Request(_, _)
-            | Turned::Reply(_, _, Err(_))
-            | Turned::Disconnect(_) => {}
-        }
-    }
-
-    /// A request of so many bytes goes out.
-    pub(crate) fn note_request(&mut self, bytes: usize) {
-        self.any = true;
-        self.requests = self.requests.saturating_add(1);
-        self.bytes_given = self.bytes_given.saturating_add(bytes as u64);
-    }
-
-    /// Something was moved.
-    pub(crate) fn note_move(&mut self) {
-        self.any = true;
-    }
-
-    /// Something was taken from the sender's lane, or handed to the sender.
-    pub(crate) fn serve(&mut self, sender: u32) {
-        self.any = true;
-        if let Some(served) = self.served.get_mut(sender as usize) {
-            *served = true;
-        }
-    }
-
     /// The moment of the turn, in milliseconds of the engine's clock; 0 where there was none.
     pub fn now(&self) -> u64
         ensures { result ≡ self.now.moment }
@@ -121,5 +69,57 @@ impl Moves {
         ensures { result ≡ slice_index_or self.now.served sender false }
     {
         self.served.get(sender).copied().unwrap_or(false)
+    }
+
+    /// Nothing.
+    pub(crate) fn none() -> Moves {
+        Moves {
+            moment: 0,
+            any: false,
+            served: [false; MOST_SENDERS],
+            requests: 0,
+            replies: 0,
+            bytes_given: 0,
+            bytes_heard: 0,
+        }
+    }
+
+    /// This call was made. A request that goes out has a call of its own.
+    pub(crate) fn note(&mut self, call: &Turned) {
+        match call {
+            Turned::Tick(now, _) => self.moment = *now,
+            Turned::Append(_, None) | Turned::Flush | Turned::Close | Turned::Told(_) => {
+                self.note_move();
+            }
+            Turned::Reply(_, content, Ok(replied)) => {
+                self.note_move();
+                self.replies = self.replies.saturating_add(u64::from(replied.known));
+                self.bytes_heard = self.bytes_heard.saturating_add(content.len() as u64);
+            }
+            Turned::Append(_, Some(_))
+            | Turned::Request(_, _)
+            | Turned::Reply(_, _, Err(_))
+            | Turned::Disconnect(_) => {}
+        }
+    }
+
+    /// A request of so many bytes goes out.
+    pub(crate) fn note_request(&mut self, bytes: usize) {
+        self.note_move();
+        self.requests = self.requests.saturating_add(1);
+        self.bytes_given = self.bytes_given.saturating_add(bytes as u64);
+    }
+
+    /// Something was moved.
+    pub(crate) fn note_move(&mut self) {
+        self.any = true;
+    }
+
+    /// Something was taken from the sender's lane, or handed to the sender.
+    pub(crate) fn serve(&mut self, sender: u32) {
+        self.note_move();
+        if let Some(served) = self.served.get_mut(sender as usize) {
+            *served = true;
+        }
     }
 }
