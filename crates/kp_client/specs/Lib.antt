@@ -9,3 +9,4 @@ pub mod Producer
 pub mod Service
 pub mod Serving
 pub mod Settings
+pub mod Statistics

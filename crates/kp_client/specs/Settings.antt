@@ -1,5 +1,5 @@
 -- A producer's settings: the defaults, and the first fault.
-use Rattle.std.specs.Prelude.{ℕ, List, Bool, false, None, nat_lt, length, min, Result, Ok, Err, if◌then◌else◌}
+use Rattle.std.specs.Prelude.{ℕ, List, false, None, nat_lt, length, min, Result, Ok, Err, if◌then◌else◌}
 use Rattle.kp_accum.specs.Config.{checked, default_config}
 use Rattle.kp_accum.specs.declared.fault.ConfigFault.{ConfigFault}
 use Rattle.kp_connection.specs.declared.hello.Hello.{Hello}

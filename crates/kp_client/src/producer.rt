@@ -32,11 +32,12 @@ pub struct Producer {
 }
 
 impl Producer {
-    ghost use Rattle.std.specs.Prelude.{◌≡◌, ◌-◌, ◌++◌, ◌∷◌, [], true, IfErr, OnOk, OnErr};
+    ghost use Rattle.std.specs.Prelude.{◌≡◌, ◌-◌, ◌++◌, ◌∷◌, [], true, IfErr, IfOk, OnOk, OnErr};
     ghost use Rattle.kp_lanes.specs.declared.entry.Entry.TheVariants.{Mark};
     ghost use Rattle.kp_lanes.specs.declared.fault.FlushFault.TheVariants as flushing;
     ghost use Rattle.kp_lanes.specs.Sender.{accepted, all_accepted, all_got, entered, finished_id, finished_number, got, known_free_of, sender_id, sender_view, turn};
     ghost use Rattle.kp_client.specs.Producer.{lane_of, Hears, SameProducer, SendsLater, Sends};
+    ghost use Rattle.kp_client.specs.Statistics.{counted_by, shared_by};
 
     pub(crate) fn new(sender: Sender, shared: Arc<Shared, Global>) -> Producer
         requires { sender_number sender < length (sender_bells (arc_value shared).bells) }
@@ -200,7 +201,9 @@ impl Producer {
     }
 
     /// Reads the statistics on another thread.
-    pub fn monitor(&self) -> Result<Monitor, AllocError> {
+    pub fn monitor(&self) -> Result<Monitor, AllocError>
+        ensures { IfOk result (λ monitor. counted_by monitor ≡ shared_by self.now) }
+    {
         Ok(Monitor::new(Arc::try_clone(&self.shared)?))
     }
 

@@ -1,5 +1,8 @@
 //! What a producer has done so far.
 
+ghost use Rattle.std.specs.Prelude.{◌≡◌, IfOk};
+ghost use Rattle.std.specs.Arc.{arc_value};
+
 use crate::shared::Shared;
 use std::alloc::{AllocError, Global};
 use std::sync::Arc;
@@ -41,7 +44,11 @@ pub struct Monitor {
 }
 
 impl Monitor {
-    pub(crate) fn new(shared: Arc<Shared, Global>) -> Monitor {
+    ghost use Rattle.kp_client.specs.Statistics.{counted_by};
+
+    pub(crate) fn new(shared: Arc<Shared, Global>) -> Monitor
+        ensures { counted_by result ≡ arc_value shared }
+    {
         Monitor { shared }
     }
 
@@ -51,7 +58,9 @@ impl Monitor {
     }
 
     /// One more, for another thread.
-    pub fn try_clone(&self) -> Result<Monitor, AllocError> {
+    pub fn try_clone(&self) -> Result<Monitor, AllocError>
+        ensures { IfOk result (λ monitor. counted_by monitor ≡ counted_by self.now) }
+    {
         Ok(Monitor {
             shared: Arc::try_clone(&self.shared)?,
         })

@@ -3,7 +3,7 @@
 ghost use Rattle.kp_client.specs.Producer.{Finishes, SameProducer};
 
 use kp_batch::{Record, Timestamp};
-use kp_client::{Closer, Producer};
+use kp_client::{Closer, Producer, Statistics};
 use kp_core::Report;
 use kp_lanes::{Finished, Target};
 use kp_wire::{Blob, Seq};
@@ -33,6 +33,8 @@ pub(crate) struct Heard {
     pub(crate) reports: Vec<Report>,
     /// How long each took, from its send, in microseconds.
     pub(crate) micros: Vec<u64>,
+    /// What it had counted when it closed the producer.
+    pub(crate) counted: Statistics,
 }
 
 /// A record with a value of 100 bytes.
@@ -104,9 +106,11 @@ pub(crate) fn work<R: Wait + Clock + AllocGlobal>(
     let mut heard = Heard {
         reports: Vec::new(rt.alloc()),
         micros: Vec::new(rt.alloc()),
+        counted: Statistics::default(),
     };
     let sent = send_each(rt, &mut producer, job, &mut heard);
     thread::sleep(rt, Duration::from_millis(job.rest));
+    heard.counted = producer.statistics();
     closer.close();
     (producer.finish(), sent.map(|()| heard))
 }

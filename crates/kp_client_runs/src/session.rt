@@ -74,7 +74,7 @@ where
         ..settings
     };
     let (producer, closer, service) = open(rt, address, settings)?.into_single();
-    let monitor = producer.monitor()?;
+    let monitor = producer.monitor()?.try_clone()?;
     let ((finished, heard), ended) = thread::join(
         rt,
         move || work(rt, producer, closer, job),

@@ -37,6 +37,11 @@ fn tell_came<R: Print>(rt: &R, came: &Came) -> io::Result<()> {
     for report in &came.heard.reports {
         tell_outcome(rt, Some(report.outcome))?;
     }
+    let counted = &came.heard.counted;
+    println!(rt;
+        "the sender counts {} accepted, {} delivered",
+        counted.accepted, counted.delivered
+    )?;
     println!(rt; "{:?}, {} records came back", came.ending, came.records)?;
     println!(rt; "{:?}", came.statistics)
 }
