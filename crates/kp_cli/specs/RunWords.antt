@@ -1,6 +1,5 @@
 -- What the words of `run` ask for, by what clap has found for each of its options.
-use Rattle.std.specs.Prelude.{◌≡◌, ℕ, ◌<◌, ◌^◌, ◌⊎◌, Bool, true, false, List, Option, Some, None, MatchOption, codes, option_map, unwrap_or}
-use Rattle.std.specs.Net.Grammar.{IsNumber}
+use Rattle.std.specs.Prelude.{◌≡◌, ℕ, ◌<◌, ◌⊎◌, Bool, true, false, List, Option, Some, None, codes, option_map, unwrap_or}
 use Rattle.std.specs.Str.Parse.{without_leading_plus}
 use Rattle.std.specs.declared.net.socket_addr.SocketAddr.{SocketAddr}
 use Rattle.clap.specs.Words.{Row, Text, first_of, found_of, one_of, rows_of}
@@ -10,7 +9,7 @@ use Rattle.kp_accum.specs.declared.config.Config.{Config}
 use Rattle.kp_run.specs.declared.options.Options.{Options}
 use Rattle.kp_run.specs.declared.place.Place.{Place}
 use Rattle.kp_run.specs.declared.place.Place.TheVariants.{Here, At}
-use Rattle.kp_cli.specs.BrokerWords.{NamesBroker}
+use Rattle.kp_cli.specs.BrokerWords.{Finds, NamesBroker, WriteNumber}
 use Rattle.kp_cli.specs.declared.run_words.Wanted.{Wanted}
 
 -- what clap has found for each option of a command
@@ -21,12 +20,12 @@ rows_in matches = rows_of (found_of matches)
 
 -- the text writes a number of so many bits; a plus may stand first
 abbrev pub Writes : ℕ → Text → ℕ → Type 0
-Writes bits text number = IsNumber 10 (without_leading_plus text) number × (number < 2 ^ bits)
+Writes bits text number = WriteNumber bits (without_leading_plus text) number
 
 -- the number that is said, where one is
 abbrev pub IsSaid : ℕ → Option Text → Option ℕ → Type 0
 IsSaid bits None said = said ≡ None
-IsSaid bits (Some text) said = MatchOption said ((number : ℕ) → ¬ Writes bits text number) (λ number. Writes bits text number)
+IsSaid bits (Some text) said = Finds (Writes bits text) said
 
 -- the same, and the usual one where none is
 abbrev pub IsSaidOr : ℕ → Option Text → ℕ → ℕ → Type 0
