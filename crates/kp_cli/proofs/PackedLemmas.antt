@@ -1,9 +1,8 @@
 -- The text of values that were packed.
-use Rattle.std.proofs.Common.{◌≡◌, ℕ, ◌+◌, ◌<◌, ◌≤◌, List, [], ◌∷◌, ◌++◌, length, pos, ℤ, refl, ap, ◌∙◌, arith, lit≤, Result, Ok, Err, MatchResult}
+use Rattle.std.proofs.Common.{◌≡◌, ℕ, ◌<◌, ◌≤◌, List, [], ◌∷◌, ◌++◌, length, pos, ℤ, refl, ap, ◌∙◌, arith, lit≤, Result, Ok, Err, MatchResult}
 use Rattle.kp_batch.specs.declared.size.TheConstants.{SIZE_LIMIT}
 use Rattle.kp_batch.specs.Spelling.{measured, size_of_batch}
 use Rattle.kp_batch.proofs.SizeLemmas.{small_measured, large_measured}
-use Rattle.kp_log.specs.declared.stored.Stored.{Stored}
 use Rattle.kp_log.specs.declared.answer.Answer.TheVariants as answer
 use Rattle.kp_log.specs.Log.{stored_as}
 use Rattle.kp_cli.specs.declared.fault.PackFault.{PackFault}
