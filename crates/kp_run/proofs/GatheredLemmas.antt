@@ -22,7 +22,7 @@ use Rattle.kp_client.specs.Left.{AccountsFor, items_left, reports_left}
 use Rattle.kp_client.specs.declared.left.Left.{Left}
 use Rattle.kp_run.specs.Gathered.{account_in, account_of, heard_by, Account}
 use Rattle.kp_run.specs.Jobs.{accepted_by, number_of, IsJobOf, Keeps}
-use Rattle.kp_run.specs.Portions.{count_of, whole, AddUp, Gathered, Portion}
+use Rattle.kp_run.specs.Portions.{whole, Gathered, Portion}
 use Rattle.kp_run.specs.declared.sender_thread.Job.{Job}
 
 abbrev pub IsWhole : Job → Type 0

@@ -1,6 +1,6 @@
 -- The first fault of options.
 use Rattle.std.proofs.Common.{◌≡◌, ◌∙◌, ℕ, List, ap, sym, subst}
-use Rattle.std.specs.Prelude.{Some, None, Result, Ok, Err, IsErrAnd, IfErr}
+use Rattle.std.specs.Prelude.{Some, Result, Ok, Err, IsErrAnd, IfErr}
 use Rattle.std.proofs.lemmas.Result.{err_from_is_err_and}
 use Rattle.kp_broker.specs.Plan.{ParsesPlan, Plan}
 use Rattle.kp_broker.specs.declared.plan.fault.PlanFault.{PlanFault}

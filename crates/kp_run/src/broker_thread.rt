@@ -4,12 +4,27 @@ ghost use Rattle.kp_run.specs.Served.{ServesAll, ServesOne};
 
 use kp_broker::{Broker, FaultPlan};
 use std::net::{Net, SocketAddr, TcpListener, TcpStream};
+use std::snapshot::Snapshot;
 use std::sync::atomic::{AtomicBool, Ordering};
+use std::thread::Promise;
+
+/// What is known of the broker that its thread gives back: connections were served by the plan, beginning with the broker
+/// as it was before.
+#[derive(Drop)]
+pub(crate) struct Serving<'a> {
+    pub(crate) plan: &'a FaultPlan,
+    pub(crate) before: Snapshot<Broker>,
+}
+
+impl<'a> Promise<Broker> for Serving<'a> {
+    ghost kept_by = { λ promise after. ServesAll promise.plan.now promise.before.value after };
+}
 
 /// Serves each connection that comes, until it is over or none can be had, and gives the broker back. However a connection
-/// ended, the next is served with the same logs.
+/// ended, the next is served with the same logs. Behind the last one nobody listens any more, so that who connects is
+/// refused and does not wait.
 pub(crate) fn serve_all(
-    listener: &TcpListener,
+    listener: TcpListener,
     broker: Broker,
     plan: &FaultPlan,
     over: &AtomicBool,

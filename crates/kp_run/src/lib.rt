@@ -2,7 +2,6 @@
 //! address.
 #![tactic(auto)]
 
-mod begun;
 mod broker_thread;
 mod dealing;
 mod fault;

@@ -11,7 +11,6 @@ ghost use Rattle.kp_run.specs.Jobs.{producer_of, HasRun, HasTried, HaveRun, IsId
 ghost use Rattle.kp_run.specs.Portions.{Comes};
 ghost use Rattle.kp_run.specs.Settings.{largest};
 
-use crate::begun::Begun;
 use crate::fault::RunFault;
 use crate::gate::Gate;
 use crate::gathering::{Produced, gather};
@@ -21,8 +20,9 @@ use kp_client::{Closer, Ended, Ending, Opened, Producer, Service, Settings, open
 use std::alloc::{AllocError, AllocFailed, AllocGlobal, Global};
 use std::net::{Net, SocketAddr, TcpListener, TcpStream};
 use std::random::RandomSource;
+use std::snapshot::Snapshot;
 use std::sync::Wait;
-use std::thread::{self, Threads};
+use std::thread::{self, Promise, Threads};
 use std::time::{Clock, Instant};
 
 /// A job for each sender.
@@ -60,8 +60,7 @@ where
     thread::for_each_mut(rt, jobs, threads, &|_, job| job.run(rt, task, gate));
 }
 
-/// Runs the senders over these lines, where the service waits for them, and closes the producer. The senders as they are
-/// then.
+/// Runs the senders over these lines, and closes the producer. The senders as they are then.
 fn send_all<R, G>(
     rt: &R,
     jobs: Vec<Job>,
@@ -71,7 +70,6 @@ fn send_all<R, G>(
     flush_every: Option<u64>,
     gate: &G,
     closer: Closer,
-    begun: &Begun,
 ) -> Vec<Job>
 where
     R: Wait + Threads + Clock + AllocGlobal + Sync,
@@ -81,28 +79,23 @@ where
 {
     let mut jobs = jobs;
     let mut closer = closer;
-    if begun.tell() {
-        let task = Task {
-            lines,
-            senders,
-            keyed,
-            flush_every,
-        };
-        run_senders(rt, jobs.as_mut_slice(), task, gate);
-    }
+    let task = Task {
+        lines,
+        senders,
+        keyed,
+        flush_every,
+    };
+    run_senders(rt, jobs.as_mut_slice(), task, gate);
     closer.close();
     jobs
 }
 
-/// Runs the service, once the senders run.
-fn serve<R>(rt: &R, service: Service, begun: &Begun) -> Result<Ended, RunFault>
+/// Runs the service.
+fn serve<R>(rt: &R, service: Service) -> Result<Ended, RunFault>
 where
     R: Wait + Threads + Clock + RandomSource + AllocGlobal + Sync + Net,
     ensures { IfOk result (λ ended. lanes_of (parts_in ended).intake ≡ lanes_of (intake_of service)) }
 {
-    if !begun.wait(rt) {
-        return Err(RunFault::OutOfMemory);
-    }
     let ended = service.run(rt)?;
     if ended.ending() == Ending::OutOfMemory {
         return Err(RunFault::OutOfMemory);
@@ -110,8 +103,21 @@ where
     Ok(ended)
 }
 
+/// What is known of the senders that their thread gives back: each has sent its lines.
+#[derive(Drop)]
+struct Sending<'a> {
+    lines: &'a [&'a [u8]],
+    senders: u32,
+    keyed: bool,
+    before: Snapshot<Vec<Job>>,
+}
+
+impl<'a> Promise<Vec<Job>> for Sending<'a> {
+    ghost kept_by = { λ promise after. HaveRun (dealt promise.lines.now promise.senders promise.keyed) promise.before.value.items after.items };
+}
+
 /// Runs the senders and the service to their ends: the senders in a thread of their own, since the service stays where its
-/// event loop is.
+/// event loop is. Where no thread can be made, nothing is sent.
 fn run_all<R, G>(
     rt: &R,
     jobs: Vec<Job>,
@@ -134,28 +140,33 @@ where
         keyed,
         flush_every,
     } = task;
-    let begun = Begun::new();
-    let shared = &begun;
-    let (jobs, ended) = thread::join(
+    thread::scope(
+        thread::scope_env(),
         rt,
-        move ||
+        move |scope| -> Result<(Vec<Job>, Ended), RunFault>
             requires { All (HasTried (dealt lines.now senders keyed) 0) jobs.items }
+            ensures ran { IfOk result (λ out. HaveRun (dealt lines.entry.now senders keyed) jobs.items out.0.items) }
+            ensures lanes { IfOk result (λ out. lanes_of (parts_in out.1).intake ≡ lanes_of (intake_of service)) }
         {
-            send_all(
-                rt,
-                jobs,
+            let promise = Sending {
                 lines,
                 senders,
                 keyed,
-                flush_every,
-                gate,
-                closer,
-                shared,
-            )
+                before: Snapshot::of(&jobs),
+            };
+            let sending = scope.spawn_with(
+                promise,
+                move ||
+                    requires { All (HasTried (dealt lines.now senders keyed) 0) jobs.items }
+                { send_all(rt, jobs, lines, senders, keyed, flush_every, gate, closer) },
+            );
+            let Ok(sending) = sending else {
+                return Err(RunFault::OutOfMemory);
+            };
+            let ended = serve(rt, service);
+            Ok((sending.join(rt), ended?))
         },
-        move || serve(rt, service, shared),
-    );
-    Ok((jobs, ended?))
+    )
 }
 
 /// Opens a producer over the broker at this address, and sends the lines. Timestamps are by the clock on the wall, or

@@ -6,7 +6,7 @@ ghost use Rattle.kp_run.specs.Runs.{CameOf, IsHere, IsProduced};
 ghost use Rattle.kp_run.specs.Settings.{largest};
 ghost use Rattle.kp_run.specs.Served.{ServesAll};
 
-use crate::broker_thread::{end, serve_all};
+use crate::broker_thread::{Serving, end, serve_all};
 use crate::fault::RunFault;
 use crate::gate::Gate;
 use crate::gathering::Produced;
@@ -18,6 +18,7 @@ use kp_core::{Core, Report};
 use std::alloc::AllocGlobal;
 use std::net::{Ipv4Addr, Net, SocketAddr, TcpListener, TcpStream};
 use std::random::RandomSource;
+use std::snapshot::Snapshot;
 use std::sync::Wait;
 use std::sync::atomic::AtomicBool;
 use std::thread::{self, Threads};
@@ -116,18 +117,18 @@ where
     let options = &checked.options;
     let partitions = options.own_partitions();
     let broker = Broker::new(rt.alloc(), options.topic, partitions, address.port())?;
-    let both = serve_and_produce(rt, checked, lines, gate, &listener, address, broker)?;
+    let both = serve_and_produce(rt, checked, lines, gate, listener, address, broker)?;
     let (broker, produced) = both;
     Ok(came_of(Some(broker), produced))
 }
 
-/// Serves the broker in a thread, and sends the lines to it from this one.
+/// Serves the broker in a thread, and sends the lines to it from this one. Where no thread can be made, nothing is sent.
 fn serve_and_produce<R, G>(
     rt: &R,
     checked: &Checked<'_>,
     lines: &[&[u8]],
     gate: &G,
-    listener: &TcpListener,
+    listener: TcpListener,
     address: SocketAddr,
     broker: Broker,
 ) -> Result<(Broker, Produced), RunFault>
@@ -144,21 +145,38 @@ where
     let plan = &checked.plan;
     let over = AtomicBool::new(false);
     let shared = &over;
-    let (broker, produced) = thread::join(
+    let (served, produced) = thread::scope(
+        thread::scope_env(),
         rt,
-        move || serve_all(listener, broker, plan, shared),
-        move || produce_and_end(
-            rt,
-            settings,
-            keyed,
-            flush_every,
-            address,
-            lines,
-            gate,
-            shared,
-        ),
-    );
-    Ok((broker, produced?))
+        move |scope| -> Result<(Broker, Result<Produced, RunFault>), RunFault>
+            ensures served { IfOk result (λ both. ServesAll plan.entry.now broker both.0) }
+            ensures produced { IfOk result (λ both. IfOk both.1 (λ p. IsProduced (dealt lines.entry.now settings.senders keyed) (largest settings.config) p.accepted p.reports.items)) }
+        {
+            let promise = Serving {
+                plan,
+                before: Snapshot::of(&broker),
+            };
+            let serving = scope.spawn_with(
+                promise,
+                move || serve_all(listener, broker, plan, shared),
+            );
+            let Ok(serving) = serving else {
+                return Err(RunFault::OutOfMemory);
+            };
+            let produced = produce_and_end(
+                rt,
+                settings,
+                keyed,
+                flush_every,
+                address,
+                lines,
+                gate,
+                shared,
+            );
+            Ok((serving.join(rt), produced))
+        },
+    )?;
+    Ok((served, produced?))
 }
 
 /// Sends them, with timestamps that count from now, and ends the broker's thread.

@@ -1,6 +1,5 @@
 use Rattle.std.proofs.Common.{◌≡◌, ◌++◌, ◌∙◌, [], List, ap, arith}
 use Rattle.std.specs.Prelude.{slice_index_or}
-use Rattle.kp_engine.specs.Agreement.{waiting_of}
 use Rattle.kp_engine.specs.Parts.{to_sender}
 use Rattle.kp_lanes.specs.Settling.{left_reports}
 use Rattle.kp_rules.specs.Records.{Core}

@@ -1,4 +1,4 @@
-use Rattle.std.proofs.Common.{◌≡◌, ◌≢◌, ◌<◌, ◌++◌, ℕ, length}
+use Rattle.std.proofs.Common.{◌≡◌, ◌<◌, ◌++◌, length}
 use Rattle.kp_engine.specs.Agreement.{waiting_of}
 use Rattle.kp_run.specs.Gathered.{OnlyFetched}
 use Rattle.kp_run.proofs.gathering.add_waiting.Given as goal

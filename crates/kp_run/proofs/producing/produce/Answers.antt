@@ -1,6 +1,6 @@
-use Rattle.std.proofs.Common.{◌≡◌, ◌∙◌, ap, subst, ℕ}
+use Rattle.std.proofs.Common.{◌≡◌, ℕ}
 use Rattle.std.specs.Prelude.{All}
-use Rattle.kp_lanes.specs.Intake.{lanes_of, numbers_below}
+use Rattle.kp_lanes.specs.Intake.{lanes_of}
 use Rattle.kp_client.specs.Left.{parts_in}
 use Rattle.kp_client.specs.Service.{hello_of, intake_of}
 use Rattle.kp_client.specs.Settings.{record_limit}
