@@ -1,8 +1,5 @@
 mod BrokerWordsLemmas
 mod CommandLineLemmas
-mod LineLemmas
-mod OfferedLemmas
-mod PackedLemmas
 mod ReplayLemmas
 mod RunLemmas
 mod RunTextLemmas

@@ -2,8 +2,8 @@
 use Rattle.std.specs.Prelude.{ℕ, List, [], ◌++◌, codes, decimal}
 use Rattle.kp_cli.specs.declared.fault.Fault.{Fault}
 use Rattle.kp_cli.specs.declared.fault.Fault.TheVariants.{CannotRead, OutOfMemory, TooLarge, Topic, Plan, Config, Network, Handshake, BadLine, NoSuch, TooLong, NotText, CannotWrite}
-use Rattle.kp_cli.specs.declared.fault.PackFault.{PackFault}
-use Rattle.kp_cli.specs.declared.fault.PackFault.TheVariants as pack
+use Rattle.kp_offline.specs.declared.fault.PackFault.{PackFault}
+use Rattle.kp_offline.specs.declared.fault.PackFault.TheVariants as pack
 use Rattle.kp_accum.specs.Config.{number_of}
 use Rattle.kp_connection.specs.Fault.{fault_number}
 use Rattle.kp_run.specs.declared.fault.RunFault.{RunFault}

@@ -2,11 +2,7 @@ pub mod BrokerWords
 pub mod CommandLine
 pub mod Commands
 pub mod Faults
-pub mod Lines
-pub mod Offered
-pub mod Packed
 pub mod Replays
-pub mod Report
 pub mod RunCommand
 pub mod RunText
 pub mod RunWords

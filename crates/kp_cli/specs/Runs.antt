@@ -9,7 +9,7 @@ use Rattle.kp_run.specs.declared.options.Checked.{Checked}
 use Rattle.kp_run.specs.declared.options.Options.{Options}
 use Rattle.kp_run.specs.declared.running.Came.{Came}
 use Rattle.kp_cli.specs.Faults.{of_run}
-use Rattle.kp_cli.specs.Lines.{lines}
+use Rattle.kp_offline.specs.Lines.{lines}
 use Rattle.kp_cli.specs.RunText.{run_text}
 use Rattle.kp_cli.specs.declared.command_line.Command.{Command}
 use Rattle.kp_cli.specs.declared.command_line.Command.TheVariants.{Pack, Replay, Run}

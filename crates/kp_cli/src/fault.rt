@@ -4,23 +4,13 @@ ghost use Rattle.std.specs.Prelude.{◌≡◌, ◌++◌, OnOk, codes, decimal};
 ghost use Rattle.std.specs.Io.KnownBytes.{Appends};
 ghost use Rattle.kp_cli.specs.Faults.{fault_line, of_pack, of_replay, of_run};
 ghost use Rattle.kp_text.specs.Lines.{newline};
-ghost use Rattle.kp_cli.specs.declared.fault.PackFault.TheVariants as pack_fault;
 
 use itoa::Buffer;
-use kp_log::LogFault;
+use kp_offline::PackFault;
 use kp_run::RunFault;
 use kp_schedule::ReplayFault;
 use std::alloc::AllocError;
 use std::io::{self, ErrorKind, Write};
-
-/// Why a batch was not packed.
-#[derive(Clone, Copy, Debug, PartialEq, Eq)]
-pub enum PackFault {
-    /// A growth was refused.
-    OutOfMemory,
-    /// The batch would be larger than a batch may be.
-    TooLarge,
-}
 
 /// Why a call ended without its output.
 #[derive(Clone, Copy, Debug, PartialEq, Eq)]
@@ -49,22 +39,6 @@ pub enum Fault<'a> {
     NotText,
     /// The output took no more. Nobody is told.
     CannotWrite,
-}
-
-impl From<AllocError> for PackFault {
-    ghost from_gives = { λ _ e. e ≡ pack_fault.OutOfMemory };
-
-    fn from(_refused: AllocError) -> PackFault {
-        PackFault::OutOfMemory
-    }
-}
-
-impl From<LogFault> for PackFault {
-    ghost from_gives = { λ _ e. e ≡ pack_fault.OutOfMemory };
-
-    fn from(_refused: LogFault) -> PackFault {
-        PackFault::OutOfMemory
-    }
 }
 
 impl<'a> From<PackFault> for Fault<'a> {

@@ -4,21 +4,19 @@ ghost use Rattle.std.specs.Prelude.{◌≡◌, ◌≢◌, IfSome, OnOk, codes, m
 ghost use Rattle.std.specs.Io.KnownBytes.{Appends};
 ghost use Rattle.clap.specs.Words.{kind_of};
 ghost use Rattle.kp_cli.specs.CommandLine.{AskToPackInput, AskToReplayInput, Packs, Replays};
-ghost use Rattle.kp_cli.specs.Lines.{lines};
-ghost use Rattle.kp_cli.specs.Packed.{packed_text};
+ghost use Rattle.kp_offline.specs.Lines.{lines};
+ghost use Rattle.kp_offline.specs.Packed.{packed_text};
 ghost use Rattle.kp_cli.specs.Replays.{PrintsReplay};
 ghost use Rattle.kp_cli.specs.Runs.{Looks, LooksFirst, PrintsLines, PrintsRun};
 
 use crate::command_line::{Command, command_of};
 use crate::fault::{Fault, memory_or, put_fault};
-use crate::lines::slices_of;
-use crate::packing::pack;
-use crate::replaying::replay_text;
 use crate::run_words::Wanted;
 use crate::running::run_with;
 use crate::streams::{read_file, write_whole};
 use clap::Error;
 use clap::error::ErrorKind;
+use kp_offline::{pack, replay_text, slices_of};
 use kp_run::{Checked, Open};
 use std::convert::AsStr;
 use std::io::{self, Read, Write};

@@ -1,6 +1,6 @@
 use Rattle.std.proofs.Common.{ℕ, List, subst}
 use Rattle.std.proofs.lemmas.Result.{on_ok_weaker}
-use Rattle.kp_cli.specs.Replays.{IsReplayOf}
+use Rattle.kp_offline.specs.Replays.{IsReplayOf}
 use Rattle.kp_cli.proofs.ReplayLemmas.{prints_replay}
 use Rattle.kp_cli.proofs.program.replay_file.Goals as goal
 

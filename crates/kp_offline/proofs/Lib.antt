@@ -1,0 +1,4 @@
+mod LineLemmas
+mod OfferedLemmas
+mod PackedLemmas
+mod ReplayLemmas

@@ -1,0 +1,5 @@
+pub mod Lines
+pub mod Offered
+pub mod Packed
+pub mod Replays
+pub mod Report
