@@ -1,7 +1,6 @@
 //! Sends records from threads of their own while one thread takes them and reports, and checks from outside what came of
 //! each. Of each line of its input, "SENDERS RECORDS CAPACITY", so many senders send so many records in all through lanes
-//! of so many places; with "shut" behind it the gate is shut in the middle of the sending. With "time" before it nothing is
-//! checked: it measures how many records a second go through lanes and through bare rings, and says so on standard error.
+//! of so many places; with "shut" behind it the gate is shut in the middle of the sending.
 #![tactic(auto)]
 
 mod judging;
@@ -11,7 +10,6 @@ mod running;
 mod sending;
 mod signal;
 mod taking;
-mod timing;
 mod wrong;
 
 use plan::Plan;
@@ -20,25 +18,6 @@ use std::alloc::Global;
 use std::io;
 use std::rt::Clock;
 use std::thread::Threads;
-use timing::measure;
-
-/// Says how many records a second go through.
-fn time<R: Threads + Clock + Print + Eprint + Copy + Send + 'static>(
-    rt: R,
-    alloc: Global,
-    line: &str,
-) -> io::Result<()> {
-    let Some(plan) = Plan::read(line) else {
-        return println!(rt; "time {line} is no run");
-    };
-    match measure(rt, alloc, plan) {
-        Err(wrong) => println!(rt; "time {line}: wrong: {wrong}"),
-        Ok(rates) => eprintln!(rt;
-            "time {line}: {} records a second through lanes, {} through bare rings",
-            rates.lanes, rates.rings
-        ),
-    }
-}
 
 /// Says whether all was found again.
 fn tell<R: Threads + Clock + Print + Copy + Send + 'static>(
@@ -65,10 +44,7 @@ fn main(rt: HostRuntime) -> io::Result<()> {
     let alloc = rt.alloc();
     for line in rt.lines(alloc) {
         let line = line?;
-        match line.as_str().strip_prefix("time ") {
-            Some(plan) => time(rt, alloc, plan)?,
-            None => tell(rt, alloc, line.as_str())?,
-        }
+        tell(rt, alloc, line.as_str())?;
     }
     Ok(())
 }

@@ -135,7 +135,7 @@ fn reports(intake: &mut Intake, report: Report) -> bool
 }
 
 /// The next item of a sender.
-pub(crate) fn take(intake: &mut Intake, sender: usize) -> Option<Item>
+fn take(intake: &mut Intake, sender: usize) -> Option<Item>
     ensures { lanes_of intake.new ≡ lanes_of intake.old }
 {
     if sender >= intake.senders() {

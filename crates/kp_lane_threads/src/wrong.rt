@@ -9,8 +9,6 @@ use thiserror::Error;
 pub(crate) enum Wrong {
     #[error("out of memory")]
     OutOfMemory,
-    #[error("the clock can't be read")]
-    NoClock,
     #[error("a thread was refused")]
     NoThread,
     #[error("the lanes are not opened: {0}")]
