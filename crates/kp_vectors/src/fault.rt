@@ -1,28 +1,26 @@
-//! What may go wrong with a line, and with the program.
+//! What may go wrong with a line.
 
 use hex::FromHexError;
 use kp_batch::BatchFault;
 use kp_frames::FrameFault;
 use kp_wire::WireFault;
-use std::alloc::{AllocError, AllocFailed};
-use std::io;
+use std::alloc::AllocError;
+use std::num::ParseIntError;
 use thiserror::Error;
 
 /// Why a line does not agree.
-#[derive(Clone, Copy, Debug, PartialEq, Eq, Error)]
+#[derive(Clone, Copy, Debug, Error)]
 pub enum LineFault {
     #[error("the line is not UTF-8")]
     NotUtf8,
     #[error("the kind is unknown")]
     UnknownKind,
-    #[error("the line has not an input and an output")]
-    Fields,
+    #[error("the line is not of its kind's form")]
+    Form,
     #[error("a field is no number of its type")]
     Number,
     #[error("a field is not hexadecimal")]
     Hexadecimal,
-    #[error("the line is not JSON of its file's form")]
-    Json,
     /// A timestamp below 0, no record, or a size above the limit.
     #[error("no batch has these records")]
     NoBatch,
@@ -45,15 +43,22 @@ pub enum LineFault {
     OutOfMemory,
 }
 
+impl LineFault {
+    /// This fault where it does not hold.
+    pub(crate) fn unless(self, holds: bool) -> Result<(), LineFault> {
+        if holds { Ok(()) } else { Err(self) }
+    }
+}
+
 impl From<AllocError> for LineFault {
     fn from(_: AllocError) -> Self {
         LineFault::OutOfMemory
     }
 }
 
-impl<T: Drop> From<AllocFailed<T>> for LineFault {
-    fn from(_: AllocFailed<T>) -> Self {
-        LineFault::OutOfMemory
+impl From<ParseIntError> for LineFault {
+    fn from(_: ParseIntError) -> Self {
+        LineFault::Number
     }
 }
 
@@ -63,25 +68,5 @@ impl From<FromHexError> for LineFault {
             FromHexError::OutOfMemory => LineFault::OutOfMemory,
             _ => LineFault::Hexadecimal,
         }
-    }
-}
-
-/// Why the program has no answer.
-#[derive(Debug, Drop, Error)]
-pub enum Failure {
-    #[error("cannot read {file}: {error}")]
-    Unreadable {
-        file: &'static str,
-        error: io::Error,
-    },
-    #[error("cannot write to standard output: {0}")]
-    Unwritable(io::Error),
-    #[error("out of memory")]
-    OutOfMemory,
-}
-
-impl From<AllocError> for Failure {
-    fn from(_: AllocError) -> Self {
-        Failure::OutOfMemory
     }
 }

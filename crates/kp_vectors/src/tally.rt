@@ -5,7 +5,7 @@ use std::alloc::{AllocError, Global};
 use std::fmt;
 
 /// What a line is about.
-#[derive(Clone, Copy, Debug, PartialEq, Eq)]
+#[derive(Clone, Copy, PartialEq, Eq)]
 pub enum Kind {
     Varint,
     Varlong,
@@ -18,6 +18,19 @@ pub enum Kind {
     /// Of a line whose kind can't be read.
     Unknown,
 }
+
+/// The kinds in the order in which they are printed.
+const KINDS: [Kind; 9] = [
+    Kind::Varint,
+    Kind::Varlong,
+    Kind::Crc32c,
+    Kind::Murmur2,
+    Kind::PartitionOfFour,
+    Kind::Batch,
+    Kind::Request,
+    Kind::Response,
+    Kind::Unknown,
+];
 
 impl Kind {
     /// The kind's word in the files and on output.
@@ -35,16 +48,14 @@ impl Kind {
         }
     }
 
-    /// The kind of a vector that begins with this word.
-    pub(crate) fn of_vector(word: &str) -> Kind {
-        match word {
-            "varint" => Kind::Varint,
-            "varlong" => Kind::Varlong,
-            "crc32c" => Kind::Crc32c,
-            "murmur2" => Kind::Murmur2,
-            "partition-of-4" => Kind::PartitionOfFour,
-            _ => Kind::Unknown,
+    /// The kind of a line that begins with this word.
+    pub(crate) fn of(word: &str) -> Kind {
+        for kind in KINDS {
+            if kind.name() == word {
+                return kind;
+            }
         }
+        Kind::Unknown
     }
 }
 
@@ -57,19 +68,8 @@ impl fmt::Display for Kind {
 /// How many of a kind's lines agree.
 #[derive(Clone, Copy)]
 struct Count {
-    kind: Kind,
     agree: u64,
     lines: u64,
-}
-
-impl Count {
-    fn none_of(kind: Kind) -> Self {
-        Count {
-            kind,
-            agree: 0,
-            lines: 0,
-        }
-    }
 }
 
 /// A line's place.
@@ -95,7 +95,7 @@ impl fmt::Display for Disagreement {
     }
 }
 
-/// The counts of all kinds, in the order in which they are printed, and the lines that do not agree.
+/// The count of each kind, at the number of the kind, and the lines that do not agree.
 #[derive(Drop)]
 pub struct Tally {
     counts: [Count; 9],
@@ -105,17 +105,7 @@ pub struct Tally {
 impl Tally {
     pub(crate) fn new(alloc: Global) -> Self {
         Tally {
-            counts: [
-                Count::none_of(Kind::Varint),
-                Count::none_of(Kind::Varlong),
-                Count::none_of(Kind::Crc32c),
-                Count::none_of(Kind::Murmur2),
-                Count::none_of(Kind::PartitionOfFour),
-                Count::none_of(Kind::Batch),
-                Count::none_of(Kind::Request),
-                Count::none_of(Kind::Response),
-                Count::none_of(Kind::Unknown),
-            ],
+            counts: [Count { agree: 0, lines: 0 }; 9],
             disagreements: Vec::new(alloc),
         }
     }
@@ -140,12 +130,9 @@ impl Tally {
                 .disagreements
                 .push(Disagreement { place, kind, fault })?,
         }
-        for count in self.counts.iter_mut() {
-            if count.kind == kind {
-                count.lines = count.lines.saturating_add(1);
-                count.agree = count.agree.saturating_add(u64::from(finding.is_ok()));
-            }
-        }
+        let count = &mut self.counts[kind as usize];
+        count.lines = count.lines.saturating_add(1);
+        count.agree = count.agree.saturating_add(u64::from(finding.is_ok()));
         Ok(())
     }
 }
@@ -155,8 +142,8 @@ impl fmt::Display for Tally {
         for disagreement in &self.disagreements {
             writeln!(f, "{disagreement}")?;
         }
-        for count in &self.counts {
-            let Count { kind, agree, lines } = *count;
+        for kind in KINDS {
+            let Count { agree, lines } = self.counts[kind as usize];
             if kind != Kind::Unknown || lines > 0 {
                 writeln!(f, "{kind} {agree} of {lines}")?;
             }
