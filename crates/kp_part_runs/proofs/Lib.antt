@@ -1,1 +1,2 @@
+mod FrameLemmas
 pub mod FramingFacts

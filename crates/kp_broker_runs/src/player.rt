@@ -1,0 +1,196 @@
+//! The steps of the cases.
+
+use crate::connection::Connection;
+use kp_broker::{Broker, BrokerFault, FaultPlan};
+use kp_cases::{Player, StepFault, Words};
+use kp_frames::FrameFault;
+use std::alloc::{AllocError, Global};
+use std::mem;
+
+/// The most bytes that the name of a broker's topic has.
+const TOPIC_LIMIT: usize = 249;
+
+/// The most partitions that it has.
+const PARTITION_LIMIT: u32 = 1024;
+
+/// The port of each broker here.
+const PORT: u16 = 9092;
+
+/// A broker, its plan, and a connection to it.
+#[derive(Drop)]
+pub(crate) struct Brokers {
+    alloc: Global,
+    broker: Option<Broker>,
+    plan: FaultPlan,
+    connection: Connection,
+    /// What was put, and neither asked nor served.
+    put: Vec<u8>,
+    /// What the broker told last.
+    told: Vec<u8>,
+}
+
+/// Writes bytes in hexadecimal, and `-` where there is none.
+fn put_bytes(came: &mut String, bytes: &[u8]) -> Result<(), AllocError> {
+    if bytes.is_empty() {
+        came.push_str("-")?;
+    }
+    for byte in bytes {
+        write!(came, "{byte:02x}")?;
+    }
+    Ok(())
+}
+
+/// How many of a content's proper prefixes are refused as cut short.
+fn short_prefixes(broker: &mut Broker, content: &[u8]) -> usize {
+    let mut count = 0usize;
+    for len in 0..content.len() {
+        let answer = broker.answer(content.get(..len).unwrap_or(content));
+        if answer.err() == Some(BrokerFault::Frame(FrameFault::Short)) {
+            count = count.saturating_add(1);
+        }
+    }
+    count
+}
+
+/// The value of a partition's record at an offset.
+fn value_at(broker: &Broker, partition: u32, offset: u64) -> Option<&[u8]> {
+    let stored = broker.log(partition)?.get(offset)?;
+    Some(stored.body.value.as_ref()?.as_slice())
+}
+
+impl Brokers {
+    pub(crate) fn new(alloc: Global) -> Brokers {
+        Brokers {
+            alloc,
+            broker: None,
+            plan: FaultPlan::none(alloc),
+            connection: Connection::new(alloc),
+            put: Vec::new(alloc),
+            told: Vec::new(alloc),
+        }
+    }
+
+    fn open(&mut self, topic: &str, partitions: u32) -> Result<(), StepFault> {
+        if topic.len() > TOPIC_LIMIT || partitions == 0 || partitions > PARTITION_LIMIT {
+            return Err("no broker has such a topic".into());
+        }
+        self.broker = Some(Broker::new(self.alloc, topic, partitions, PORT)?);
+        Ok(())
+    }
+
+    /// Takes the plan that a text in quotes spells.
+    fn plan(&mut self, quoted: &str, came: &mut String) -> Result<(), StepFault> {
+        let text = quoted.strip_prefix('"').ok_or(StepFault::NotUnderstood)?;
+        let text = text.strip_suffix('"').ok_or(StepFault::NotUnderstood)?;
+        match FaultPlan::parse(self.alloc, text) {
+            Ok(plan) => self.plan = plan,
+            Err(fault) => write!(came, "{fault:?}")?,
+        }
+        Ok(())
+    }
+
+    /// What was put, and the bytes behind it.
+    fn input(&mut self, words: &mut Words<'_>) -> Result<Vec<u8>, StepFault> {
+        let mut input = mem::replace(&mut self.put, Vec::new(self.alloc));
+        input.extend_from_slice(&words.rest_bytes()?)?;
+        Ok(input)
+    }
+
+    /// Asks the broker: how many bytes its answer has.
+    fn answer(&mut self, words: &mut Words<'_>, came: &mut String) -> Result<(), StepFault> {
+        let content = self.input(words)?;
+        let broker = self.broker.as_mut().ok_or("there is no broker")?;
+        match broker.answer(&content) {
+            Ok(frame) => {
+                write!(came, "{} bytes", frame.len())?;
+                self.told = frame;
+            }
+            Err(fault) => write!(came, "{fault:?}")?,
+        }
+        Ok(())
+    }
+
+    fn prefixes(&mut self, words: &mut Words<'_>, came: &mut String) -> Result<(), StepFault> {
+        let content = self.input(words)?;
+        let broker = self.broker.as_mut().ok_or("there is no broker")?;
+        Ok(write!(came, "{} Short", short_prefixes(broker, &content))?)
+    }
+
+    fn serve(&mut self, words: &mut Words<'_>, came: &mut String) -> Result<(), StepFault> {
+        let input = self.input(words)?;
+        let broker = self.broker.as_mut().ok_or("there is no broker")?;
+        let (ended, written) = self.connection.serve(broker, &self.plan, &input);
+        self.told = written;
+        match ended {
+            Ok(served) => write!(came, "{served:?}")?,
+            Err(fault) => write!(came, "{fault:?}")?,
+        }
+        Ok(())
+    }
+
+    /// Writes what the broker told last, where it is not these bytes.
+    fn told(&self, wanted: &[u8], came: &mut String) -> Result<(), StepFault> {
+        if self.told.as_slice() != wanted {
+            put_bytes(came, &self.told)?;
+        }
+        Ok(())
+    }
+
+    fn records(&self, partition: u32, came: &mut String) -> Result<(), StepFault> {
+        let broker = self.broker.as_ref().ok_or("there is no broker")?;
+        match broker.log(partition) {
+            Some(log) => write!(came, "{}", log.len())?,
+            None => came.push_str("none")?,
+        }
+        Ok(())
+    }
+
+    fn value(&self, partition: u32, offset: u64, came: &mut String) -> Result<(), StepFault> {
+        let broker = self.broker.as_ref().ok_or("there is no broker")?;
+        match value_at(broker, partition, offset) {
+            Some(value) => put_bytes(came, value)?,
+            None => came.push_str("none")?,
+        }
+        Ok(())
+    }
+
+    /// Plays a step that looks at what there is.
+    fn look(
+        &mut self,
+        step: &str,
+        words: &mut Words<'_>,
+        came: &mut String,
+    ) -> Result<(), StepFault> {
+        match step {
+            "told" => self.told(&words.rest_bytes()?, came),
+            "records" => self.records(words.number()?, came),
+            "value" => self.value(words.number()?, words.number()?, came),
+            "action" => Ok(write!(came, "{:?}", self.plan.action(words.number()?))?),
+            "read_calls" => Ok(write!(came, "{}", self.connection.read_calls)?),
+            _ => self.connection.play(step, words),
+        }
+    }
+}
+
+impl Player for Brokers {
+    fn begin(&mut self) {
+        *self = Brokers::new(self.alloc);
+    }
+
+    fn play(
+        &mut self,
+        step: &str,
+        words: &mut Words<'_>,
+        came: &mut String,
+    ) -> Result<(), StepFault> {
+        match step {
+            "broker" => self.open(words.word()?, words.number()?),
+            "plan" => self.plan(words.rest(), came),
+            "put" => Ok(self.put.extend_from_slice(&words.rest_bytes()?)?),
+            "answer" => self.answer(words, came),
+            "prefixes" => self.prefixes(words, came),
+            "serve" => self.serve(words, came),
+            _ => self.look(step, words, came),
+        }
+    }
+}

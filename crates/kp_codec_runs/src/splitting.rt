@@ -1,0 +1,125 @@
+//! Streams of frames, in pieces.
+
+use crate::edits::number_of;
+use crate::fault::{Done, Left, Played};
+use crate::told::{Told, put_hex};
+use kp_cases::{StepFault, Words};
+use kp_frames::Splitter;
+use kp_wire::put_i32;
+use std::alloc::Global;
+
+/// A stream, given to a splitter in one piece: how many frames it has whole.
+pub(crate) fn read_stream<'a>(bytes: &'a [u8], told: &mut Told) -> Left<'a> {
+    let mut splitter = Splitter::new(told.alloc);
+    splitter.feed(bytes)?;
+    let mut count = 0u32;
+    for _ in bytes {
+        let Some(content) = splitter.next_frame()? else {
+            break;
+        };
+        put_i32(
+            &mut told.written,
+            i32::try_from(content.len()).unwrap_or(-1),
+        )?;
+        told.written.extend_from_slice(&content)?;
+        count = count.saturating_add(1);
+    }
+    write!(told.text, "{count} frames")?;
+    let given = bytes.len().saturating_sub(splitter.rest_len());
+    Ok(bytes.get(given..).unwrap_or(&[]))
+}
+
+/// A splitter that is given a stream, piece by piece. A numbered frame has its number as content, from 0.
+#[derive(Drop)]
+pub(crate) struct Splitting {
+    alloc: Global,
+    splitter: Splitter,
+    /// How many numbered frames went in.
+    fed: u16,
+    /// How many came out.
+    given: u16,
+}
+
+impl Splitting {
+    pub(crate) fn new(alloc: Global) -> Splitting {
+        Splitting {
+            alloc,
+            splitter: Splitter::new(alloc),
+            fed: 0,
+            given: 0,
+        }
+    }
+
+    /// Feeds a piece, and tells the fault where one comes.
+    fn feed(&mut self, piece: &[u8], came: &mut String) -> Done {
+        if let Err(fault) = self.splitter.feed(piece) {
+            write!(came, "{fault:?}")?;
+        }
+        Ok(())
+    }
+
+    /// Feeds each word as a piece.
+    fn feed_words(&mut self, words: &mut Words<'_>, came: &mut String) -> Done {
+        for word in words.rest().split_whitespace() {
+            let piece = hex::decode(self.alloc, word)?;
+            self.feed(&piece, came)?;
+        }
+        Ok(())
+    }
+
+    /// So many numbered frames, one behind the other.
+    fn numbered(&mut self, count: u16) -> Result<Vec<u8>, StepFault> {
+        let mut frames = Vec::new(self.alloc);
+        for _ in 0..count {
+            frames.extend_from_slice(&[0, 0, 0, 2])?;
+            frames.extend_from_slice(&self.fed.to_be_bytes())?;
+            self.fed = self.fed.wrapping_add(1);
+        }
+        Ok(frames)
+    }
+
+    /// Feeds so many numbered frames, in pieces of these lengths and what is left behind them.
+    fn feed_numbered(&mut self, words: &mut Words<'_>, came: &mut String) -> Done {
+        let frames = self.numbered(words.number()?)?;
+        let mut left = frames.as_slice();
+        for word in words.rest().split_whitespace() {
+            let (piece, rest) = left.split_at_checked(number_of(word)?).ok_or("too long")?;
+            self.feed(piece, came)?;
+            left = rest;
+        }
+        self.feed(left, came)
+    }
+
+    /// Tells the content of the next frame.
+    fn tell_next(&mut self, came: &mut String) -> Done {
+        match self.splitter.next_frame() {
+            Ok(Some(content)) => put_hex(came, &content)?,
+            Ok(None) => came.push_str("none")?,
+            Err(fault) => write!(came, "{fault:?}")?,
+        }
+        Ok(())
+    }
+
+    /// Takes the next frame, and says where it has not the next number.
+    fn take_numbered(&mut self, came: &mut String) -> Done {
+        let number = self.given.to_be_bytes();
+        self.given = self.given.wrapping_add(1);
+        match self.splitter.next_frame() {
+            Ok(Some(content)) if content.as_slice() == number.as_slice() => Ok(()),
+            _ => Ok(came.push_str("another")?),
+        }
+    }
+
+    /// Plays a step about a stream; false where it is none.
+    pub(crate) fn play(&mut self, step: &str, words: &mut Words<'_>, came: &mut String) -> Played {
+        match step {
+            "feed" => self.feed_words(words, came)?,
+            "feed_numbered" => self.feed_numbered(words, came)?,
+            "next" => self.tell_next(came)?,
+            "next_numbered" => self.take_numbered(came)?,
+            "waits" => write!(came, "{}", self.splitter.rest_len())?,
+            _ => return Ok(false),
+        }
+        Ok(true)
+    }
+}

@@ -1,0 +1,181 @@
+//! The steps of the cases.
+
+ghost use Rattle.std.specs.Prelude.{IsSome};
+
+use crate::far::play_far;
+use crate::memory::{Memory, long_frame, steps_of};
+use crate::telling::put_polled;
+use crate::wires::{play_script, play_wire};
+use futures::task::Poll;
+use futures::test::MockTask;
+use kp_cases::{Player, StepFault, Words};
+use kp_connection::script::Script;
+use kp_connection::{Handshake, HandshakeFault, Hello, Plain, Wire};
+use kp_rules::Names;
+use kp_wire::Text;
+use std::alloc::{AllocGlobal, Global};
+use std::random::RandomSource;
+use std::{io, mem};
+use tokio::io::{DuplexStream, duplex};
+
+/// A handshake that goes on.
+#[derive(Drop)]
+struct Shaking {
+    handshake: Handshake<Memory>,
+    ghost goes_on: { IsSome handshake },
+}
+
+/// The near end of a connection.
+#[derive(Drop)]
+enum Near {
+    /// It was not made, or was dropped.
+    Gone,
+    Stream(Memory),
+    Wire(Wire<Memory>),
+    Handshake(Shaking),
+}
+
+impl Near {
+    fn script(script: Script) -> Near {
+        Near::Stream(Memory::Script(script))
+    }
+}
+
+impl Shaking {
+    /// What comes of a poll, and what is left behind it.
+    fn poll(self, task: &MockTask) -> (Near, Poll<Result<Hello, HandshakeFault>>) {
+        let Shaking { mut handshake } = self;
+        match task.poll(&mut handshake) {
+            Poll::Pending => (Near::Handshake(Shaking { handshake }), Poll::Pending),
+            Poll::Ready(Ok((hello, stream))) => (Near::Stream(stream), Poll::Ready(Ok(hello))),
+            Poll::Ready(Err(fault)) => (Near::Gone, Poll::Ready(Err(fault))),
+        }
+    }
+}
+
+/// A connection, and the task in which its ends are polled.
+#[derive(Drop)]
+pub(crate) struct Connections {
+    alloc: Global,
+    task: MockTask,
+    near: Near,
+    far: Option<DuplexStream>,
+}
+
+impl Connections {
+    pub(crate) fn new<R: RandomSource + AllocGlobal>(rt: &R) -> io::Result<Connections> {
+        Ok(Connections {
+            alloc: rt.alloc(),
+            task: MockTask::new(rt)?,
+            near: Near::Gone,
+            far: None,
+        })
+    }
+
+    /// The near end's stream, of which nothing else is left.
+    fn take_stream(&mut self) -> Result<Memory, StepFault> {
+        match mem::replace(&mut self.near, Near::Gone) {
+            Near::Stream(stream) => Ok(stream),
+            Near::Wire(wire) => Ok(wire.into_stream()),
+            _ => Err("there is no stream".into()),
+        }
+    }
+
+    fn take_script(&mut self) -> Result<Script, StepFault> {
+        match self.take_stream()? {
+            Memory::Script(script) => Ok(script),
+            Memory::Duplex(_) => Err("the stream is no script".into()),
+        }
+    }
+
+    fn reads(&mut self, words: &mut Words<'_>) -> Result<Near, StepFault> {
+        let steps = steps_of(self.alloc, words)?;
+        Ok(Near::script(self.take_script()?.reading(steps)))
+    }
+
+    fn writes(&mut self, words: &mut Words<'_>) -> Result<Near, StepFault> {
+        let steps = steps_of(self.alloc, words)?;
+        Ok(Near::script(self.take_script()?.writing(steps)))
+    }
+
+    fn ends_after(&mut self, count: usize) -> Result<Near, StepFault> {
+        Ok(Near::script(self.take_script()?.ending_after(count)))
+    }
+
+    /// Two ends, each of which holds at most so many bytes that the other did not read.
+    fn duplex(&mut self, room: usize) -> Result<Near, StepFault> {
+        if room == 0 {
+            return Err("a stream without room".into());
+        }
+        let (near, far) = duplex(self.alloc, room)?;
+        self.far = Some(far);
+        Ok(Near::Stream(Memory::Duplex(Plain { inner: near })))
+    }
+
+    fn handshake(&mut self, words: &mut Words<'_>) -> Result<Near, StepFault> {
+        let names = Names {
+            topic: Text::from_str(self.alloc, words.word()?)?,
+            client: Text::from_str(self.alloc, words.word()?)?,
+        };
+        let handshake = Handshake::new(self.alloc, self.take_stream()?, names);
+        Ok(Near::Handshake(Shaking { handshake }))
+    }
+
+    fn poll(&mut self, came: &mut String) -> Result<Near, StepFault> {
+        let Near::Handshake(shaking) = mem::replace(&mut self.near, Near::Gone) else {
+            return Err("there is no handshake".into());
+        };
+        let (near, polled) = shaking.poll(&self.task);
+        put_polled(came, &polled)?;
+        Ok(near)
+    }
+
+    /// Plays a step of what the near end is.
+    fn play_near(
+        &mut self,
+        step: &str,
+        words: &mut Words<'_>,
+        came: &mut String,
+    ) -> Result<(), StepFault> {
+        match &mut self.near {
+            Near::Wire(wire) => play_wire(&self.task, wire, step, words, came),
+            Near::Stream(Memory::Script(script)) => play_script(script, step, came),
+            _ => Err(StepFault::NotUnderstood),
+        }
+    }
+}
+
+impl Player for Connections {
+    fn begin(&mut self) {
+        self.near = Near::Gone;
+        self.far = None;
+        // (a new poll forgets what was woken)
+        self.task.enter(|_cx| ());
+    }
+
+    fn play(
+        &mut self,
+        step: &str,
+        words: &mut Words<'_>,
+        came: &mut String,
+    ) -> Result<(), StepFault> {
+        self.near = match step {
+            "stream" => Near::script(Script::new(self.alloc, words.rest_bytes()?)),
+            "stream_of" => Near::script(Script::new(self.alloc, long_frame(self.alloc, words)?)),
+            "reads" => self.reads(words)?,
+            "writes" => self.writes(words)?,
+            "ends_after" => self.ends_after(words.number()?)?,
+            "duplex" => self.duplex(words.number()?)?,
+            "wire" => Near::Wire(Wire::new(self.alloc, self.take_stream()?)),
+            "into_stream" => Near::Stream(self.take_stream()?),
+            "handshake" => self.handshake(words)?,
+            "poll" => self.poll(came)?,
+            "drop_near" => Near::Gone,
+            "says" | "hears" | "drop_far" => {
+                return play_far(&self.task, &mut self.far, step, words, came);
+            }
+            _ => return self.play_near(step, words, came),
+        };
+        Ok(())
+    }
+}

@@ -1,0 +1,154 @@
+//! An engine over a stream, with the senders that it serves, and the task in which it is polled.
+
+use crate::clock::Ticking;
+use crate::opening::open;
+use crate::setting::Setting;
+use crate::shared::Shared;
+use crate::texts::put_told;
+use futures::task::Poll;
+use futures::test::MockTask;
+use kp_batch::{Record, Timestamp};
+use kp_cases::StepFault;
+use kp_connection::Stream;
+use kp_connection::script::{Script, Step};
+use kp_engine::{Engine, Stop};
+use kp_lanes::{Closer, Sender, Target};
+use kp_wire::{Blob, Seq};
+use std::alloc::{AllocError, Global};
+use std::random::RandomSource;
+
+/// An engine over a stream, with the senders that it serves, and the task in which it is polled.
+#[derive(Drop)]
+pub(crate) struct Scene<S> {
+    pub(crate) alloc: Global,
+    pub(crate) stream: Shared<S>,
+    pub(crate) task: MockTask,
+    pub(crate) engine: Engine<Shared<S>, Ticking>,
+    senders: Vec<Sender>,
+    pub(crate) closer: Closer,
+}
+
+/// A keyless record with the timestamp 0.
+fn record_of(alloc: Global, value: &str) -> Result<Record, StepFault> {
+    Ok(Record {
+        timestamp: Timestamp::from_millis(0).ok_or("no timestamp")?,
+        key: None,
+        value: Some(Blob::from_slice(alloc, value.as_bytes())?),
+        headers: Seq::new(Vec::new(alloc)),
+    })
+}
+
+impl<S: Stream> Scene<S> {
+    /// A new engine over this stream.
+    pub(crate) fn open<R: RandomSource + AllocGlobal>(
+        rt: &R,
+        setting: Setting,
+        stream: S,
+    ) -> Result<Scene<S>, StepFault> {
+        let alloc = rt.alloc();
+        let task = MockTask::new(rt).map_err(|_| "no task")?;
+        let stream = Shared::new(alloc, stream)?;
+        let (engine, senders, closer) = open(alloc, setting, stream.share()?)?;
+        Ok(Scene {
+            alloc,
+            stream,
+            task,
+            engine,
+            senders,
+            closer,
+        })
+    }
+
+    /// One poll of the engine as a future: None where it is pending.
+    pub(crate) fn poll(&mut self) -> Option<Stop> {
+        match self.task.poll(&mut self.engine) {
+            Poll::Pending => None,
+            Poll::Ready(stop) => Some(stop),
+        }
+    }
+
+    /// Goes on over another connection, which is the stream as it is now: whether one was needed.
+    pub(crate) fn connect(&mut self) -> Result<bool, AllocError> {
+        let stream = self.stream.share()?;
+        let needed = matches!(self.engine.stopped(), Some(Stop::NeedStream(_)));
+        if needed {
+            self.engine.give_stream(stream);
+        }
+        Ok(needed)
+    }
+
+    fn sender(&mut self, number: usize) -> Result<&mut Sender, StepFault> {
+        Ok(self.senders.get_mut(number).ok_or("no such sender")?)
+    }
+
+    /// This sender sends a record with this value to partition 0, or why it does not.
+    pub(crate) fn send(
+        &mut self,
+        sender: usize,
+        value: &str,
+        came: &mut String,
+    ) -> Result<(), StepFault> {
+        let record = record_of(self.alloc, value)?;
+        match self.sender(sender)?.send(Target::Named(0), record, 0) {
+            Ok(_) => Ok(()),
+            Err((fault, _)) => Ok(write!(came, "{fault:?}")?),
+        }
+    }
+
+    /// This sender asks for a flush, or why it does not.
+    pub(crate) fn flush(&mut self, sender: usize, came: &mut String) -> Result<(), StepFault> {
+        match self.sender(sender)?.flush() {
+            Ok(()) => Ok(()),
+            Err(fault) => Ok(write!(came, "{fault:?}")?),
+        }
+    }
+
+    /// Fetches this sender's reports: "0/0/0 Delivered(0); 0/0/1 Delivered(1)".
+    pub(crate) fn tell(&mut self, sender: usize, came: &mut String) -> Result<(), StepFault> {
+        let sender = self.sender(sender)?;
+        for _ in 0..u32::MAX {
+            let Some(report) = sender.poll_report() else {
+                break;
+            };
+            put_told(came, &report)?;
+        }
+        Ok(())
+    }
+
+    /// The core, as it shows itself.
+    pub(crate) fn core(&self) -> Result<String, AllocError> {
+        format!(in self.alloc; "{:?}", self.engine.core())
+    }
+
+    /// What the last poll has moved, and for which senders: "something at 100, for 0, for 2".
+    pub(crate) fn tell_moves(&self, came: &mut String) -> Result<(), AllocError> {
+        let moves = self.engine.moves();
+        let what = if moves.any() { "something" } else { "nothing" };
+        write!(came, "{what} at {}", moves.now())?;
+        for sender in 0..100 {
+            if moves.serves(sender) {
+                write!(came, ", for {sender}")?;
+            }
+        }
+        Ok(())
+    }
+}
+
+impl Scene<Script> {
+    /// From now on the stream gives these bytes. Its reads and its writes go through these steps, again and again.
+    pub(crate) fn play(
+        &self,
+        reads: Vec<Step>,
+        writes: Vec<Step>,
+        input: Vec<u8>,
+    ) -> Result<(), StepFault> {
+        let script = Script::new(self.alloc, input);
+        *self.stream.lend()? = script.reading(reads).writing(writes);
+        Ok(())
+    }
+
+    /// From now on the stream takes all, and gives these bytes, whole.
+    pub(crate) fn say(&self, input: Vec<u8>) -> Result<(), StepFault> {
+        self.play(Vec::new(self.alloc), Vec::new(self.alloc), input)
+    }
+}

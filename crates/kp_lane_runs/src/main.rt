@@ -1,0 +1,56 @@
+//! Plays lanes and their gate: what senders, the intake and the closer do together.
+#![tactic(auto)]
+
+mod lanes;
+mod steps;
+
+use kp_cases::{Player, StepFault, Words, play_files};
+use kp_lanes::OpenFault;
+use lanes::{Lanes, open};
+use std::alloc::Global;
+use std::fmt::Write;
+use std::io;
+use std::process::ExitCode;
+
+/// What a case plays with.
+#[derive(Drop)]
+struct Scene {
+    alloc: Global,
+    lanes: Option<Lanes>,
+}
+
+impl Player for Scene {
+    fn begin(&mut self) {
+        self.lanes = None;
+    }
+
+    fn play(
+        &mut self,
+        step: &str,
+        words: &mut Words<'_>,
+        came: &mut String,
+    ) -> Result<(), StepFault> {
+        match step {
+            "lanes" => self.lanes = open(self.alloc, words, came)?,
+            "settle" => self.lanes = self.lanes.take().ok_or("no lanes")?.settle(came)?,
+            "fault.numbers" => {
+                let (first, last) = (OpenFault::Senders, OpenFault::OutOfMemory);
+                let (first_number, last_number) = (first.number(), last.number());
+                write!(came, "{first:?} {first_number}, {last:?} {last_number}")?
+            }
+            _ => match &mut self.lanes {
+                Some(lanes) => lanes.play(step, words, came)?,
+                None => return Err(StepFault::CannotBe("no lanes")),
+            },
+        }
+        Ok(())
+    }
+}
+
+fn main(rt: HostRuntime) -> io::Result<ExitCode> {
+    let mut scene = Scene {
+        alloc: rt.alloc(),
+        lanes: None,
+    };
+    play_files(&rt, &mut scene)
+}

@@ -1,5 +1,0 @@
-mod answering;
-mod segmenting;
-mod sharing;
-mod steps;
-mod whims;

@@ -1,0 +1,98 @@
+//! Settings, flags and items, as steps name them.
+
+use crate::{PartPlayer, Played};
+use kp_accum::{Config, Flags, Item};
+use kp_batch::{AsRecord, Record, Timestamp, charge};
+use kp_cases::{StepFault, Words};
+use kp_wire::{Blob, Seq};
+use std::alloc::Global;
+
+/// The value of the setting of this name of Kafka's (Kafka's documentation, "Producer Configs").
+pub(crate) fn value_of<'c>(config: &'c mut Config, name: &str) -> Result<&'c mut u64, StepFault> {
+    Ok(match name {
+        "batch.size" => &mut config.batch_size,
+        "linger.ms" => &mut config.linger_ms,
+        "buffer.memory" => &mut config.buffer_memory,
+        "max.request.size" => &mut config.max_request_size,
+        "request.timeout.ms" => &mut config.request_timeout_ms,
+        "delivery.timeout.ms" => &mut config.delivery_timeout_ms,
+        "retry.backoff.ms" => &mut config.retry_backoff_ms,
+        "max.in.flight" => &mut config.max_in_flight_requests_per_connection,
+        "sequence.limit" => &mut config.sequence_limit,
+        _ => return Err(StepFault::NotUnderstood),
+    })
+}
+
+/// The flags that the words name.
+pub(crate) fn flags_of(words: &mut Words<'_>) -> Result<Flags, StepFault> {
+    let mut flags = Flags::default();
+    for flag in words.rest().split_whitespace() {
+        match flag {
+            "exhausted" => flags.exhausted = true,
+            "closing" => flags.closing = true,
+            "flushing" => flags.flushing = true,
+            _ => return Err(StepFault::NotUnderstood),
+        }
+    }
+    Ok(flags)
+}
+
+/// The next word, which is a number; 0 where there is none.
+pub(crate) fn number_or_zero(words: &mut Words<'_>) -> Result<u32, StepFault> {
+    if words.is_empty() {
+        return Ok(0);
+    }
+    words.number()
+}
+
+/// An item with neither key nor headers, at moment 0: its number, its value, the moment at which it was accepted, and, each 0
+/// where it is not said, its partition and its sender.
+pub(crate) fn item_of(alloc: Global, words: &mut Words<'_>) -> Result<Item, StepFault> {
+    Ok(Item {
+        number: words.number()?,
+        body: Record {
+            timestamp: Timestamp::from_millis(0).ok_or("there is no such moment")?,
+            key: None,
+            value: Some(Blob::new(words.bytes()?)),
+            headers: Seq::new(Vec::new(alloc)),
+        },
+        at: words.number()?,
+        partition: number_or_zero(words)?,
+        sender: number_or_zero(words)?,
+    })
+}
+
+impl PartPlayer {
+    /// Sets what the words say, as `NAME=VALUE`, and all else to its default: `ok`, or the number and name of the fault.
+    pub(crate) fn set(&mut self, words: &mut Words<'_>, came: &mut String) -> Played {
+        self.config = Config::default();
+        for setting in words.rest().split_whitespace() {
+            let (name, value) = setting.split_once('=').ok_or(StepFault::NotUnderstood)?;
+            let value = value.parse().map_err(|_| StepFault::NotUnderstood)?;
+            *value_of(&mut self.config, name)? = value;
+        }
+        match self.config.check() {
+            Ok(()) => came.push_str("ok")?,
+            Err(fault) => write!(came, "{} {fault:?}", fault.number())?,
+        }
+        Ok(())
+    }
+
+    /// Tells what a copy of the item has, at the moment behind it: sender, partition, number, moment of acceptance,
+    /// timestamp and charge.
+    pub(crate) fn tell_copy(&self, words: &mut Words<'_>, came: &mut String) -> Played {
+        let mut item = item_of(self.alloc, words)?;
+        item.body.timestamp = Timestamp::from_millis(words.number()?).ok_or(
+            "there is no such moment",
+        )?;
+        let copy = item.copy(self.alloc)?;
+        write!(
+            came,
+            "{} {} {} {}",
+            copy.sender, copy.partition, copy.number, copy.at
+        )?;
+        let record = copy.as_record();
+        write!(came, " {} {}", record.timestamp.millis(), charge(record))?;
+        Ok(())
+    }
+}

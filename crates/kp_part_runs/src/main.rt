@@ -1,0 +1,80 @@
+//! Plays what waits in an accumulator or a queue, and what a partition sends of it: with settings, items, the memory that
+//! they take, and requests as bytes.
+#![tactic(auto)]
+
+mod framing;
+mod given;
+mod memory;
+mod sending;
+mod waiting;
+
+use crate::given::{flags_of, item_of, value_of};
+use kp_accum::{Accum, Budget, Config, Pending, Queue};
+use kp_cases::{Player, StepFault, Words, play_files};
+use kp_parts::Partition;
+use std::alloc::Global;
+use std::io;
+use std::process::ExitCode;
+
+/// How a step ends, when it has written what it came to.
+type Played = Result<(), StepFault>;
+
+/// What a case is about.
+#[derive(Drop)]
+struct PartPlayer {
+    alloc: Global,
+    config: Config,
+    accum: Option<Accum>,
+    queue: Queue,
+    /// The batch that was taken last, from the accumulator or the queue.
+    taken: Option<Pending>,
+    partition: Option<Partition>,
+    budget: Budget,
+}
+
+impl PartPlayer {
+    fn new(alloc: Global) -> PartPlayer {
+        PartPlayer {
+            alloc,
+            config: Config::default(),
+            accum: None,
+            queue: Queue::new(alloc),
+            taken: None,
+            partition: None,
+            budget: Budget::new(0),
+        }
+    }
+}
+
+impl Player for PartPlayer {
+    fn begin(&mut self) {
+        *self = PartPlayer::new(self.alloc);
+    }
+
+    fn play(&mut self, step: &str, words: &mut Words<'_>, came: &mut String) -> Played {
+        match step {
+            "config" => self.set(words, came)?,
+            "setting" => write!(came, "{}", value_of(&mut self.config, words.word()?)?)?,
+            "flags" => write!(came, "{:?}", flags_of(words)?)?,
+            "pressed" => write!(came, "{}", flags_of(words)?.is_pressed())?,
+            "charge" => write!(came, "{}", item_of(self.alloc, words)?.charge())?,
+            "copy" => self.tell_copy(words, came)?,
+            "accum" => self.play_accum(words, came)?,
+            "queue" => self.play_queue(words, came)?,
+            "taken" => self.tell_taken(came)?,
+            "into-items" => self.tell_given(came)?,
+            "partition" => self.play_partition(words, came)?,
+            "budget" => self.play_budget(words, came)?,
+            "desk" => self.tell_desk(words, came)?,
+            "data" => self.tell_data(words, came)?,
+            "produce" => self.tell_request(words, came)?,
+            "init-producer-id" => self.tell_id_request(words, came)?,
+            _ => return Err(StepFault::NotUnderstood),
+        }
+        Ok(())
+    }
+}
+
+fn main(rt: HostRuntime) -> io::Result<ExitCode> {
+    play_files(&rt, &mut PartPlayer::new(rt.alloc()))
+}

@@ -1,0 +1,136 @@
+//! Batches that wait, in an accumulator or in the queue of one partition alone.
+
+use crate::given::{flags_of, item_of, number_or_zero};
+use crate::{PartPlayer, Played};
+use kp_accum::{Accum, Config, Item, Pending, Queue};
+use kp_batch::SIZE_LIMIT;
+use kp_cases::{StepFault, Words};
+
+/// Puts the item last. Where it comes back, the fault is told, and the number of what comes back.
+fn append(accum: &mut Accum, item: Item, came: &mut String) -> Played {
+    if !accum.may_append(&item) {
+        return Err("the item may not be appended".into());
+    }
+    if let Err((fault, back)) = accum.append(item) {
+        write!(came, "{fault:?} {}", back.number)?;
+    }
+    Ok(())
+}
+
+fn append_to_queue(queue: &mut Queue, config: &Config, item: Item) -> Played {
+    let charge = item.charge();
+    if config.check() != Ok(()) || charge > SIZE_LIMIT {
+        return Err("the item may not be appended".into());
+    }
+    Ok(queue.append(config, charge, item)?)
+}
+
+/// Tells the numbers of the items.
+pub(crate) fn tell_items(items: &[Item], came: &mut String) -> Played {
+    for (k, item) in items.iter().enumerate() {
+        let blank = if k == 0 { "" } else { " " };
+        write!(came, "{blank}{}", item.number)?;
+    }
+    Ok(())
+}
+
+/// Tells the numbers of a batch's items, or that there is no batch.
+fn tell_batch(batch: Option<&Pending>, came: &mut String) -> Played {
+    match batch {
+        Some(batch) => tell_items(batch.items(), came),
+        None => Ok(came.push_str("none")?),
+    }
+}
+
+/// Keeps a batch that was taken, and tells it.
+fn keep(taken: &mut Option<Pending>, batch: Option<Pending>, came: &mut String) -> Played {
+    *taken = batch;
+    tell_batch(taken.as_ref(), came)
+}
+
+impl PartPlayer {
+    /// A call of an accumulator; where it takes a partition, one of partition 0.
+    pub(crate) fn play_accum(&mut self, words: &mut Words<'_>, came: &mut String) -> Played {
+        let call = words.word()?;
+        if call == "new" {
+            if self.config.check() != Ok(()) {
+                return Err("the configuration is refused".into());
+            }
+            self.accum = Some(Accum::new(self.alloc, self.config, words.number()?)?);
+            return Ok(());
+        }
+        let accum = self.accum.as_mut().ok_or(StepFault::NotUnderstood)?;
+        if accum.partitions() == 0 {
+            return Err("there is no partition".into());
+        }
+        match call {
+            "append" => append(accum, item_of(self.alloc, words)?, came)?,
+            "may-append" => write!(came, "{}", accum.may_append(&item_of(self.alloc, words)?))?,
+            "partitions" => write!(came, "{}", accum.partitions())?,
+            "ready" => {
+                let ready = accum.front_ready(0, words.number()?, flags_of(words)?);
+                write!(came, "{ready}")?;
+            }
+            "front" => {
+                let partition = number_or_zero(words)?;
+                if partition as usize >= accum.partitions() {
+                    return Err("there is no such partition".into());
+                }
+                tell_batch(accum.front(partition), came)?;
+            }
+            "take" => keep(&mut self.taken, accum.take_front(0), came)?,
+            "expire" => keep(&mut self.taken, accum.expire(0, words.number()?), came)?,
+            "used" => write!(came, "{}", accum.used())?,
+            "release" => {
+                let charge = words.number()?;
+                if charge > accum.used() {
+                    return Err("so much is not used".into());
+                }
+                accum.release(charge);
+            }
+            "mark" => accum.mark(),
+            "marked" => write!(came, "{}", accum.marked())?,
+            _ => return Err(StepFault::NotUnderstood),
+        }
+        Ok(())
+    }
+
+    /// A call of a queue alone.
+    pub(crate) fn play_queue(&mut self, words: &mut Words<'_>, came: &mut String) -> Played {
+        let (queue, config) = (&mut self.queue, &self.config);
+        match words.word()? {
+            "append" => append_to_queue(queue, config, item_of(self.alloc, words)?)?,
+            "len" => write!(came, "{}", queue.len())?,
+            "ready" => {
+                let now = words.number()?;
+                write!(came, "{}", queue.is_ready(config, flags_of(words)?, now))?;
+            }
+            "front" => tell_batch(queue.front(), came)?,
+            "take" => keep(&mut self.taken, queue.take_front(), came)?,
+            "expire" => keep(&mut self.taken, queue.expire(config, words.number()?), came)?,
+            "mark" => queue.mark(),
+            "marked" => write!(came, "{}", queue.marked())?,
+            _ => return Err(StepFault::NotUnderstood),
+        }
+        Ok(())
+    }
+
+    /// Tells of the batch that was taken last.
+    pub(crate) fn tell_taken(&self, came: &mut String) -> Played {
+        let batch = self.taken.as_ref().ok_or("no batch was taken")?;
+        write!(came, "size {} charge {}", batch.size(), batch.charge())?;
+        write!(
+            came,
+            " begun {} marked {}",
+            batch.begun(),
+            batch.is_marked()
+        )?;
+        Ok(())
+    }
+
+    /// Tells the items that this batch gives.
+    pub(crate) fn tell_given(&mut self, came: &mut String) -> Played {
+        let batch = self.taken.take().ok_or("no batch was taken")?;
+        tell_items(&batch.into_items(), came)
+    }
+}

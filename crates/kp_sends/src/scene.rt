@@ -1,0 +1,268 @@
+//! A core, and what the steps of a case do with it.
+
+use crate::answer::{does_nothing, put_answer, put_report, put_runs};
+use crate::broker::Broker;
+use crate::item::{item_of, plain_item};
+use crate::reply::{init_reply_of, reply_of};
+use crate::setting::core_of;
+use kp_cases::{StepFault, Words};
+use kp_core::{Answered, Asked, Core, Report};
+use kp_wire::Blob;
+use std::alloc::{AllocError, Global};
+use std::mem;
+
+/// A core, the clock, and what a case keeps of it.
+#[derive(Drop)]
+pub(crate) struct Scene {
+    alloc: Global,
+    core: Core,
+    now: u64,
+    /// The core as it was.
+    kept: String,
+    /// The calls that are to be made from a list.
+    listed: Vec<Asked>,
+    broker: Broker,
+}
+
+impl Scene {
+    pub(crate) fn open(alloc: Global, words: &mut Words<'_>) -> Result<Scene, StepFault> {
+        Ok(Scene {
+            alloc,
+            core: core_of(alloc, words)?,
+            now: 0,
+            kept: String::new(alloc),
+            listed: Vec::new(alloc),
+            broker: Broker::new(alloc)?,
+        })
+    }
+
+    /// Plays a step.
+    pub(crate) fn play(
+        &mut self,
+        step: &str,
+        words: &mut Words<'_>,
+        came: &mut String,
+    ) -> Result<(), StepFault> {
+        match step {
+            "now" => self.now = words.number()?,
+            "feed" => self.feed(words.word()?, came)?,
+            "told" => self.tell(words.number()?, came)?,
+            "fetch" => self.tell_oldest(words.number()?, came)?,
+            "list" => self.list(words)?,
+            "make-all" => self.make_all(came)?,
+            "keep" => self.kept = self.state()?,
+            "produce" => self.broker.produce(&mut self.core, words)?,
+            "serve" => self.broker.serve(&mut self.core)?,
+            "answer" => self.broker.answer(&mut self.core)?,
+            _ => self.call_or_look(step, words, came)?,
+        }
+        Ok(())
+    }
+
+    /// All that there is to be seen of the core.
+    fn state(&self) -> Result<String, AllocError> {
+        format!(in self.alloc; "{:?}", self.core)
+    }
+
+    /// The call that a step makes, if it makes one.
+    fn asked(&self, step: &str, words: &mut Words<'_>) -> Result<Option<Asked>, StepFault> {
+        Ok(Some(match step {
+            "append" => Asked::Append(item_of(self.alloc, self.now, words)?),
+            "send" => Asked::Request(self.now),
+            "reply" => Asked::Reply(reply_of(self.alloc, words)?, self.now),
+            "reply-init" => Asked::Reply(init_reply_of(self.alloc, words)?, self.now),
+            "hear" => Asked::Reply(Blob::new(words.rest_bytes()?), self.now),
+            "tick" => Asked::Tick(self.now),
+            "drop" => Asked::Disconnect(self.now),
+            "close" => Asked::Close,
+            "flush" => Asked::Flush,
+            "end" => Asked::End,
+            "fetch" => Asked::Fetch(words.number()?),
+            _ => return Ok(None),
+        }))
+    }
+
+    /// A step that is a call, or else one that looks at the core.
+    fn call_or_look(
+        &mut self,
+        step: &str,
+        words: &mut Words<'_>,
+        came: &mut String,
+    ) -> Result<(), StepFault> {
+        match self.asked(step, words)? {
+            Some(asked) => self.call(asked, came),
+            None => self.look(step, words, came),
+        }
+    }
+
+    /// Makes the call, unless it appends what may not be appended.
+    fn call(&mut self, asked: Asked, came: &mut String) -> Result<(), StepFault> {
+        if let Asked::Append(item) = &asked
+            && !self.core.may_append(item)
+        {
+            return Err(StepFault::CannotBe("an item that may not be appended"));
+        }
+        let before = self.state()?;
+        let answer = self.core.make(asked);
+        put_answer(self.alloc, came, self.core.config(), &answer)?;
+        if does_nothing(&answer) && self.state()?.as_str() != before.as_str() {
+            came.push_str(", and the core has changed")?;
+        }
+        Ok(())
+    }
+
+    /// Sender 0's first items for partition 0, with a value of one letter each, are appended.
+    fn feed(&mut self, letters: &str, came: &mut String) -> Result<(), StepFault> {
+        for (number, letter) in letters.char_indices() {
+            let value = letter.to_string(self.alloc)?;
+            let item = plain_item(self.alloc, 0, 0, number as u64, self.now, value.as_str())?;
+            self.call(Asked::Append(item), came)?;
+        }
+        Ok(())
+    }
+
+    /// The sender's oldest report, which is on an item of its own.
+    fn fetch(&mut self, sender: u32) -> Result<Option<Report>, StepFault> {
+        if sender as usize >= self.core.senders() {
+            return Err(StepFault::CannotBe("no such sender"));
+        }
+        match self.core.next_report(sender) {
+            Some(report) if report.sender != sender => {
+                Err(StepFault::CannotBe("another sender's report"))
+            }
+            found => Ok(found),
+        }
+    }
+
+    fn tell_oldest(&mut self, sender: u32, came: &mut String) -> Result<(), StepFault> {
+        match self.fetch(sender)? {
+            None => Ok(came.push_str("none")?),
+            Some(report) => put_report(came, &report),
+        }
+    }
+
+    /// All that the sender is told, in the order in which it is.
+    fn tell(&mut self, sender: u32, came: &mut String) -> Result<(), StepFault> {
+        for _ in 0..u64::MAX {
+            let Some(report) = self.fetch(sender)? else {
+                break;
+            };
+            if !came.is_empty() {
+                came.push_str(", ")?;
+            }
+            put_report(came, &report)?;
+        }
+        Ok(())
+    }
+
+    fn list(&mut self, words: &mut Words<'_>) -> Result<(), StepFault> {
+        let step = words.word()?;
+        let asked = self.asked(step, words)?.ok_or(StepFault::NotUnderstood)?;
+        Ok(self.listed.push(asked)?)
+    }
+
+    /// Makes the calls of the list. An answer that says nothing is `-`.
+    fn make_all(&mut self, came: &mut String) -> Result<(), StepFault> {
+        let listed = mem::replace(&mut self.listed, Vec::new(self.alloc));
+        for answer in &self.core.make_all(listed)? {
+            self.put_listed(answer, came)?;
+        }
+        Ok(())
+    }
+
+    fn put_listed(&self, answer: &Answered, came: &mut String) -> Result<(), StepFault> {
+        if !came.is_empty() {
+            came.push_str("; ")?;
+        }
+        let size = came.len();
+        put_answer(self.alloc, came, self.core.config(), answer)?;
+        if came.len() == size {
+            came.push('-')?;
+        }
+        Ok(())
+    }
+
+    /// A step that looks at the core.
+    fn look(&self, step: &str, words: &mut Words<'_>, came: &mut String) -> Result<(), StepFault> {
+        let core = &self.core;
+        match step {
+            "counts" => self.count(came)?,
+            "used" => write!(came, "{}", core.used())?,
+            "untold" => write!(came, "{}", core.untold())?,
+            "due" => write!(came, "{:?}", core.next_due())?,
+            "flushed" => write!(came, "{}", core.flushed())?,
+            "closing" => write!(came, "{}", core.is_closing())?,
+            "ended" => write!(came, "{}", core.has_ended())?,
+            "unchanged" => write!(came, "{}", self.state()?.as_str() == self.kept.as_str())?,
+            _ => self.look_at(step, words, came)?,
+        }
+        Ok(())
+    }
+
+    /// A step that looks at what its words say, or at all that the core was asked to be.
+    fn look_at(
+        &self,
+        step: &str,
+        words: &mut Words<'_>,
+        came: &mut String,
+    ) -> Result<(), StepFault> {
+        match step {
+            "asked" => self.tell_asked(came),
+            "may" => self.tell_may(words, came),
+            "ids" => self.tell_ids(words.number()?, came),
+            "audit" => self.tell_audit(words.number()?, came),
+            "in-turn" => self.broker.tell_turns(&self.core, words, came),
+            _ => Err(StepFault::NotUnderstood),
+        }
+    }
+
+    fn count(&self, came: &mut String) -> Result<(), AllocError> {
+        let core = &self.core;
+        write!(
+            came,
+            "requests {} batches {} handed over {} attempts {} untold {} used {}",
+            core.requests_in_flight(),
+            core.batches_in_flight(),
+            core.batches_handed_over(),
+            core.attempts_sent(),
+            core.untold(),
+            core.used()
+        )
+    }
+
+    fn tell_asked(&self, came: &mut String) -> Result<(), StepFault> {
+        let core = &self.core;
+        write!(
+            came,
+            "partitions {} senders {} {:?}",
+            core.partitions(),
+            core.senders(),
+            core.config()
+        )?;
+        Ok(())
+    }
+
+    fn tell_may(&self, words: &mut Words<'_>, came: &mut String) -> Result<(), StepFault> {
+        let item = item_of(self.alloc, self.now, words)?;
+        write!(came, "{}", self.core.may_append(&item))?;
+        Ok(())
+    }
+
+    fn tell_ids(&self, partition: u32, came: &mut String) -> Result<(), StepFault> {
+        if partition as usize >= self.core.partitions() {
+            return Err(StepFault::CannotBe("no such partition"));
+        }
+        write!(came, "{:?}", self.core.ids(partition))?;
+        Ok(())
+    }
+
+    fn tell_audit(&self, partition: u32, came: &mut String) -> Result<(), StepFault> {
+        if partition as usize >= self.core.partitions() {
+            return Err(StepFault::CannotBe("no such partition"));
+        }
+        match self.core.audit(partition) {
+            None => Ok(came.push_str("none")?),
+            Some(audit) => put_runs(came, audit),
+        }
+    }
+}
