@@ -4,7 +4,7 @@
 //! The first other line of a block is the name of a case, and each further one a step: its words, and behind ` = ` what it
 //! has to come to; where there is no `=`, nothing. A block whose first line is `steps NAME` is none itself: the step
 //! `do NAME` of other blocks plays its steps. `times N STEP` plays a step N times, and it comes to the same each time. A line
-//! `let NAME TEXT` names a text, which stands wherever `{NAME}` does.
+//! `let NAME TEXT` names a text, which stands wherever `${NAME}` does.
 #![tactic(auto)]
 
 mod fault;
