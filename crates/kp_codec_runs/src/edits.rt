@@ -87,6 +87,7 @@ fn edit(alloc: Global, bytes: &mut Vec<u8>, what: &str, with: &str) -> Done {
         "count" => put_at(bytes, COUNT_AT, &int32(with)?)?,
         "base" => put_at(bytes, BASE_TIMESTAMP_AT, &int64(with)?)?,
         "max" => put_at(bytes, MAX_TIMESTAMP_AT, &int64(with)?)?,
+        _ if with.is_empty() => return Err(StepFault::NotUnderstood),
         place => put_at(bytes, number_of(place)?, &hex::decode(alloc, with)?)?,
     }
     Ok(())
