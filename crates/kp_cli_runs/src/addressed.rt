@@ -7,11 +7,12 @@ use kp_broker::{Broker, FaultPlan};
 use std::alloc::{AllocError, Global};
 use std::io::{self, ErrorKind, Write};
 use std::net::{Ipv4Addr, Net, SocketAddr, TcpListener, TcpStream};
+use std::ops::RangeInclusive;
 use std::random::RandomSource;
 use std::rt::Files;
 use std::sync::Wait;
 use std::thread::{self, Threads};
-use std::time::Clock;
+use std::time::{Clock, SystemTime, UNIX_EPOCH};
 
 /// Serves so many connections.
 fn serve(alloc: Global, listener: &TcpListener, broker: &mut Broker, connections: u32) {
@@ -99,8 +100,27 @@ fn len_of(broker: &Broker, partition: u32) -> u64 {
     }
 }
 
+/// The milliseconds since the beginning of 1970.
+fn now_millis<R: Clock>(rt: &R) -> io::Result<i64> {
+    match SystemTime::now(rt)?.duration_since(UNIX_EPOCH) {
+        Ok(passed) => Ok(i64::try_from(passed.as_millis()).unwrap_or(i64::MAX)),
+        Err(_) => Ok(0),
+    }
+}
+
+/// Whether each record of a partition was stamped with one of these moments.
+fn are_stamped(broker: &Broker, partition: u32, moments: &RangeInclusive<i64>) -> bool {
+    let Some(log) = broker.log(partition) else {
+        return false;
+    };
+    (0..log.len()).all(|offset| match log.get(offset) {
+        Some(stored) => moments.contains(&stored.body.timestamp.millis()),
+        None => false,
+    })
+}
+
 /// The partitions are those that the broker names: of three records of one sender, two go to the first of two. The logs
-/// are the broker's own, and are not printed.
+/// are the broker's own, and are not printed. Each record is stamped by the clock on the wall.
 fn tell_sent<R>(rt: &R, text: &mut Vec<u8>) -> io::Result<()>
 where
     R: Files + Wait + Threads + Clock + RandomSource + AllocGlobal + Sync,
@@ -121,12 +141,19 @@ $ run --file - --batch-size 0 --audit --broker localhost
         connections: 2,
         input: b"a\nb\nc\n",
     };
+    let begun = now_millis(rt)?;
     let (ended, broker) = send(rt, asked)?;
+    let moments = begun..=now_millis(rt)?;
     writeln!(
         text,
         "logs of {} and {} records",
         len_of(&broker, 0),
         len_of(&broker, 1)
+    )?;
+    writeln!(
+        text,
+        "stamped by the clock on the wall: {}",
+        are_stamped(&broker, 0, &moments) && are_stamped(&broker, 1, &moments)
     )?;
     ended.tell(text)
 }

@@ -1,7 +1,8 @@
 mod AccountLemmas
 mod DoneLemmas
-mod FittingLemmas
+pub mod EndLemmas
+pub mod FittingLemmas
 mod OpeningLemmas
 mod ProducerLemmas
-mod ServiceLemmas
+pub mod ServiceLemmas
 mod StopLemmas

@@ -1,11 +1,12 @@
 -- An engine is run from stop to stop.
-use Rattle.std.proofs.Common.{◌≡◌, List, [], ◌∷◌, refl, sym, ap, ◌∙◌, subst}
-use Rattle.std.specs.Prelude.{ℕ, Bool, Option, Some, IfSome}
+use Rattle.std.proofs.Common.{◌≡◌, List, [], ◌∷◌, refl, sym, ap, ◌∙◌, subst, inr, ⊎_elim}
+use Rattle.std.specs.Prelude.{ℕ, Bool, Option, Some, IfSome, Result, Ok, Err, IfOk}
 use Rattle.futures.specs.declared.task.Poll.{Poll}
 use Rattle.futures.specs.declared.task.Poll.TheVariants.{Ready, Pending}
 use Rattle.kp_connection.specs.Wire.{Told}
 use Rattle.kp_engine.specs.Clocked.{PollsOnce}
 use Rattle.kp_engine.specs.Engine.{IsNew, Polls}
+use Rattle.kp_engine.specs.Made.{WasPolled}
 use Rattle.kp_engine.specs.Opening.{MayTurn}
 use Rattle.kp_engine.specs.Serving.{HasServed}
 use Rattle.kp_engine.specs.declared.engine.Engine.{Engine}
@@ -13,34 +14,33 @@ use Rattle.kp_engine.specs.declared.engine.Line.{Line}
 use Rattle.kp_engine.specs.declared.engine.Line.TheVariants.{Open, Stopped}
 use Rattle.kp_engine.specs.declared.exchange.Exchange.{Exchange}
 use Rattle.kp_engine.specs.declared.stop.Stop.{Stop}
-use Rattle.kp_engine.proofs.LaneLemmas.{of_poll}
-use Rattle.kp_engine.proofs.SinceLemmas.{none_served, poll_served}
+use Rattle.kp_engine.proofs.MadeLemmas.{has_served, new_polled, polled_more}
 use Rattle.kp_lanes.specs.Intake.{lanes_of}
-use Rattle.kp_lanes.specs.Lane.{LaneId}
 use Rattle.kp_lanes.specs.declared.intake.Intake.{Intake}
 use Rattle.kp_rules.specs.Records.{Core}
 use Rattle.kp_running.specs.Running.{GoesThrough, Reaches}
-use Rattle.kp_client.specs.Serving.{lanes_in, GoesOn, Serves}
+use Rattle.kp_client.specs.Ends.{EndsAs, HasEnded, WasServed, WasUnserved}
+use Rattle.kp_client.specs.Left.{parts_in}
+use Rattle.kp_client.specs.Serving.{GoesOn, IsServing, Serves}
+use Rattle.kp_client.specs.declared.fault.ServiceFault.{ServiceFault}
+use Rattle.kp_client.specs.declared.left.Ended.{Ended}
 use Rattle.kp_client.specs.declared.tended.Tended.{Tended}
 
 module _ {S C : Type 0} (answers : Told S) (moments : C → List ℕ) where
   once : (old new : Engine S C) (polled : Poll Stop) → PollsOnce answers moments old polled new → GoesOn old new
-  once old new polled p lanes h =
-      let more = poll_served h.core h.intake h.calls old.exchange new.exchange h.served answers old.line polled new.line p.polls in record {
-        core = h.core;
-        intake = h.intake;
+  once old new polled p core intake h =
+      let more = polled_more core intake h.calls old.exchange h.polled answers old.line polled new.exchange new.line p.polls in record {
         calls = _;
-        served = more.1;
-        same = of_poll answers old.line old.exchange polled new.exchange new.line p.polls ∙ h.same;
+        polled = more.1;
       }
 
   abbrev polls : Tended S C → Poll Stop → Tended S C → Type 0
-  polls old polled new = PollsOnce answers moments old.engine polled new.engine
+  polls old polled new = PollsOnce answers moments old.engine polled new.engine × (new.again.policy ≡ old.again.policy)
 
   goes : (old : Tended S C) (between : List (Tended S C)) (stop : Stop) (new : Tended S C) → GoesThrough polls old between stop new
       → GoesOn old.engine new.engine
-  goes old [] stop new p = once old.engine new.engine (Ready stop) p
-  goes old (next ∷ rest) stop new (p, more) = λ lanes h. goes next rest stop new more lanes (once old.engine next.engine Pending p lanes h)
+  goes old [] stop new p = once old.engine new.engine (Ready stop) p.0
+  goes old (next ∷ rest) stop new (p, more) = λ core intake h. goes next rest stop new more core intake (once old.engine next.engine Pending p.0 core intake h)
 
   abbrev stop_of : Stop → Poll Stop → Stop
   stop_of other (Ready stop) = stop
@@ -52,8 +52,16 @@ module _ {S C : Type 0} (answers : Told S) (moments : C → List ℕ) where
 
   stops : (old : Tended S C) (between : List (Tended S C)) (stop : Stop) (new : Tended S C) → GoesThrough polls old between stop new
       → new.engine.line ≡ Stopped stop
-  stops old [] stop new p = stops_at old.engine.line old.engine.exchange stop new.engine.exchange new.engine.line p.polls
+  stops old [] stop new p = stops_at old.engine.line old.engine.exchange stop new.engine.exchange new.engine.line p.0.polls
   stops old (next ∷ rest) stop new (p, more) = stops next rest stop new more
+
+  keeps : (old : Tended S C) (between : List (Tended S C)) (stop : Stop) (new : Tended S C) → GoesThrough polls old between stop new
+      → new.again.policy ≡ old.again.policy
+  keeps old [] stop new p = p.1
+  keeps old (next ∷ rest) stop new (p, more) = keeps next rest stop new more ∙ p.1
+
+  pub keeps_policy : (old : Tended S C) (stop : Stop) (new : Tended S C) → Reaches polls old stop new → new.again.policy ≡ old.again.policy
+  keeps_policy old stop new r = keeps old r.between stop new r.goes
 
   pub goes_on : (old : Tended S C) (stop : Stop) (new : Tended S C) → Reaches polls old stop new → GoesOn old.engine new.engine
   goes_on old stop new r = goes old r.between stop new r.goes
@@ -62,26 +70,27 @@ module _ {S C : Type 0} (answers : Told S) (moments : C → List ℕ) where
   stops_for old stop new r = stops old r.between stop new r.goes
 
 pub new_serves : {S C : Type 0} (core : Core) (intake : Intake) (keeps : Bool) (engine : Engine S C) → MayTurn core intake
-    → IsNew core intake keeps engine.exchange → Serves (lanes_of intake) engine
-new_serves core intake keeps engine may is_new = record {
-  core = core;
-  intake = intake;
-  calls = [];
-  served = none_served core intake keeps engine.exchange may is_new;
-  same = ap lanes_of is_new.intake;
-}
+    → IsNew core intake keeps engine.exchange → Serves core intake engine
+new_serves core intake keeps engine may is_new = record { calls = []; polled = new_polled core intake keeps engine.exchange may is_new }
 
-pub still_serves : {S C : Type 0} (lanes : List LaneId) (old new : Engine S C) → new.exchange ≡ old.exchange → Serves lanes old → Serves lanes new
-still_serves lanes old new is h = record {
-  core = h.core;
-  intake = h.intake;
+pub still_serves : {S C : Type 0} (old new : Engine S C) → new.exchange ≡ old.exchange → GoesOn old new
+still_serves old new is core intake h = record {
   calls = h.calls;
-  served = subst (λ (x : Exchange). HasServed h.core h.intake h.calls x) (sym is) h.served;
-  same = ap (λ (x : Exchange). lanes_of x.intake) is ∙ h.same;
+  polled = subst (λ (x : Exchange). WasPolled core intake h.calls x) (sym is) h.polled;
 }
 
-pub on_its_own : {S C : Type 0} (lanes : List LaneId) (engine : Engine S C) → Serves lanes engine → Serves (lanes_in engine) engine
-on_its_own lanes engine h = record { core = h.core; intake = h.intake; calls = h.calls; served = h.served; same = refl }
+pub serving_on : {S C : Type 0} (old new : Engine S C) → GoesOn old new → IsServing old → IsServing new
+serving_on old new goes h = record { core = h.core; intake = h.intake; serves = goes h.core h.intake h.serves }
+
+-- The lanes stay.
+pub same_lanes : (core : Core) (intake : Intake) (ended : Ended) → HasEnded core intake ended → lanes_of (parts_in ended).intake ≡ lanes_of intake
+same_lanes core intake ended h = ⊎_elim
+    (λ (s : WasServed core intake h.calls ended).
+    let e = s.engine in
+    let served : HasServed core intake h.calls e.last = has_served core intake h.calls e.last e.polled in
+    s.looks.lanes ∙ ap lanes_of e.apart.intake ∙ served.served.lanes.lanes ∙ ap lanes_of served.is_new.intake)
+    (λ (n : WasUnserved core intake h.calls ended). n.looks.lanes)
+    h.how
 
 module _ {S C : Type 0} (answers : Told S) (moments : C → List ℕ) where
   reached : (o : Option (Tended S C)) (old : Tended S C) (stop : Stop) (new : Tended S C) → o ≡ Some old
@@ -92,6 +101,29 @@ module _ {S C : Type 0} (answers : Told S) (moments : C → List ℕ) where
       → IfSome o (λ e. Reaches (polls answers moments) e stop new) → GoesOn old.engine new.engine
   runs_on o old stop new is r = goes_on answers moments old stop new (reached o old stop new is r)
 
+  pub runs_with : (o : Option (Tended S C)) (old : Tended S C) (stop : Stop) (new : Tended S C) → o ≡ Some old
+      → IfSome o (λ e. Reaches (polls answers moments) e stop new) → new.again.policy ≡ old.again.policy
+  runs_with o old stop new is r = keeps_policy answers moments old stop new (reached o old stop new is r)
+
   pub runs_to : (o : Option (Tended S C)) (old : Tended S C) (stop : Stop) (new : Tended S C) → o ≡ Some old
       → IfSome o (λ e. Reaches (polls answers moments) e stop new) → new.engine.line ≡ Stopped stop
   runs_to o old stop new is r = stops_for answers moments old stop new (reached o old stop new is r)
+
+pub still_lanes : (core : Core) (intake : Intake) (result : Result Ended ServiceFault) → IfOk result (HasEnded core intake)
+    → IfOk result (λ ended. lanes_of (parts_in ended).intake ≡ lanes_of intake)
+still_lanes core intake (Ok ended) h = same_lanes core intake ended h
+still_lanes core intake (Err fault) h = tt
+
+pub unserved_ended : (core : Core) (intake : Intake) (ended : Ended) → WasUnserved core intake [] ended → HasEnded core intake ended
+unserved_ended core intake ended h = record { calls = []; how = inr h }
+
+-- What was served of an engine that was just made.
+pub ended_anew : {S C : Type 0} (core : Core) (intake : Intake) (keeps : Bool) (engine served : Engine S C) (result : Result Ended ServiceFault) → MayTurn core intake
+    → IsNew core intake keeps engine.exchange → served ≡ engine → IfOk result (EndsAs served) → IfOk result (HasEnded core intake)
+ended_anew core intake keeps engine served (Ok ended) may is_new is h =
+    h core intake (subst (λ (e : Engine _ _). Serves core intake e) (sym is) (new_serves core intake keeps engine may is_new))
+ended_anew core intake keeps engine served (Err fault) may is_new is h = tt
+
+pub unserved_back : (core k : Core) (intake t : Intake) (ended : Ended) → WasUnserved k t [] ended → k ≡ core → t ≡ intake → HasEnded core intake ended
+unserved_back core k intake t ended h same_core same_intake =
+    unserved_ended core intake ended (subst (λ (s : Core). WasUnserved s intake [] ended) same_core (subst (λ (u : Intake). WasUnserved k u [] ended) same_intake h))

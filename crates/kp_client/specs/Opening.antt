@@ -1,7 +1,8 @@
 -- What contracts see of a producer that was opened.
-use Rattle.std.specs.Prelude.{◌≡◌, ◌*◌, All, IfSome, length, map}
+use Rattle.std.specs.Prelude.{◌≡◌, ℕ, ◌*◌, List, Ok, All, IfSome, length, map}
 use Rattle.std.specs.Duration.{as_nanos}
 use Rattle.std.specs.declared.net.socket_addr.SocketAddr.{SocketAddr}
+use Rattle.kp_connection.specs.Hello.{metadata_given, producer_id_given}
 use Rattle.kp_connection.specs.declared.hello.Hello.{Hello}
 use Rattle.kp_lanes.specs.Closer.{closer_gate}
 use Rattle.kp_lanes.specs.Intake.{intake_gate, lanes_of, numbers_below}
@@ -9,6 +10,7 @@ use Rattle.kp_lanes.specs.Sender.{sender_number, IsFresh, IsSenderOf}
 use Rattle.kp_rules.specs.Auditing.{opened}
 use Rattle.kp_rules.specs.Opening.{new_core}
 use Rattle.kp_rules.specs.Records.{Core}
+use Rattle.kp_rules.specs.declared.names.Names.{Names}
 use Rattle.kp_client.specs.Closing.{lanes_closer}
 use Rattle.kp_client.specs.Policy.{none_made}
 use Rattle.kp_client.specs.Producer.{lane_of}
@@ -29,8 +31,18 @@ pub record IsWay (address : SocketAddr) (s : Settings) (way : Way) : Type 0 wher
   pub there : way.address ≡ address
   pub patience : as_nanos way.patience ≡ s.config.request_timeout_ms * 1_000_000
 
+-- The contents of two answers give it: the first one names so many partitions of the topic, and the second one the producer
+-- id. Two correlation ids are spent.
+pub record IsGreeting (names : Names) (hello : Hello) : Type 0 where
+  pub metadata : List ℕ
+  pub producer_id : List ℕ
+  pub partitions : metadata_given names.topic metadata ≡ Ok hello.partitions
+  pub id : producer_id_given producer_id ≡ Ok hello.producer_id
+  pub correlation : hello.next_correlation ≡ 2
+
 -- It begins as the settings have it. The topic has the number of partitions that was asked for, where one was.
 pub record Begins (address : SocketAddr) (s : Settings) (service : Service) : Type 0 where
+  pub greeting : IsGreeting s.names (hello_of service)
   pub asked : IfSome s.partitions (λ n. partitions_of service ≡ n)
   pub core : core_of service ≡ first_core s (hello_of service)
   pub way : IsWay address s (way_of service)

@@ -1,5 +1,5 @@
 -- What contracts see of a service.
-use Rattle.std.specs.Prelude.{ℕ, ◌<◌, length}
+use Rattle.std.specs.Prelude.{ℕ, Bool, ◌<◌, length}
 use Rattle.kp_connection.specs.declared.hello.Hello.{Hello}
 use Rattle.kp_lanes.specs.Sender.{sender_number}
 use Rattle.kp_lanes.specs.declared.sender.Sender.{Sender}
@@ -23,6 +23,10 @@ hello_of service = service.hello
 -- how many partitions the topic has
 abbrev pub partitions_of : Service → ℕ
 partitions_of service = (hello_of service).partitions
+
+-- whether its core lists what was handed over
+abbrev pub audits_of : Service → Bool
+audits_of service = service.audits
 
 abbrev pub way_of : Service → Way
 way_of service = service.way

@@ -57,6 +57,13 @@ impl Again {
         Some(wait)
     }
 
+    /// How many new connections were made: in all, or since the last reply.
+    pub(crate) fn made(&self) -> u32
+        ensures { result ≡ self.now.made }
+    {
+        self.made
+    }
+
     /// A reply came.
     pub(crate) fn note_reply(&mut self)
         ensures again { self.new.wait ≡ 0 }

@@ -2,6 +2,7 @@
 
 ghost use Rattle.std.specs.Prelude.{◌≡◌, ◌≢◌, ◌≤◌, IfErr, IfNone, IfOk, IfSome};
 ghost use Rattle.kp_client.specs.Faults.{IsLater};
+ghost use Rattle.kp_client.specs.Opening.{IsGreeting};
 ghost use Rattle.kp_client.specs.Policy.{limit_of};
 
 use crate::again::Again;
@@ -93,6 +94,7 @@ where
 pub(crate) fn greet<R>(rt: &R, way: Way, names: Names) -> Result<Hello, OpenFault>
 where
     R: Wait + Threads + Clock + RandomSource + AllocGlobal + Sync + Net,
+    ensures greeting { IfOk result (IsGreeting names) }
     ensures later { IfErr result IsLater }
 {
     let mut runtime = Builder::new_current_thread().build(rt)?;

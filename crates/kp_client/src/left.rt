@@ -26,38 +26,51 @@ pub enum Ending {
 pub struct Ended {
     parts: Parts,
     ending: Ending,
+    /// How many new connections the policy had counted.
+    new_connections: u32,
     ghost accounted: { AllAccounted parts },
     ghost done: { ending ≡ Done → HoldsNothing parts },
 }
 
 impl Ended {
-    ghost use Rattle.std.specs.Prelude.{◌≢◌, All, IfOk, IfErr, IsOk, length};
+    ghost use Rattle.std.specs.Prelude.{◌≢◌, [], All, IfOk, IfErr, IsOk, length};
     ghost use Rattle.kp_engine.specs.Opening.{MayTurn};
     ghost use Rattle.kp_lanes.specs.Intake.{lanes_of};
     ghost use Rattle.kp_lanes.specs.Settling.{EachOnce, IsOf, SameFinished};
     ghost use Rattle.kp_lanes.specs.declared.fault.SettleFault.TheVariants.{Missing};
-    ghost use Rattle.kp_client.specs.Left.{ending_of, parts_in, AccountsFor};
+    ghost use Rattle.kp_client.specs.Ends.{StaysEnded, WasUnserved};
+    ghost use Rattle.kp_client.specs.Left.{ending_of, new_connections_of, parts_in, AccountsFor, IsSettled};
 
-    pub(crate) fn new(parts: Parts, ending: Ending) -> Ended
+    pub(crate) fn new(parts: Parts, ending: Ending, new_connections: u32) -> Ended
         requires accounted { AllAccounted parts }
         requires done { ending ≡ Done → HoldsNothing parts }
-        ensures { (parts_in result ≡ parts) × (ending_of result ≡ ending) }
+        ensures { (parts_in result ≡ parts) × (ending_of result ≡ ending) × (new_connections_of result ≡ new_connections) }
     {
-        Ended { parts, ending }
+        Ended {
+            parts,
+            ending,
+            new_connections,
+        }
     }
 
     /// One that took and told nothing.
-    pub(crate) fn unserved(alloc: Global, core: Core, intake: Intake, ending: Ending) -> Ended
+    pub(crate) fn unserved(
+        alloc: Global,
+        core: Core,
+        intake: Intake,
+        ending: Ending,
+        new_connections: u32,
+    ) -> Ended
         requires fresh { MayTurn core intake }
         requires not_done { ending ≢ Done }
-        ensures parts { ((parts_in result).core ≡ core) × ((parts_in result).intake ≡ intake) }
-        ensures ending { ending_of result ≡ ending }
+        ensures unserved { WasUnserved core intake [] result }
+        ensures ending { (ending_of result ≡ ending) × (new_connections_of result ≡ new_connections) }
     {
         let held = Held {
             items: Vec::new(alloc),
             reports: Vec::new(alloc),
         };
-        Ended::new(Parts { core, intake, held }, ending)
+        Ended::new(Parts { core, intake, held }, ending, new_connections)
     }
 
     /// Why it has ended.
@@ -66,6 +79,13 @@ impl Ended {
         ensures done { result ≡ Done → HoldsNothing (parts_in self.now) }
     {
         self.ending
+    }
+
+    /// How many new connections its policy had counted: made in all, or since the last reply.
+    pub fn new_connections(&self) -> u32
+        ensures { result ≡ new_connections_of self.now }
+    {
+        self.new_connections
     }
 
     /// The core, with the reports that no sender was told, and the audit where one is kept.
@@ -85,6 +105,7 @@ impl Ended {
 
         // Each accepted record has one report, or comes back.
         ensures settled { IfOk result (λ left. All (AccountsFor left) finished.items) }
+        ensures rings { IfOk result (IsSettled (parts_in self) finished.items) }
         ensures all { IsOk result → EachOnce (length (lanes_of (parts_in self).intake)) finished.items }
         ensures core { IfOk result (λ left. (left.core ≡ (parts_in self).core) × (left.held ≡ (parts_in self).held)) }
 
@@ -92,11 +113,16 @@ impl Ended {
         ensures missing { IfErr result (λ e. e.0 ≡ Missing → ¬ EachOnce (length (lanes_of (parts_in self).intake)) finished.items) }
         ensures not_missing { IfErr result (λ e. e.0 ≢ Missing → EachOnce (length (lanes_of (parts_in self).intake)) finished.items) }
         ensures core_stays { IfErr result (λ e. ((parts_in e.1).core ≡ (parts_in self).core) × ((parts_in e.1).held ≡ (parts_in self).held)) }
-        ensures ending_stays { IfErr result (λ e. ending_of e.1 ≡ ending_of self) }
+        ensures ending_stays { IfErr result (λ e. (ending_of e.1 ≡ ending_of self) × (new_connections_of e.1 ≡ new_connections_of self)) }
+        ensures ended_stays { IfErr result (λ e. StaysEnded self e.1) }
         ensures finished { IfErr result (λ e. SameFinished finished.items e.2.items) }
         ensures again { IfErr result (λ e. All (IsOf (lanes_of (parts_in e.1).intake)) e.2.items) }
     {
-        let Ended { parts, ending } = self;
+        let Ended {
+            parts,
+            ending,
+            new_connections,
+        } = self;
         let Parts { core, intake, held } = parts;
         match intake.settle(alloc, finished) {
             Ok(Settled { left, reports }) => Ok(Left {
@@ -107,7 +133,7 @@ impl Ended {
             }),
             Err((fault, intake, finished)) => {
                 let parts = Parts { core, intake, held };
-                Err((fault, Ended::new(parts, ending), finished))
+                Err((fault, Ended::new(parts, ending, new_connections), finished))
             }
         }
     }

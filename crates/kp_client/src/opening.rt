@@ -7,7 +7,7 @@ ghost use Rattle.kp_client.specs.Producer.{lane_of};
 ghost use Rattle.kp_client.specs.Service.{HasBell};
 ghost use Rattle.kp_client.specs.Settings.{checked_settings};
 ghost use Rattle.kp_engine.specs.Opening.{MayTurn};
-ghost use Rattle.kp_client.specs.Opening.{IsOpen, IsWay};
+ghost use Rattle.kp_client.specs.Opening.{IsGreeting, IsOpen, IsWay};
 
 use crate::closer::Closer;
 use crate::connecting::{Way, expect_partitions, greet};
@@ -88,6 +88,7 @@ fn open_known(
 ) -> Result<Opened, OpenFault>
     requires settings { checked_settings settings ≡ Ok tt }
     requires way { IsWay way.address settings way }
+    requires greeting { IsGreeting settings.names hello }
     requires asked { IfSome settings.partitions (λ n. hello.partitions ≡ n) }
     ensures opened { IfOk result (IsOpen way.address settings) }
     ensures later { IfErr result IsLater }

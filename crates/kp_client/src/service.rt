@@ -6,7 +6,8 @@ ghost use Rattle.kp_lanes.specs.Intake.{lanes_of};
 ghost use Rattle.kp_client.specs.Fitting.{Fits};
 ghost use Rattle.kp_engine.specs.Polls.{IsDone};
 ghost use Rattle.kp_client.specs.Left.{parts_in};
-ghost use Rattle.kp_client.specs.Serving.{lanes_in, GoesOn, HasStream, Serves, StoppedFor};
+ghost use Rattle.kp_client.specs.Ends.{EndsAs, GaveUpLast, HasEnded, MayEnd};
+ghost use Rattle.kp_client.specs.Serving.{GoesOn, HasStream, IsServing, StoppedFor};
 
 use crate::again::Again;
 use crate::connecting::{Way, connect_again, connect_first};
@@ -115,7 +116,11 @@ impl Service {
     pub fn run<R>(self, rt: &R) -> Result<Ended, ServiceFault>
     where
         R: Wait + Threads + Clock + RandomSource + AllocGlobal + Sync + Net,
-        ensures { IfOk result (λ ended. lanes_of (parts_in ended).intake ≡ lanes_of (intake_of self)) }
+        ensures lanes { IfOk result (λ ended. lanes_of (parts_in ended).intake ≡ lanes_of (intake_of self)) }
+
+        // Its engine, if there was one, was made of the service's core and lanes, and polled to its end.
+        ensures ended { IfOk result (HasEnded (core_of self) (intake_of self)) }
+        ensures gave_up { IfOk result (GaveUpLast (again_of self).policy) }
     {
         let Service {
             alloc,
@@ -145,14 +150,17 @@ fn serve<R>(
 where
     R: Wait + Threads + Clock + RandomSource + AllocGlobal + Sync + Net,
     requires { MayTurn core intake }
-    ensures { IfOk result (λ ended. lanes_of (parts_in ended).intake ≡ lanes_of intake) }
+    ensures ended { IfOk result (HasEnded core intake) }
+    ensures gave_up { IfOk result (GaveUpLast again.policy) }
 {
-    let Ok(mut runtime) = Builder::new_current_thread().build(rt) else {
-        return Ok(Ended::unserved(alloc, core, intake, Ending::OutOfMemory));
-    };
     let mut again = again;
+    let Ok(mut runtime) = Builder::new_current_thread().build(rt) else {
+        let (ending, made) = (Ending::OutOfMemory, again.made());
+        return Ok(Ended::unserved(alloc, core, intake, ending, made));
+    };
     let Some(stream) = connect_first(rt, &mut runtime, way, &mut again) else {
-        return Ok(Ended::unserved(alloc, core, intake, Ending::GaveUp(Cause::Io)));
+        let (ending, made) = (Ending::GaveUp(Cause::Io), again.made());
+        return Ok(Ended::unserved(alloc, core, intake, ending, made));
     };
     shared.counts.connections.add(1);
     let clock = Millis::since(rt, shared.start);
@@ -162,7 +170,8 @@ where
             serve_on(rt, &mut runtime, way, shared, tended)
         }
         Err((core, intake, _stream, _clock)) => {
-            Ok(Ended::unserved(alloc, core, intake, Ending::OutOfMemory))
+            let (ending, made) = (Ending::OutOfMemory, again.made());
+            Ok(Ended::unserved(alloc, core, intake, ending, made))
         }
     }
 }
@@ -180,9 +189,10 @@ fn serve_on<'a, R>(
 ) -> Result<Ended, ServiceFault>
 where
     R: Wait + Threads + Clock + RandomSource + AllocGlobal + Sync + Net,
-    requires serves { Serves (lanes_in tended.engine) tended.engine }
+    requires serves { IsServing tended.engine }
     requires stream { HasStream tended.engine }
-    ensures { IfOk result (λ ended. lanes_of (parts_in ended).intake ≡ lanes_in tended.entry.engine) }
+    ensures ended { IfOk result (EndsAs tended.entry.engine) }
+    ensures gave_up { IfOk result (GaveUpLast tended.entry.again.policy) }
 {
     let mut tended = tended;
     for _ in rt.forever() {
@@ -216,6 +226,7 @@ where
     R: Wait + Threads + Clock + RandomSource + AllocGlobal + Sync + Net,
     requires { HasStream tended.engine }
     ensures served { IfOk result (λ out. GoesOn tended.entry.engine out.0.engine) }
+    ensures policy { IfOk result (λ out. out.0.again.policy ≡ tended.entry.again.policy) }
     ensures stopped { IfOk result (λ out. StoppedFor out.1 out.0.engine) }
     ensures done { IfOk result (λ out. IfSome out.1 (λ stop. stop ≡ Stop.Done → IsDone out.0.engine.exchange)) }
 {
@@ -230,12 +241,15 @@ where
 
 /// Gives up what has no report, and takes the engine apart.
 fn ended<S: Stream, C: Moments>(tended: Tended<'_, S, C>, ending: Ending) -> Ended
-    requires serves { Serves (lanes_in tended.engine) tended.engine }
+    requires serves { IsServing tended.engine }
     requires done { ending ≡ Ending.Done → IsDone tended.engine.exchange }
-    ensures { lanes_of (parts_in result).intake ≡ lanes_in tended.entry.engine }
+    requires spent { MayEnd tended.again.policy ending tended.again.made }
+    ensures ended { EndsAs tended.entry.engine result }
+    ensures gave_up { GaveUpLast tended.entry.again.policy result }
 {
     tended.count_batches();
+    let made = tended.again.made();
     let mut engine = tended.into_engine();
     let _told = engine.end();
-    Ended::new(engine.into_parts(), ending)
+    Ended::new(engine.into_parts(), ending, made)
 }

@@ -23,7 +23,7 @@ pub(crate) struct Tended<'a, S, C> {
 
 impl<'a, S: Stream, C: Clock> Tended<'a, S, C> {
     pub(crate) fn new(engine: Engine<S, C>, again: Again, shared: &'a Shared) -> Tended<'a, S, C>
-        ensures { result.engine ≡ engine }
+        ensures { (result.engine ≡ engine) × (result.again ≡ again) }
     {
         Tended {
             engine,
@@ -49,7 +49,8 @@ impl<'a, S: Stream, C: Clock> Tended<'a, S, C> {
 
     /// Counts what the last poll has done.
     fn count(&mut self)
-        ensures { self.new.engine ≡ self.old.engine }
+        ensures engine { self.new.engine ≡ self.old.engine }
+        ensures policy { self.new.again.policy ≡ self.old.again.policy }
     {
         let moves = self.engine.moves();
         let counts = &self.shared.counts;
@@ -70,7 +71,7 @@ impl<'a, S: Stream, C: Clock> Tended<'a, S, C> {
 impl<S: Stream, C: Clock> Turning for Tended<'_, S, C> {
     type Stop = Stop;
 
-    ghost polls = { λ old polled new. PollsOnce S.answers C.moments old.engine polled new.engine };
+    ghost polls = { λ old polled new. PollsOnce S.answers C.moments old.engine polled new.engine × (new.again.policy ≡ old.again.policy) };
 
     ghost reader = { λ tended. reader_of S.reader tended.engine };
 

@@ -1,6 +1,6 @@
 -- A sender that has finished is of its service's lanes.
-use Rattle.std.proofs.Common.{◌≡◌, ◌++◌, ◌∷◌, List, [], ℕ, length, map, sym, ap, ◌∙◌, subst, arith}
-use Rattle.std.specs.Prelude.{All, slice_index_or}
+use Rattle.std.proofs.Common.{◌≡◌, ◌∷◌, List, [], ℕ, length, map, sym, ap, ◌∙◌, subst, arith}
+use Rattle.std.specs.Prelude.{All, IfOk, Result, Ok, Err, slice_index_or}
 use Rattle.std.proofs.lemmas.List.{length-map}
 use Rattle.std.proofs.lemmas.List.Elements.{All-nil, All-cons}
 use Rattle.kp_lanes.specs.Intake.{numbers_below}
@@ -21,6 +21,10 @@ all_one P all x is h = subst (λ l. All P l) (sym is) (All-cons P x [] h (All-ni
 -- a list whose places are the first number alone has one place
 pub one_of : {A : Type 0} (f : A → ℕ) (xs : List A) → map f xs ≡ numbers_below 1 → length xs ≡ 1
 one_of f xs is = sym (length-map xs f) ∙ ap length is
+
+pub if_ok : {T E X Y : Type 0} (result : Result T E) → (X → Y) → IfOk result (λ t. X) → IfOk result (λ t. Y)
+if_ok (Ok t) f h = f h
+if_ok (Err e) f h = tt
 
 pub its_own : (lanes now : List LaneId) (s : Sender) (f : Finished) → now ≡ lanes → finished_number f ≡ sender_number s
     → finished_id f ≡ sender_id s → IsSenderOf lanes s → IsOf now f

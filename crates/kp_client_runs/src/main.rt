@@ -12,6 +12,7 @@ mod job;
 mod run;
 mod session;
 mod telling;
+mod waiting;
 mod wrong;
 
 use broker::over_broker;

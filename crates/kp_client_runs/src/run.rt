@@ -13,6 +13,10 @@ pub(crate) enum Run {
     Twice,
     /// Why producers are not opened.
     Faults,
+    /// How long a sender waits for room and for a report.
+    Waits,
+    /// A record, and how long new connections are waited for.
+    Again,
     /// So many records, so many milliseconds apart, and how long it took until each was told of.
     Latency { records: u32, apart: u64 },
     /// A producer that has nothing to send for so many milliseconds.
@@ -38,6 +42,8 @@ impl<'a> Line<'a> {
             "gives-up" => planned(Run::GivesUp),
             "twice" => planned(Run::Twice),
             "faults" => planned(Run::Faults),
+            "waits" => planned(Run::Waits),
+            "again" => planned(Run::Again),
             "latency" => {
                 let (records, apart) = rest.split_once(' ')?;
                 let (records, apart) = (records.parse().ok()?, apart.parse().ok()?);

@@ -1,11 +1,13 @@
 //! A producer with one sender, from its opening to its settling.
 
-ghost use Rattle.std.specs.Prelude.{IfOk};
-ghost use Rattle.kp_client.specs.Left.{parts_in};
+ghost use Rattle.std.specs.Prelude.{◌∷◌, [], IfOk};
+ghost use Rattle.kp_client.specs.Left.{parts_in, IsSettled};
 ghost use Rattle.kp_client.specs.Producer.{lane_of};
 ghost use Rattle.kp_client.specs.Service.{intake_of};
 ghost use Rattle.kp_lanes.specs.Intake.{lanes_of};
 ghost use Rattle.kp_lanes.specs.Sender.{IsSenderOf};
+ghost use Rattle.kp_client.specs.declared.left.Left.{Left as AllLeft};
+ghost use Rattle.kp_client_runs.specs.Held.{WasHeld};
 ghost use Rattle.kp_lanes.specs.Settling.{IsOf};
 
 use crate::job::{Heard, Job, work};
@@ -40,6 +42,7 @@ fn settle(
     monitor: Monitor,
 ) -> Result<Came, Wrong>
     requires { IsOf (lanes_of (parts_in ended).intake) finished }
+    ensures { IfOk result (λ _. (left : AllLeft) × IsSettled (parts_in ended) (finished ∷ []) left) }
 {
     let ending = ended.ending();
     let Ok(left) = ended.settle(alloc, vec![in alloc; finished]?) else {
@@ -68,6 +71,7 @@ pub(crate) fn hold<R>(
 where
     R: Wait + Threads + Clock + RandomSource + AllocGlobal + Sync,
     R: Net<Listener = TcpListener, Stream = TcpStream>,
+    ensures { IfOk result (λ _. WasHeld address (record settings { senders = 1 })) }
 {
     let settings = Settings {
         senders: 1,

@@ -5,6 +5,7 @@ use crate::example::publish;
 use crate::job::{Heard, Job, record};
 use crate::run::Run;
 use crate::session::{Came, hold};
+use crate::waiting::{tell_again, tell_waits};
 use crate::wrong::Wrong;
 use kp_client::{Policy, Settings, open};
 use kp_core::Outcome;
@@ -19,7 +20,7 @@ use std::time::Clock;
 /// How long a broker that says nothing is waited for, in milliseconds.
 const PATIENCE: u64 = 50;
 
-fn settings(alloc: Global) -> Result<Settings, AllocError> {
+pub(crate) fn settings(alloc: Global) -> Result<Settings, AllocError> {
     Settings::new(alloc, "t", "kp")
 }
 
@@ -33,7 +34,7 @@ fn tell_outcome<R: Print>(rt: &R, outcome: Option<Outcome>) -> io::Result<()> {
 }
 
 /// Prints what came of a producer.
-fn tell_came<R: Print>(rt: &R, came: &Came) -> io::Result<()> {
+pub(crate) fn tell_came<R: Print>(rt: &R, came: &Came) -> io::Result<()> {
     for report in &came.heard.reports {
         tell_outcome(rt, Some(report.outcome))?;
     }
@@ -140,6 +141,8 @@ where
             tell_job(rt, address, Policy::InARow(10), one)
         }
         Run::Faults => tell_faults(rt, address),
+        Run::Waits => tell_waits(rt, address),
+        Run::Again => tell_again(rt, address, one),
         Run::Latency { records, apart } => tell_latency(
             rt,
             address,

@@ -4,7 +4,7 @@ use Rattle.std.specs.Prelude.{◌⊎◌, ◌+◌, Option, Some, None, IfSome, If
 use Rattle.std.proofs.lemmas.List.{length-map, get_or-set_same}
 use Rattle.kp_accum.specs.declared.item.Item.{Item}
 use Rattle.kp_lanes.specs.Entries.{items_of}
-use Rattle.kp_lanes.specs.Intake.{lanes_of, intake_gate, intake_limits, taken_lists, taken_of, passed_of, seen_of, places_of}
+use Rattle.kp_lanes.specs.Intake.{lanes_of, common_of, intake_limits, taken_lists, taken_of, passed_of, seen_of, places_of}
 use Rattle.kp_lanes.specs.Limits.{Meets}
 use Rattle.kp_lanes.specs.Port.{HasNothing, passed, port_id, taken}
 use Rattle.kp_lanes.specs.declared.intake.Intake.{Intake}
@@ -23,7 +23,7 @@ pub taken_is : (t : Intake) (i : ℕ) → taken_of t i ≡ items_of (passed_of t
 taken_is t i = taken_at t.ports.items i
 
 taken_there : (t : Intake) (i : ℕ) → i < length (lanes_of t) → i < length (taken_lists t)
-taken_there t i near = subst (λ (n : ℕ). i < n) (length-map t.ports.items (port_id (intake_gate t)) ∙ sym (length-map t.ports.items taken)) near
+taken_there t i near = subst (λ (n : ℕ). i < n) (length-map t.ports.items (port_id (common_of t)) ∙ sym (length-map t.ports.items taken)) near
 
 -- an item that was taken
 took_some : (a b : Intake) (i : ℕ) (x : Item) → i < length (lanes_of a) → taken_lists b ≡ slice_set (taken_lists a) i (taken_of a i ++ x ∷ [])

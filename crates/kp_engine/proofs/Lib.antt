@@ -24,3 +24,5 @@ pub mod FrameLemmas
 pub mod ClosingLemmas
 pub mod OpeningLemmas
 pub mod LaneLemmas
+pub mod StreamlessLemmas
+pub mod MadeLemmas

@@ -59,12 +59,12 @@ module _ {A : Type 0} (place_of : A → ℕ) where
 
 module _ (core : Core) (intake : Intake) (calls : List Call) (x : Exchange) (parts : Parts) (h : HasServed core intake calls x) (ended : x.core.ended ≡ true) (p : ArePartsOf x parts) where
   module _ (i : ℕ) (near : i < senders_of x) where
-    items_held : from_sender i parts.held.items.items ≡ option_to_list (side_of x i).held
+    pub items_held : from_sender i parts.held.items.items ≡ option_to_list (side_of x i).held
     items_held =
         ap (λ (xs : List Item). from_sender i xs) p.items
         ∙ its_own (λ (y : Item). y.sender) 0 i i x.items.items (omega arith) (λ k y is. let its : y.sender ≡ k = x.agree.its_item k y is in omega (arith, its))
 
-    reports_held : to_sender i parts.held.reports.items ≡ option_to_list (mail_of x i).held
+    pub reports_held : to_sender i parts.held.reports.items ≡ option_to_list (mail_of x i).held
     reports_held =
         ap (λ (rs : List Report). to_sender i rs) p.reports
         ∙ its_own (λ (r : Report). r.sender) 0 i i x.reports.items (omega arith) (λ k r is. let its : r.sender ≡ k = x.agree.its_report k r is in omega (arith, its))

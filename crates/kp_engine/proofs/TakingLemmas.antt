@@ -8,7 +8,7 @@ use Rattle.kp_accum.specs.declared.fault.AppendFault.{AppendFault}
 use Rattle.kp_accum.specs.declared.fault.AppendFault.TheVariants.{BufferFull, OutOfMemory}
 use Rattle.kp_accum.specs.declared.item.Item.{Item}
 use Rattle.kp_lanes.specs.Entries.{items_of, has_mark}
-use Rattle.kp_lanes.specs.Intake.{lanes_of, intake_gate, passed_lists, passed_of, asked_lists, asked_at_of, told_lists, SameIntake}
+use Rattle.kp_lanes.specs.Intake.{lanes_of, common_of, passed_lists, passed_of, asked_lists, asked_at_of, told_lists, SameIntake}
 use Rattle.kp_lanes.specs.Port.{asked_at, port_id}
 use Rattle.kp_lanes.specs.declared.entry.Entry.{Entry}
 use Rattle.kp_lanes.specs.declared.intake.Intake.{Intake}
@@ -312,7 +312,7 @@ from_none i a m b (Err refused) was now h =
 -- ---- the flush
 
 asked_there : (t : Intake) (i : ℕ) → i < length (lanes_of t) → i < length (asked_lists t)
-asked_there t i near = subst (λ (n : ℕ). i < n) (length-map t.ports.items (port_id (intake_gate t)) ∙ sym (length-map t.ports.items asked_at)) near
+asked_there t i near = subst (λ (n : ℕ). i < n) (length-map t.ports.items (port_id (common_of t)) ∙ sym (length-map t.ports.items asked_at)) near
 
 pub flushed : (i : ℕ) (a b : Exchange) (asked : Bool) → i < length (lanes_of a.intake) → asked ≡ has_mark (drop (asked_at_of a.intake i) (passed_of a.intake i))
     → Runs a (if_so asked Flush) b → passed_lists b.intake ≡ passed_lists a.intake

@@ -11,3 +11,4 @@ pub mod Serving
 pub mod Parts
 pub mod Clocked
 pub mod Closing
+pub mod Made

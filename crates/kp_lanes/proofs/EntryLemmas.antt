@@ -1,13 +1,13 @@
 -- What one more entry changes.
-use Rattle.std.proofs.Common.{◌≡◌, ℕ, zero, suc, ◌+◌, ◌<◌, ◌≤◌, Bool, true, false, List, [], ◌∷◌, ◌++◌, length, length-append, drop, get_or, set, length-set, get_or-set_same, get_or-set_other, append_assoc, eq-eqb, ne_eqb, sym, refl, ap, ◌∙◌, subst, arith}
+use Rattle.std.proofs.Common.{◌≡◌, ℕ, zero, suc, ◌+◌, ◌<◌, ◌≤◌, Bool, true, false, List, [], ◌∷◌, ◌++◌, length, length-append, drop, get_or, set, length-set, get_or-set_same, get_or-set_other, append_assoc, eq-eqb, ne_eqb, sym, refl, ap, ◌∙◌, ◌⊎◌, ⊎_elim, inl, inr, subst, arith}
 use Rattle.std.specs.Prelude.{if◌then◌else◌, ◌==◌, Result, Ok, Err, OnOk, IfErr}
 use Rattle.std.proofs.lemmas.List.{drop-append-le}
 use mathlib.Core.List.{IsPrefix}
 use mathlib.Core.Logic.{dite}
 use native.Mathlib.Decide.{ℕ_discrete}
 use Rattle.kp_accum.specs.declared.item.Item.{Item}
-use Rattle.kp_lanes.specs.Entries.{items_of, has_mark, one_of, count_of, Counted, MarksFollow}
-use Rattle.kp_lanes.specs.Limits.{Meets}
+use Rattle.kp_lanes.specs.Entries.{items_of, has_mark, one_of, count_of, Counted, IsNext, MarksFollow}
+use Rattle.kp_lanes.specs.Limits.{AreInPlace, Meets}
 use Rattle.kp_lanes.specs.Port.{HasNothing}
 use Rattle.kp_lanes.specs.declared.limits.Limits.{Limits}
 use Rattle.kp_lanes.specs.declared.entry.Entry.{Entry}
@@ -144,3 +144,41 @@ none_seen limits sender (e ∷ es) none = absurd (omega arith)
 
 pub not_its : (limits : Limits) (sender : ℕ) (x : Item) (e : Entry) (es : List Entry) → IsPrefix (e ∷ []) es → e ≡ Sent x → ¬ Meets limits sender x → HasNothing limits sender es
 not_its limits sender x e es p is not = subst (HasNothing limits sender) p.1 (subst (λ y. HasNothing limits sender (y ∷ p.0)) (sym is) not)
+
+-- ---- numbers by place
+
+pub none_in_place : (limits : Limits) (sender : ℕ) (es : List Entry) → es ≡ [] → AreInPlace limits sender (items_of es)
+none_in_place limits sender es none = record { each = λ before x behind is. absurd (some before x behind (sym is ∙ ap items_of none)) }
+  where
+    some : (before : List Item) (x : Item) (behind : List Item) → before ++ x ∷ behind ≡ [] → ⊥
+    some [] x behind e = cc
+    some (y ∷ before) x behind e = cc
+
+-- An item that stands in a list with one more behind it is that one, or stood there before.
+split : (xs : List Item) (y : Item) (before : List Item) (x : Item) (behind : List Item) → xs ++ y ∷ [] ≡ before ++ x ∷ behind
+    → ((xs ≡ before) × (y ≡ x)) ⊎ ((rest : List Item) × (xs ≡ before ++ x ∷ rest))
+split [] y [] x behind e = let same : y ≡ x = cc in inl (refl, same)
+split [] y (z ∷ before) x behind e = absurd (some before (let rest : [] ≡ before ++ x ∷ behind = cc in rest))
+  where
+    some : (before : List Item) → [] ≡ before ++ x ∷ behind → ⊥
+    some [] e = cc
+    some (w ∷ before) e = cc
+split (z ∷ xs) y [] x behind e = let same : z ≡ x = cc in inr (xs, ap (λ (w : Item). w ∷ xs) same)
+split (z ∷ xs) y (w ∷ before) x behind e =
+    let same : z ≡ w = cc in
+    let rest : xs ++ y ∷ [] ≡ before ++ x ∷ behind = cc in
+    ⊎_elim
+    (λ (last : (xs ≡ before) × (y ≡ x)). inl (ap (λ (v : Item). v ∷ xs) same ∙ ap (λ (vs : List Item). w ∷ vs) last.0, last.1))
+    (λ (sooner : (rest : List Item) × (xs ≡ before ++ x ∷ rest)). inr (sooner.0, ap (λ (v : Item). v ∷ xs) same ∙ ap (λ (vs : List Item). w ∷ vs) sooner.1))
+    (split xs y before x behind rest)
+
+-- one more item stands in its place
+pub one_more_in_place : (limits : Limits) (sender : ℕ) (xs : List Item) (y : Item) → AreInPlace limits sender xs → Meets limits sender y
+    → IsNext xs y → AreInPlace limits sender (xs ++ y ∷ [])
+one_more_in_place limits sender xs y h meets next = record {
+  each = λ before x behind is. ⊎_elim
+      (λ (last : (xs ≡ before) × (y ≡ x)).
+      (subst (Meets limits sender) last.1 meets, subst (λ (z : Item). IsNext before z) last.1 (subst (λ (zs : List Item). IsNext zs y) last.0 next)))
+      (λ (sooner : (rest : List Item) × (xs ≡ before ++ x ∷ rest)). h.each before x sooner.0 sooner.1)
+      (split xs y before x behind is);
+}

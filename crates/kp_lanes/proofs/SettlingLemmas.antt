@@ -8,16 +8,19 @@ use Rattle.std.specs.declared.alloc.Global.{Global}
 use Rattle.std.specs.declared.vec.Vec.{Vec}
 use Rattle.kp_accum.specs.declared.item.Item.{Item}
 use Rattle.kp_rules.specs.declared.outcome.Report.{Report}
+use Rattle.kp_lanes.specs.declared.intake.Intake.{Intake}
 use Rattle.kp_lanes.specs.declared.intake.port.Port.{Port}
+use Rattle.kp_lanes.specs.declared.limits.Limits.{Limits}
 use Rattle.kp_lanes.specs.declared.sender.Finished.{Finished}
 use Rattle.kp_lanes.specs.declared.settling.Settled.{Settled}
 use Rattle.kp_lanes.specs.Rings.{RingId}
-use Rattle.atomic_table.specs.Seated.{TableId}
+use Rattle.kp_lanes.specs.Intake.{common_of, intake_limits, lanes_of}
 use Rattle.kp_lanes.specs.Lane.{LaneId}
-use Rattle.kp_lanes.specs.Port.{port_id, taken, told}
+use Rattle.kp_lanes.specs.Limits.{AreInPlace}
+use Rattle.kp_lanes.specs.Port.{Common, port_id, taken, told}
 use Rattle.kp_lanes.specs.Sender.{finished_id, all_accepted, all_got}
 use Rattle.kp_lanes.specs.Sender.{finished_number}
-use Rattle.kp_lanes.specs.Settling.{numbers, port_rings, finished_rings, left_items, left_reports, Differ, MeetAt, RingsMeet, HasRooms, AddsAt, IsOf, Placed, SamePorts, SameFinished}
+use Rattle.kp_lanes.specs.Settling.{IsInPlace, numbers, port_rings, finished_rings, left_items, left_reports, Differ, MeetAt, RingsMeet, HasRooms, AddsAt, IsOf, Placed, SamePorts, SameFinished}
 use Rattle.kp_lanes.proofs.EachLemmas.{same_default, here, here_set, else_set}
 
 module _ {A : Type 0} where
@@ -81,31 +84,31 @@ same_length f g xs ys e = sym (length-map xs f) ∙ (ap length e ∙ length-map 
 -- what the sender at place j of the lists as they now are is of the lists as they were
 pub place : (ps cps : List Port) (fs cfs : List Finished) (j : ℕ) (f : Finished) → map port_rings cps ≡ map port_rings ps → map finished_number cfs ≡ map finished_number fs → map finished_rings cfs ≡ map finished_rings fs
     → Placed ps fs → j < length fs → f ≡ get_or cfs j f
-    → (f.number ≡ get_or (numbers fs) j 0) × (f.number < length cps) × (f.number < length ps) × MeetAt cps cfs f.number j
+    → (f.outbox.sender ≡ get_or (numbers fs) j 0) × (f.outbox.sender < length cps) × (f.outbox.sender < length ps) × MeetAt cps cfs f.outbox.sender j
 place ps cps fs cfs j f rings ns ends of there is =
     let long_p : length cps ≡ length ps = same_length port_rings port_rings cps ps rings in let long_f : length cfs ≡ length fs = same_length finished_number finished_number cfs fs ns in
     let here_f : j < length cfs = omega arith in
-    let number : f.number ≡ get_or (numbers fs) j 0 = sym (here finished_number cfs j f 0 here_f is) ∙ ap (λ l. get_or l j 0) ns in
+    let number : f.outbox.sender ≡ get_or (numbers fs) j 0 = sym (here finished_number cfs j f 0 here_f is) ∙ ap (λ l. get_or l j 0) ns in
     let o = of j there in
-    let near : f.number < length ps = subst (λ k. k < length ps) (sym number) o.0 in
-    let near_c : f.number < length cps = omega arith in
-    let meet : RingsMeet (map port_rings cps) (map finished_rings cfs) f.number j =
-    λ d. ap (λ l. get_or l f.number d) rings ∙ (ap (λ k. get_or (map port_rings ps) k d) number ∙ (o.1 d ∙ ap (λ l. get_or l j d) (sym ends))) in
-    (number, near_c, near, meets cps cfs f.number j near_c here_f meet)
+    let near : f.outbox.sender < length ps = subst (λ k. k < length ps) (sym number) o.0 in
+    let near_c : f.outbox.sender < length cps = omega arith in
+    let meet : RingsMeet (map port_rings cps) (map finished_rings cfs) f.outbox.sender j =
+    λ d. ap (λ l. get_or l f.outbox.sender d) rings ∙ (ap (λ k. get_or (map port_rings ps) k d) number ∙ (o.1 d ∙ ap (λ l. get_or l j d) (sym ends))) in
+    (number, near_c, near, meets cps cfs f.outbox.sender j near_c here_f meet)
 
 -- the same where only the places to come are as they were
 pub place_left : (ps cps : List Port) (fs cfs : List Finished) (j : ℕ) (f : Finished) → length cps ≡ length ps → length cfs ≡ length fs → map finished_number cfs ≡ map finished_number fs
     → ((d : Port) → get_or cps (get_or (numbers fs) j 0) d ≡ get_or ps (get_or (numbers fs) j 0) d) → ((d : Finished) → get_or cfs j d ≡ get_or fs j d)
     → Placed ps fs → j < length fs → f ≡ get_or cfs j f
-    → (f.number ≡ get_or (numbers fs) j 0) × (f.number < length cps) × (f.number < length ps) × MeetAt cps cfs f.number j
+    → (f.outbox.sender ≡ get_or (numbers fs) j 0) × (f.outbox.sender < length cps) × (f.outbox.sender < length ps) × MeetAt cps cfs f.outbox.sender j
 place_left ps cps fs cfs j f long_p long_f ns same_p same_f of there is =
     let here_f : j < length cfs = omega arith in
-    let number : f.number ≡ get_or (numbers fs) j 0 = sym (here finished_number cfs j f 0 here_f is) ∙ ap (λ l. get_or l j 0) ns in
+    let number : f.outbox.sender ≡ get_or (numbers fs) j 0 = sym (here finished_number cfs j f 0 here_f is) ∙ ap (λ l. get_or l j 0) ns in
     let o = of j there in
-    let near : f.number < length ps = subst (λ k. k < length ps) (sym number) o.0 in
-    let near_c : f.number < length cps = omega arith in
-    let at : (d : Port) → get_or cps f.number d ≡ get_or ps f.number d = subst (λ i. (d : Port) → get_or cps i d ≡ get_or ps i d) (sym number) same_p in
-    let meet : MeetAt ps fs f.number j = meets ps fs f.number j near there (subst (λ i. RingsMeet (map port_rings ps) (map finished_rings fs) i j) (sym number) o.1) in
+    let near : f.outbox.sender < length ps = subst (λ k. k < length ps) (sym number) o.0 in
+    let near_c : f.outbox.sender < length cps = omega arith in
+    let at : (d : Port) → get_or cps f.outbox.sender d ≡ get_or ps f.outbox.sender d = subst (λ i. (d : Port) → get_or cps i d ≡ get_or ps i d) (sym number) same_p in
+    let meet : MeetAt ps fs f.outbox.sender j = meets ps fs f.outbox.sender j near there (subst (λ i. RingsMeet (map port_rings ps) (map finished_rings fs) i j) (sym number) o.1) in
     (number, near_c, near, λ p g is_p is_g. meet p g (sym (at p) ∙ is_p) (sym (same_f g) ∙ is_g))
 
 pub at_number : {A B : Type 0} (f : A → B) (xs ys : List A) (i n : ℕ) (e : B) → n ≡ i → length ys ≡ length xs → ((d : A) → get_or ys i d ≡ get_or xs i d) → get_or (map f ys) n e ≡ get_or (map f xs) i e
@@ -114,15 +117,15 @@ at_number f xs ys i n e is long same = ap (λ k. get_or (map f ys) k e) is ∙ c
 abbrev rings_of : LaneId → RingId × RingId
 rings_of i = (i.items, i.reports)
 
-through : (g : TableId) (ps : List Port) (i : ℕ) (d : RingId × RingId) (e : LaneId) → i < length ps → get_or (map port_rings ps) i d ≡ rings_of (get_or (map (port_id g) ps) i e)
+through : (g : Common) (ps : List Port) (i : ℕ) (d : RingId × RingId) (e : LaneId) → i < length ps → get_or (map port_rings ps) i d ≡ rings_of (get_or (map (port_id g) ps) i e)
 through g [] i d e near = absurd (omega arith)
 through g (p ∷ ps) zero d e near = refl
 through g (p ∷ ps) (suc i) d e near = through g ps i d e (omega arith)
 
-pub of_placed : (g : TableId) (ps : List Port) (fs : List Finished) → ((k : ℕ) (d : Finished) → k < length fs → IsOf (map (port_id g) ps) (get_or fs k d)) → Placed ps fs
+pub of_placed : (g : Common) (ps : List Port) (fs : List Finished) → ((k : ℕ) (d : Finished) → k < length fs → IsOf (map (port_id g) ps) (get_or fs k d)) → Placed ps fs
 of_placed g ps [] h j below = absurd (omega arith)
-of_placed g ps (f ∷ fs) h zero below = let o = h zero f below in let near : f.number < length ps = subst (λ n. f.number < n) (length-map ps (port_id g)) o.0 in
-    (near, λ d. through g ps f.number d (finished_id f) near ∙ ap rings_of o.1)
+of_placed g ps (f ∷ fs) h zero below = let o = h zero f below in let near : f.outbox.sender < length ps = subst (λ n. f.outbox.sender < n) (length-map ps (port_id g)) o.0 in
+    (near, λ d. through g ps f.outbox.sender d (finished_id f) near ∙ ap rings_of o.1)
 of_placed g ps (f ∷ fs) h (suc j) below = of_placed g ps fs (λ k d b. h (suc k) d (omega arith)) j (omega arith)
 
 module _ (ps ps' : List Port) (fs fs' : List Finished) (sp : SamePorts ps ps') (sf : SameFinished fs fs') where
@@ -155,9 +158,9 @@ module _ (ps ps' : List Port) (fs fs' : List Finished) (sp : SamePorts ps ps') (
   )
 
   pub adds : (s : Settled) (k : ℕ) (f : Finished) → k < length fs → f ≡ get_or fs k f → AddsAt ps' fs' s k
-      → (all_accepted f ≡ get_or (map taken ps) f.number [] ++ get_or (left_items s.left.items) f.number []) × (get_or (map told ps) f.number [] ≡ all_got f ++ get_or (left_reports s.reports.items) f.number [])
+      → (all_accepted f ≡ get_or (map taken ps) f.outbox.sender [] ++ get_or (left_items s.left.items) f.outbox.sender []) × (get_or (map told ps) f.outbox.sender [] ≡ all_got f ++ get_or (left_reports s.reports.items) f.outbox.sender [])
   adds s k f below is new =
-      let old = moved_adds s k new in let number : get_or (numbers fs) k 0 ≡ f.number = here finished_number fs k f 0 below is in
+      let old = moved_adds s k new in let number : get_or (numbers fs) k 0 ≡ f.outbox.sender = here finished_number fs k f 0 below is in
       let a : get_or (map all_accepted fs) k [] ≡ all_accepted f = here all_accepted fs k f [] below is in let g : get_or (map all_got fs) k [] ≡ all_got f = here all_got fs k f [] below is in (
         subst (λ (z : List Item × ℕ). z.0 ≡ get_or (map taken ps) z.1 [] ++ get_or (left_items s.left.items) z.1 []) (λ i. (a i, number i)) old.0,
         subst (λ (z : List Report × ℕ). get_or (map told ps) z.1 [] ≡ z.0 ++ get_or (left_reports s.reports.items) z.1 []) (λ i. (g i, number i)) old.1,
@@ -193,3 +196,18 @@ still_of lanes fs gs ns ids of k d below =
     let id : finished_id g ≡ finished_id f =
     sym (here finished_id gs k g (finished_id f) below (same_default gs k d g below)) ∙ (ap (λ l. get_or l k (finished_id f)) ids ∙ here finished_id fs k f (finished_id f) near (same_default fs k d f near)) in
     subst (λ (z : ℕ × LaneId). (z.0 < length lanes) × (get_or lanes z.0 z.1 ≡ z.1)) (λ i. (sym number i, sym id i)) (of k d near)
+
+-- ---- numbers by place
+
+common_at : (c : Common) (ps : List Port) (i : ℕ) (e : LaneId) → i < length ps → (get_or (map (port_id c) ps) i e).limits ≡ c.limits
+common_at c [] i e near = absurd (omega arith)
+common_at c (p ∷ ps) zero e near = refl
+common_at c (p ∷ ps) (suc i) e near = common_at c ps i e (omega arith)
+
+-- A sender whose lane is one of these has their limits.
+pub in_place_in : (t : Intake) (f : Finished) → IsOf (lanes_of t) f → IsInPlace (intake_limits t) f
+in_place_in t f o =
+    let near : f.outbox.sender < length t.ports.items = subst (λ n. f.outbox.sender < n) (length-map t.ports.items (port_id (common_of t))) o.0 in
+    let same : f.outbox.limits ≡ intake_limits t =
+    sym (ap (λ (l : LaneId). l.limits) o.1) ∙ common_at (common_of t) t.ports.items f.outbox.sender (finished_id f) near in
+    subst (λ (l : Limits). AreInPlace l f.outbox.sender (all_accepted f)) same f.outbox.in_place

@@ -6,7 +6,7 @@ use Rattle.kp_accum.specs.declared.item.Item.{Item}
 use Rattle.kp_rules.specs.declared.outcome.Report.{Report}
 use Rattle.kp_lanes.specs.Tokens.{gate_id, view}
 use Rattle.kp_lanes.specs.Lane.{LaneId}
-use Rattle.kp_lanes.specs.Port.{port_id, passed, taken, told, asked_at, room, seen, places}
+use Rattle.kp_lanes.specs.Port.{Common, port_id, passed, taken, told, asked_at, room, seen, places}
 use Rattle.kp_lanes.specs.declared.entry.Entry.{Entry}
 use Rattle.kp_lanes.specs.declared.gate.view.View.{View}
 use Rattle.kp_lanes.specs.declared.intake.Intake.{Intake}
@@ -22,9 +22,13 @@ intake_view t = view t.seat
 abbrev pub intake_limits : Intake → Limits
 intake_limits t = t.limits
 
+-- the gate and the limits of its lanes
+abbrev pub common_of : Intake → Common
+common_of t = record { gate = intake_gate t; limits = intake_limits t }
+
 -- the lanes, by the numbers of their senders
 abbrev pub lanes_of : Intake → List LaneId
-lanes_of t = map (port_id (intake_gate t)) t.ports.items
+lanes_of t = map (port_id (common_of t)) t.ports.items
 
 -- for each sender what was taken of its lane: items and marks
 abbrev pub passed_lists : Intake → List (List Entry)

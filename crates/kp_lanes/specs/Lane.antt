@@ -9,10 +9,12 @@ use Rattle.kp_lanes.specs.Rings.{RingId, push_end}
 use Rattle.kp_lanes.specs.Tokens.{gate_id}
 use Rattle.kp_lanes.specs.declared.entry.Entry.{Entry}
 use Rattle.kp_lanes.specs.declared.lane.Lane.{Lane}
+use Rattle.kp_lanes.specs.declared.limits.Limits.{Limits}
 
--- which lane it is: its gate, and its two rings
+-- which lane it is: its gate, what its records must keep, and its two rings
 pub record LaneId : Type 0 where
   pub gate : TableId
+  pub limits : Limits
   pub items : RingId
   pub reports : RingId
 
@@ -32,5 +34,5 @@ accepted_in l = items_of (pushed l)
 abbrev pub free : Lane → ℕ
 free l = known_free l.ring
 
-abbrev pub lane_id : Lane → RingId → LaneId
-lane_id l r = record { gate = lane_gate l; items = push_end l.ring; reports = r }
+abbrev pub lane_id : Limits → Lane → RingId → LaneId
+lane_id limits l r = record { gate = lane_gate l; limits = limits; items = push_end l.ring; reports = r }

@@ -16,8 +16,13 @@ use Rattle.kp_lanes.specs.declared.intake.port.Front.{Front}
 use Rattle.kp_lanes.specs.declared.intake.port.Front.TheVariants.{AnItem, AMark, Nothing}
 use Rattle.kp_lanes.specs.declared.limits.Limits.{Limits}
 
-abbrev pub port_id : TableId → Port → LaneId
-port_id g p = record { gate = g; items = pop_end p.entries; reports = push_end p.reports }
+-- what all lanes of an intake have in common
+pub record Common : Type 0 where
+  pub gate : TableId
+  pub limits : Limits
+
+abbrev pub port_id : Common → Port → LaneId
+port_id c p = record { gate = c.gate; limits = c.limits; items = pop_end p.entries; reports = push_end p.reports }
 
 -- what was taken out of the lane: items and marks, in order
 abbrev pub passed : Port → List Entry

@@ -25,7 +25,7 @@ sender_number s = s.outbox.sender
 
 -- which lane is its
 abbrev pub sender_id : Sender → LaneId
-sender_id s = lane_id s.outbox.lane (pop_end s.reports)
+sender_id s = lane_id s.outbox.limits s.outbox.lane (pop_end s.reports)
 
 abbrev pub limits_of : Sender → Limits
 limits_of s = s.outbox.limits
@@ -94,13 +94,13 @@ pub record IsFresh (capacity : ℕ) (limits : Limits) (s : Sender) : Type 0 wher
 -- ---- what is left of one
 
 abbrev pub finished_number : Finished → ℕ
-finished_number f = f.number
+finished_number f = f.outbox.sender
 
 abbrev pub finished_id : Finished → LaneId
-finished_id f = lane_id f.lane (pop_end f.reports)
+finished_id f = lane_id f.outbox.limits f.outbox.lane (pop_end f.reports)
 
 abbrev pub all_accepted : Finished → List Item
-all_accepted f = accepted_in f.lane
+all_accepted f = accepted_in f.outbox.lane
 
 abbrev pub all_got : Finished → List Report
 all_got f = received f.reports

@@ -2,22 +2,27 @@
 use Rattle.std.specs.Prelude.{◌≡◌, ◌≢◌, ℕ, ◌+◌, ◌<◌, ◌≤◌, List, [], ◌++◌, map, length, slice_index_or, vec_capacity}
 use Rattle.std.specs.declared.alloc.Global.{Global}
 use Rattle.std.specs.declared.vec.Vec.{Vec}
-use Rattle.atomic_table.specs.Seated.{TableId}
 use Rattle.kp_accum.specs.declared.item.Item.{Item}
 use Rattle.kp_rules.specs.declared.outcome.Report.{Report}
 use Rattle.kp_lanes.specs.Intake.{taken_of, told_of}
 use Rattle.kp_lanes.specs.Lane.{LaneId}
-use Rattle.kp_lanes.specs.Port.{port_id, passed, taken, told, asked_at}
+use Rattle.kp_lanes.specs.Limits.{AreInPlace}
+use Rattle.kp_lanes.specs.Port.{Common, port_id, passed, taken, told, asked_at}
 use Rattle.kp_lanes.specs.Rings.{RingId, push_end, pop_end}
 use Rattle.kp_lanes.specs.Sender.{finished_number, finished_id, all_accepted, all_got}
 use Rattle.kp_lanes.specs.declared.intake.Intake.{Intake}
 use Rattle.kp_lanes.specs.declared.intake.port.Port.{Port}
+use Rattle.kp_lanes.specs.declared.limits.Limits.{Limits}
 use Rattle.kp_lanes.specs.declared.sender.Finished.{Finished}
 use Rattle.kp_lanes.specs.declared.settling.Settled.{Settled}
 
 -- it is of the lane that its number names
 abbrev pub IsOf : List LaneId → Finished → Type 0
 IsOf lanes f = (finished_number f < length lanes) × (slice_index_or lanes (finished_number f) (finished_id f) ≡ finished_id f)
+
+-- each record that the sender had accepted was numbered by its place, within these limits
+abbrev pub IsInPlace : Limits → Finished → Type 0
+IsInPlace limits f = AreInPlace limits (finished_number f) (all_accepted f)
 
 abbrev pub numbers : List Finished → List ℕ
 numbers fs = map finished_number fs
@@ -47,11 +52,11 @@ abbrev pub port_rings : Port → RingId × RingId
 port_rings p = (pop_end p.entries, push_end p.reports)
 
 abbrev pub finished_rings : Finished → RingId × RingId
-finished_rings f = (push_end f.lane.ring, pop_end f.reports)
+finished_rings f = (push_end f.outbox.lane.ring, pop_end f.reports)
 
 -- the two ends of one sender's rings
 abbrev pub Meet : Port → Finished → Type 0
-Meet p f = (pop_end p.entries ≡ push_end f.lane.ring) × (pop_end f.reports ≡ push_end p.reports)
+Meet p f = (pop_end p.entries ≡ push_end f.outbox.lane.ring) × (pop_end f.reports ≡ push_end p.reports)
 
 -- the ends at the places i and j are of the same rings
 abbrev pub MeetAt : List Port → List Finished → ℕ → ℕ → Type 0
@@ -70,7 +75,7 @@ Placed ps fs = (j : ℕ) → j < length fs → (slice_index_or (numbers fs) j 0 
 -- the same ends of the same rings, and nothing was taken, told or asked
 pub record SamePorts (old new : List Port) : Type 0 where
   pub rings : map port_rings new ≡ map port_rings old
-  pub ids : (g : TableId) → map (port_id g) new ≡ map (port_id g) old
+  pub ids : (c : Common) → map (port_id c) new ≡ map (port_id c) old
   pub passed : map passed new ≡ map passed old
   pub taken : map taken new ≡ map taken old
   pub told : map told new ≡ map told old

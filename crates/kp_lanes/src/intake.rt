@@ -122,8 +122,8 @@ impl Intake {
 
 impl Intake {
     ghost use Rattle.std.specs.Prelude.{◌≢◌, All, IfOk, IfErr, IsOk, length};
-    ghost use Rattle.kp_lanes.specs.Intake.{lanes_of, passed_lists, taken_lists, told_lists, asked_lists, SameIntake};
-    ghost use Rattle.kp_lanes.specs.Settling.{IsOf, EachOnce, Adds, SameFinished};
+    ghost use Rattle.kp_lanes.specs.Intake.{intake_limits, lanes_of, passed_lists, taken_lists, told_lists, asked_lists, SameIntake};
+    ghost use Rattle.kp_lanes.specs.Settling.{IsOf, IsInPlace, EachOnce, Adds, SameFinished};
     ghost use Rattle.kp_lanes.specs.declared.fault.SettleFault.TheVariants.{Missing};
 
     /// Takes back what is left in the rings of senders that have finished: each sender once. Marks are dropped.
@@ -134,6 +134,7 @@ impl Intake {
     ) -> Result<Settled, (SettleFault, Intake, Vec<Finished>)>
         requires { All (IsOf (lanes_of self)) finished.items }
         ensures settled { IfOk result (λ s. All (Adds self s) finished.items) }
+        ensures in_place { IfOk result (λ _. All (IsInPlace (intake_limits self)) finished.items) }
         ensures places { IfOk result (λ s. (length s.left.items ≡ length (lanes_of self)) × (length s.reports.items ≡ length (lanes_of self))) }
         ensures all { IsOk result → EachOnce (length (lanes_of self)) finished.items }
 

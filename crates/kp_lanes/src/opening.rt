@@ -77,7 +77,7 @@ fn open_lane(
     requires some { 1 ≤ limits.partitions }
     ensures seat { (seat_gate seat.new ≡ seat_gate seat.old) × (view seat.new ≡ less_room 1 (view seat.old)) }
     ensures fresh { IfOk result (λ r. IsFresh capacity limits r.0 × IsEmpty capacity r.1) }
-    ensures meet { IfOk result (λ r. sender_id r.0 ≡ port_id (gate_id (arc_value gate.now)) r.1) }
+    ensures meet { IfOk result (λ r. sender_id r.0 ≡ port_id (record { gate = gate_id (arc_value gate.now); limits = limits }) r.1) }
     ensures number { IfOk result (λ r. sender_number r.0 ≡ number) }
 {
     let mine = gate.seat_sender(seat);

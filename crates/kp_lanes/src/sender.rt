@@ -4,12 +4,12 @@ ghost use Rattle.std.specs.Prelude.{◌≡◌, ◌^◌, ◌-◌, min, length};
 ghost use Rattle.std.specs.Arc.{arc_value};
 ghost use Rattle.kp_lanes.specs.declared.gate.view.Stage.TheVariants.{Out};
 ghost use Rattle.rtrb.specs.Ring.{received};
+ghost use Rattle.kp_lanes.specs.Limits.{AreInPlace};
 
 pub(crate) mod outbox;
 
 use crate::fault::{FlushFault, SendFault};
 use crate::gate::Seat;
-use crate::lane::Lane;
 use crate::sender::outbox::Outbox;
 use crate::target::{Target, Ticket};
 use kp_batch::Record;
@@ -38,7 +38,7 @@ impl Sender {
     ghost use Rattle.kp_lanes.specs.Entries.{count_of};
     ghost use Rattle.kp_lanes.specs.Gate.{told_shut};
     ghost use Rattle.kp_lanes.specs.Lane.{pushed};
-    ghost use Rattle.kp_lanes.specs.Sender.{SameSender, sender_number, sender_id, sender_view, entered, accepted, got, seen_reports, turn, known_free_of, goes_to, turn_after, Accepts, Refuses, finished_number, finished_id, all_accepted, all_got};
+    ghost use Rattle.kp_lanes.specs.Sender.{SameSender, sender_number, sender_id, sender_view, entered, accepted, got, seen_reports, turn, known_free_of, goes_to, turn_after, Accepts, Refuses, limits_of, finished_number, finished_id, all_accepted, all_got};
 
     pub(crate) fn new(outbox: Outbox, reports: Consumer<Report>, seat: Seat) -> Sender
         requires here { seat.table_id ≡ (arc_value outbox.lane.gate).table.shared.table_id }
@@ -87,8 +87,9 @@ impl Sender {
         ensures why { IfErr result (λ e. e.0 ≢ Closed → Refuses self.old (goes_to self.old target body) body e.0) }
 
         // What the sender knows of the gate.
-        ensures knows { (sender_view self.new ≡ sender_view self.old) ⊎ (sender_view self.new ≡ told_shut (sender_view self.old)) }
-        ensures closed { IfErr result (λ e. e.0 ≡ Closed → (sender_view self.new).knows_shut ≡ true) }
+        ensures unknown { OnOk result (sender_view self.new ≡ sender_view self.old) }
+        ensures other { IfErr result (λ e. e.0 ≢ Closed → sender_view self.new ≡ sender_view self.old) }
+        ensures closed { IfErr result (λ e. e.0 ≡ Closed → sender_view self.new ≡ told_shut (sender_view self.old)) }
         ensures stays { (sender_view self.old).knows_shut ≡ true → IfErr result (λ e. e.0 ≡ Closed) × IsErr result }
     {
         if !self.outbox.gate().enter(&mut self.seat) {
@@ -108,8 +109,9 @@ impl Sender {
         ensures ok { OnOk result (entered self.new ≡ entered self.old ++ Mark ∷ []) }
         ensures lost_nothing { OnErr result (entered self.new ≡ entered self.old) }
         ensures full { IfErr result (λ e. e ≡ flushing.LaneFull → known_free_of self.old ≡ 0) }
-        ensures knows { (sender_view self.new ≡ sender_view self.old) ⊎ (sender_view self.new ≡ told_shut (sender_view self.old)) }
-        ensures closed { IfErr result (λ e. e ≡ flushing.Closed → (sender_view self.new).knows_shut ≡ true) }
+        ensures unknown { OnOk result (sender_view self.new ≡ sender_view self.old) }
+        ensures other { IfErr result (λ e. e ≢ flushing.Closed → sender_view self.new ≡ sender_view self.old) }
+        ensures closed { IfErr result (λ e. e ≡ flushing.Closed → sender_view self.new ≡ told_shut (sender_view self.old)) }
         ensures stays { (sender_view self.old).knows_shut ≡ true → IfErr result (λ e. e ≡ flushing.Closed) × IsErr result }
     {
         if self.outbox.gate().enter(&mut self.seat) {
@@ -144,7 +146,10 @@ impl Sender {
 
     /// Ends the sender. Its ends of the rings stay as they are.
     pub fn finish(self) -> Finished
-        ensures { (finished_number result ≡ sender_number self) × (finished_id result ≡ sender_id self) × (all_accepted result ≡ accepted self) × (all_got result ≡ got self) }
+        ensures same { (finished_number result ≡ sender_number self) × (finished_id result ≡ sender_id self) × (all_accepted result ≡ accepted self) × (all_got result ≡ got self) }
+
+        // Each record was numbered by its place.
+        ensures in_place { AreInPlace (limits_of self) (sender_number self) (all_accepted result) }
     {
         let Sender {
             outbox,
@@ -152,18 +157,13 @@ impl Sender {
             heard: _,
             seat: _,
         } = self;
-        Finished {
-            number: outbox.sender(),
-            lane: outbox.into_lane(),
-            reports,
-        }
+        Finished { outbox, reports }
     }
 }
 
 /// A sender's ends of its rings, once it sends no more.
 #[derive(Drop)]
 pub struct Finished {
-    pub(crate) number: u32,
-    pub(crate) lane: Lane,
+    pub(crate) outbox: Outbox,
     pub(crate) reports: Consumer<Report>,
 }

@@ -27,7 +27,7 @@ pub(crate) fn differ(finished: &Vec<Finished>) -> bool
 {
     for k in 0..finished.len() {
         for j in 0..k {
-            if finished[j].number == finished[k].number {
+            if finished[j].outbox.sender == finished[k].outbox.sender {
                 return false;
             }
         }
@@ -95,7 +95,7 @@ pub(crate) fn rooms(
 {
     let mut settled = empty(alloc, ports.len())?;
     for j in 0..finished.len() {
-        let i = finished[j].number as usize;
+        let i = finished[j].outbox.sender as usize;
         let (items, reports) = look_at(ports, finished, i, j);
         settled.left[i] = Vec::with_capacity(alloc, items)?;
         settled.reports[i] = Vec::with_capacity(alloc, reports)?;
@@ -127,7 +127,7 @@ pub(crate) fn drain_all(ports: &mut Vec<Port>, finished: &mut Vec<Finished>, set
     ensures wide { (length settled.new.left.items ≡ length settled.old.left.items) × (length settled.new.reports.items ≡ length settled.old.reports.items) }
 {
     for j in 0..finished.len() {
-        let i = finished[j].number as usize;
+        let i = finished[j].outbox.sender as usize;
         settle_at(ports, finished, settled, i, j);
     }
 }

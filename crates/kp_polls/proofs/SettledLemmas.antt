@@ -13,11 +13,14 @@ use Rattle.kp_connection.specs.Wire.{Told}
 use Rattle.kp_engine.specs.Agreement.{Serves}
 use Rattle.kp_engine.specs.declared.exchange.Exchange.{Exchange}
 use Rattle.kp_headline.specs.Offering.{AllOffered, AreOffered, IsOffered}
-use Rattle.kp_lanes.specs.Entries.{count_of}
-use Rattle.kp_lanes.specs.Intake.{lanes_of, taken_of}
+use Rattle.kp_engine.proofs.FreshLemmas.{fresh_agrees}
+use Rattle.kp_lanes.specs.Entries.{IsNext, count_of}
+use Rattle.kp_lanes.specs.Intake.{intake_limits, lanes_of, taken_of}
+use Rattle.kp_lanes.specs.Limits.{AreInPlace, Meets}
 use Rattle.kp_lanes.specs.Sender.{accepted, all_accepted, finished_number, limits_of, sender_number}
-use Rattle.kp_lanes.specs.Settling.{Adds, Differ, left_items, numbers}
+use Rattle.kp_lanes.specs.Settling.{Adds, Differ, IsInPlace, left_items, numbers}
 use Rattle.kp_lanes.specs.declared.intake.Intake.{Intake}
+use Rattle.kp_lanes.specs.declared.limits.Limits.{Limits}
 use Rattle.kp_lanes.specs.declared.sender.Finished.{Finished}
 use Rattle.kp_lanes.specs.declared.sender.Sender.{Sender}
 use Rattle.kp_lanes.specs.declared.settling.Settled.{Settled}
@@ -30,7 +33,7 @@ use Rattle.kp_world.specs.Accepting.{for_partition}
 use Rattle.kp_world.specs.World.{Opening}
 use Rattle.kp_polls.specs.Polling.{HaveAccepted, Polling, core_of}
 use Rattle.kp_polls.specs.Settled.{AreSettled, HadAccepted, IsSent}
-use Rattle.kp_polls.proofs.AroundLemmas.{now_senders, now_sized}
+use Rattle.kp_polls.proofs.AroundLemmas.{now_senders, now_sized, served}
 
 -- ---- numbers by place
 
@@ -59,22 +62,35 @@ unfolding new_core without_audits
 config_in o true = refl
 config_in o false = refl
 
-pub sent_is_offered : (o : Opening) (s : Sender) (i : Item) → Serves (core_of o) (limits_of s) → AreOffered o (sender_number s) [] (accepted s) → IsSent s i
-    → AreOffered o (sender_number s) [] (accepted s ++ i ∷ [])
+-- what is in its place may be offered
+is_offered : (o : Opening) (limits : Limits) (s : ℕ) (earlier : List Item) (i : Item) → Serves (core_of o) limits → Meets limits s i → IsNext earlier i → IsOffered o s earlier i
 unfolding size_of
-sent_is_offered o s i serves before sent =
-    let limits = limits_of s in
-    let charge : nat_le (charge_of i) limits.max_record ≡ true = sym (within-is (charge_of i) _ limits.max_record refl serves.size) ∙ grind (arith, nat_tests, sent.accepts.fits) in
+is_offered o limits s earlier i serves meets next =
+    let charge : nat_le (charge_of i) limits.max_record ≡ true = sym (within-is (charge_of i) _ limits.max_record refl serves.size) ∙ grind (arith, nat_tests, meets.its_charge) in
     let small : charge_of i ≤ limits.max_record = leb-true (charge_of i) limits.max_record charge in
     let many : length (core_of o).partitions ≡ o.partitions = partitions_in o o.audits in
-    let same : (core_of o).config ≡ o.config = config_in o o.audits in
-    one_more o (sender_number s) [] (accepted s) i before (record {
-      sender = sent.sender;
-      partition = omega (arith, sent.accepts.there, serves.partitions, many);
-      number = sent.number ∙ placed i.partition (accepted s);
+    let same : (core_of o).config ≡ o.config = config_in o o.audits in record {
+      sender = meets.its_sender;
+      partition = omega (arith, meets.its_partition, serves.partitions, many);
+      number = next ∙ placed i.partition earlier;
       fits_request = subst (λ (c : Config). charge_of i ≤ c.max_request_size) same (omega (arith, small, serves.request));
       fits_memory = subst (λ (c : Config). charge_of i ≤ c.buffer_memory) same (omega (arith, small, serves.memory));
-    })
+    }
+
+pub sent_is_offered : (o : Opening) (s : Sender) (i : Item) → Serves (core_of o) (limits_of s) → AreOffered o (sender_number s) [] (accepted s) → IsSent s i
+    → AreOffered o (sender_number s) [] (accepted s ++ i ∷ [])
+sent_is_offered o s i serves before sent =
+    one_more o (sender_number s) [] (accepted s) i before (is_offered o (limits_of s) (sender_number s) (accepted s) i serves
+    (record { its_sender = sent.sender; its_partition = sent.accepts.there; its_charge = sent.accepts.fits }) sent.number)
+
+offered_in_place : (o : Opening) (limits : Limits) (s : ℕ) (all : List Item) → Serves (core_of o) limits → AreInPlace limits s all → (earlier items : List Item) → all ≡ earlier ++ items
+    → AreOffered o s earlier items
+offered_in_place o limits s all serves h earlier [] is = tt
+offered_in_place o limits s all serves h earlier (i ∷ items) is =
+    let its = h.each earlier i items is in (
+      is_offered o limits s earlier i serves its.0 its.1,
+      offered_in_place o limits s all serves h (earlier ++ i ∷ []) items (is ∙ sym (append_assoc earlier (i ∷ []) items)),
+    )
 
 -- ---- among so many numbers that differ and are below so many, each of these stands
 
@@ -191,14 +207,15 @@ module _ (o : Opening) (finished : List Finished) (s : Settled) (lists : List (L
     its_list = ap (λ (n : ℕ). slice_index_or lists n []) (sym among.number)
         ∙ All-contains (λ (g : Finished). slice_index_or lists (finished_number g) [] ≡ all_accepted g) finished f had.all among.there
 
-    taken_or_left : slice_index_or lists i [] ≡ taken_of lanes i ++ slice_index_or (left_items s.left.items) i []
+    pub taken_or_left : slice_index_or lists i [] ≡ taken_of lanes i ++ slice_index_or (left_items s.left.items) i []
     taken_or_left = its_list
         ∙ (All-contains (Adds lanes s) finished f settled.adds among.there).items
         ∙ ap (λ (n : ℕ). taken_of lanes n ++ slice_index_or (left_items s.left.items) n []) among.number
 
-    its_offered : AreOffered o i [] (slice_index_or lists i [])
-    its_offered = subst (AreOffered o i []) (sym its_list) (subst (λ (n : ℕ). AreOffered o n [] (all_accepted f)) among.number
-        (All-contains (λ (g : Finished). AreOffered o (finished_number g) [] (all_accepted g)) finished f had.offered among.there))
+    its_offered : Serves (core_of o) (intake_limits lanes) → AreOffered o i [] (slice_index_or lists i [])
+    its_offered serves = subst (AreOffered o i []) (sym its_list) (subst (λ (n : ℕ). AreOffered o n [] (all_accepted f)) among.number
+        (offered_in_place o (intake_limits lanes) (finished_number f) (all_accepted f) serves
+        (All-contains (λ (g : Finished). IsInPlace (intake_limits lanes) g) finished f settled.in_place among.there) [] (all_accepted f) refl))
 
 all_offered : (o : Opening) (s : ℕ) (lists : List (List Item)) → ((k : ℕ) → k < length lists → AreOffered o (s + k) [] (slice_index_or lists k [])) → AllOffered o s lists
 all_offered o s [] h = tt
@@ -206,6 +223,15 @@ all_offered o s (items ∷ lists) h = (
   subst (λ (n : ℕ). AreOffered o n [] items) (omega arith) (h 0 (omega arith)),
   all_offered o (s + 1) lists (λ k near. subst (λ (n : ℕ). AreOffered o n [] (slice_index_or lists k [])) (omega arith) (h (suc k) (omega (arith, near)))),
 )
+
+-- all that was accepted may be offered
+pub all_are_offered : (o : Opening) (finished : List Finished) (s : Settled) (lists : List (List Item)) (lanes : Intake) → length (lanes_of lanes) ≡ o.senders → AreSettled lanes finished s
+    → HadAccepted o finished lists → Serves (core_of o) (intake_limits lanes) → AllOffered o 0 lists
+all_are_offered o finished s lists lanes wide settled had serves = all_offered o 0 lists (λ k near.
+    let long : length lists ≡ o.senders = had.senders in
+    let same : k ≡ 0 + k = omega arith in
+    subst (λ (n : ℕ). AreOffered o n [] (slice_index_or lists k [])) same
+    (its_offered o finished s lists lanes wide settled had k (omega (arith, near, long)) serves))
 
 module _ {S : Type 0} (answers : Told S) (o : Opening) (calls : List Call) (x : Exchange) (finished : List Finished) (s : Settled) (lists : List (List Item))
     (p : Polling answers o calls x) (settled : AreSettled x.intake finished s) (had : HadAccepted o finished lists) where
@@ -215,13 +241,12 @@ module _ {S : Type 0} (answers : Told S) (o : Opening) (calls : List Call) (x : 
   pub accepted_is : (i : ℕ) → i < o.senders → slice_index_or lists i [] ≡ taken_of x.intake i ++ slice_index_or (left_items s.left.items) i []
   accepted_is i near = taken_or_left o finished s lists x.intake wide settled had i near
 
+  serves : Serves (core_of o) (intake_limits x.intake)
+  serves = subst (Serves (core_of o)) (sym ((served answers o calls x p).lanes.limits ∙ ap intake_limits p.is_new.intake)) (fresh_agrees (core_of o) p.intake p.may_turn).serves
+
   pub have_accepted : HaveAccepted o x lists
   have_accepted = record {
     senders = had.senders;
-    offered = all_offered o 0 lists (λ k near.
-        let long : length lists ≡ o.senders = had.senders in
-        let same : k ≡ 0 + k = omega arith in
-        subst (λ (n : ℕ). AreOffered o n [] (slice_index_or lists k [])) same
-        (its_offered o finished s lists x.intake wide settled had k (omega (arith, near, long))));
+    offered = all_are_offered o finished s lists x.intake wide settled had serves;
     taken = λ i near. (slice_index_or (left_items s.left.items) i [], sym (accepted_is i near));
   }

@@ -167,6 +167,17 @@ all_gathered js fs left n count heard all reports same keeps none_lost numbers a
       };
     }
 
+pub all_are : (js : List Job) (fs : List Finished) (left : Left) (n : ℕ) (heard all reports : List Report)
+    → map account_of fs ≡ map account_in js → All Keeps js → All IsWhole js
+    → map number_of js ≡ numbers_below n → heard ≡ flat_map heard_by js
+    → all ≡ heard ++ flat_map (reports_left left) (numbers_below n) → IsPermutation all reports
+    → IsPermutation (flat_map all_got fs ++ flat_map (reports_left left) (map finished_number fs)) reports
+all_are js fs left n heard all reports same keeps none_lost numbers is_heard is_all moved =
+    let met = all_meet fs js same keeps none_lost in
+    let named : numbers_below n ≡ map finished_number fs = sym numbers ∙ met.numbers in
+    subst (λ (rs : List Report). IsPermutation rs reports)
+    (is_all ∙ ap₂ (λ (rs : List Report) (ns : List ℕ). rs ++ flat_map (reports_left left) ns) (is_heard ∙ met.heard) named) moved
+
 -- ---- jobs, one after the other
 
 pub account_is : (f : Finished) (job : Job) → finished_number f ≡ (account_in job).0 → finished_id f ≡ (account_in job).1

@@ -10,3 +10,4 @@ pub mod Sending
 pub mod Served
 pub mod Settings
 pub mod Topics
+pub mod Theirs

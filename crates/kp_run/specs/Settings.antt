@@ -2,12 +2,21 @@
 use Rattle.std.specs.Prelude.{◌≡◌, ℕ, min}
 use Rattle.kp_accum.specs.declared.config.Config.{Config}
 use Rattle.kp_client.specs.declared.settings.Settings.{Settings}
+use Rattle.kp_client.specs.declared.policy.Policy.TheVariants.{InAll}
+use Rattle.kp_run.specs.Options.{expected_partitions}
 use Rattle.kp_run.specs.declared.options.Options.{Options}
+use Rattle.kp_run.specs.declared.options.TheConstants.{CAPACITY, CLIENT, NEW_CONNECTIONS}
 
 -- the most that a record may take
 abbrev pub largest : Config → ℕ
 largest config = min config.max_request_size config.buffer_memory
 
 pub record AreSettingsOf (options : Options) (settings : Settings) : Type 0 where
+  pub topic : settings.names.topic ≡ options.topic.now
+  pub client : settings.names.client ≡ CLIENT.now
   pub senders : settings.senders ≡ options.senders
+  pub capacity : settings.capacity ≡ CAPACITY
   pub config : settings.config ≡ options.config
+  pub partitions : settings.partitions ≡ expected_partitions options.place options.partitions
+  pub policy : settings.policy ≡ InAll NEW_CONNECTIONS
+  pub audits : settings.audits ≡ options.audits

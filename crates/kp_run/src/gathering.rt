@@ -10,6 +10,7 @@ ghost use Rattle.kp_client.specs.Left.{parts_in};
 ghost use Rattle.kp_run.specs.Gathered.{account_in, account_of, by_place, heard_by, unheard_of, IncludeHeard, OnlyFetched};
 ghost use Rattle.kp_run.specs.Jobs.{IsJobOf, Keeps, number_of};
 ghost use Rattle.kp_run.specs.Portions.{Gathered};
+ghost use Rattle.kp_run.specs.Theirs.{AreTheirs};
 
 use crate::fault::RunFault;
 use crate::sender_thread::Job;
@@ -170,6 +171,7 @@ pub(crate) fn gather(
     requires numbers { map number_of jobs.items ≡ numbers_below senders }
     ensures portions { IfOk result (λ p. Gathered jobs.items p.accepted p.reports.items) }
     ensures heard { IfOk result (λ p. IncludeHeard jobs.items p.reports.items) }
+    ensures theirs { IfOk result (λ p. AreTheirs ended jobs.items p.reports.items) }
     ensures in_order { IfOk result (λ p. IsSorted by_place p.reports.items) }
     ensures core { IfOk result (λ p. p.core ≡ record (parts_in ended).core { reports = p.core.reports }) }
     ensures refused { IfErr result (λ fault. fault ≡ RunFault.OutOfMemory) }

@@ -22,6 +22,9 @@ pub const SENDER_LIMIT: u32 = 64;
 /// How many records a sender's lane holds, and how many reports.
 const CAPACITY: usize = 256;
 
+/// The name by which the broker's logs know the client.
+const CLIENT: &str = "kprod";
+
 /// How many new connections there may be in all.
 const NEW_CONNECTIONS: u32 = 10;
 
@@ -141,7 +144,7 @@ impl<'a> Options<'a> {
             partitions: self.expected_partitions(),
             policy: Policy::InAll(NEW_CONNECTIONS),
             audits: self.audits,
-            ..Settings::new(alloc, self.topic, "kprod")?
+            ..Settings::new(alloc, self.topic, CLIENT)?
         })
     }
 }

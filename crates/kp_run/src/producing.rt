@@ -3,12 +3,14 @@
 ghost use Rattle.std.specs.Prelude.{◌≡◌, ◌++◌, ◌∷◌, [], map, All, IfOk, OnOk};
 ghost use Rattle.std.specs.List.Sorted.{IsSorted};
 ghost use Rattle.kp_lanes.specs.Intake.{lanes_of};
+ghost use Rattle.kp_client.specs.Ends.{HasEnded};
 ghost use Rattle.kp_client.specs.Left.{parts_in};
-ghost use Rattle.kp_client.specs.Service.{intake_of};
+ghost use Rattle.kp_client.specs.Service.{core_of, intake_of};
 ghost use Rattle.kp_run.specs.Dealing.{deal_of, dealt};
 ghost use Rattle.kp_run.specs.Gathered.{by_place};
 ghost use Rattle.kp_run.specs.Jobs.{producer_of, HasRun, HasTried, HaveRun, IsIdle, SameJobs};
 ghost use Rattle.kp_run.specs.Portions.{Comes};
+ghost use Rattle.kp_run.specs.Theirs.{AreOfService};
 ghost use Rattle.kp_run.specs.Settings.{largest};
 
 use crate::fault::RunFault;
@@ -94,7 +96,8 @@ where
 fn serve<R>(rt: &R, service: Service) -> Result<Ended, RunFault>
 where
     R: Wait + Threads + Clock + RandomSource + AllocGlobal + Sync + Net,
-    ensures { IfOk result (λ ended. lanes_of (parts_in ended).intake ≡ lanes_of (intake_of service)) }
+    ensures lanes { IfOk result (λ ended. lanes_of (parts_in ended).intake ≡ lanes_of (intake_of service)) }
+    ensures ended { IfOk result (HasEnded (core_of service) (intake_of service)) }
 {
     let ended = service.run(rt)?;
     if ended.ending() == Ending::OutOfMemory {
@@ -133,6 +136,7 @@ where
     requires { All (HasTried (deal_of task) 0) jobs.items }
     ensures ran { IfOk result (λ out. HaveRun (deal_of task.entry) jobs.items out.0.items) }
     ensures lanes { IfOk result (λ out. lanes_of (parts_in out.1).intake ≡ lanes_of (intake_of service)) }
+    ensures ended { IfOk result (λ out. HasEnded (core_of service) (intake_of service) out.1) }
 {
     let Task {
         lines,
@@ -147,6 +151,7 @@ where
             requires { All (HasTried (dealt lines.now senders keyed) 0) jobs.items }
             ensures ran { IfOk result (λ out. HaveRun (dealt lines.entry.now senders keyed) jobs.items out.0.items) }
             ensures lanes { IfOk result (λ out. lanes_of (parts_in out.1).intake ≡ lanes_of (intake_of service)) }
+            ensures ended { IfOk result (λ out. HasEnded (core_of service) (intake_of service) out.1) }
         {
             let promise = Sending {
                 lines,
@@ -187,6 +192,9 @@ where
     G: Gate + Sync,
     ensures lines { IfOk result (λ produced. Comes (dealt lines.now settings.senders keyed) (largest settings.config) produced.accepted produced.reports.items) }
     ensures in_order { IfOk result (λ produced. IsSorted by_place produced.reports.items) }
+
+    // The reports are those of a service, of which the laws speak.
+    ensures of_service { IfOk result (λ produced. AreOfService address settings produced.reports.items) }
 {
     let alloc = rt.alloc();
     let stamps = Stamps::new(Instant::now(rt)?, wall);

@@ -1,8 +1,8 @@
 //! A run, from its lines to what became of them.
 
 ghost use Rattle.std.specs.Prelude.{◌≡◌, IfOk};
-ghost use Rattle.kp_run.specs.Dealing.{asked, dealt};
-ghost use Rattle.kp_run.specs.Runs.{CameOf, IsHere, IsProduced};
+ghost use Rattle.kp_run.specs.Dealing.{dealt};
+ghost use Rattle.kp_run.specs.Runs.{CameOf, IsAt, IsHere, IsProduced, IsProducedBy};
 ghost use Rattle.kp_run.specs.Settings.{largest};
 ghost use Rattle.kp_run.specs.Served.{ServesAll};
 
@@ -91,7 +91,8 @@ where
     R: Wait + Threads + Clock + RandomSource + AllocGlobal + Sync,
     R: Net<Listener = TcpListener, Stream = TcpStream>,
     G: Gate + Sync,
-    ensures { IfOk result (λ p. IsProduced (asked options.now lines.now) (largest options.now.config) p.accepted p.reports.items) }
+    requires { IsAt options.now.place address }
+    ensures { IfOk result (λ p. IsProducedBy options.now lines.now p.accepted p.reports.items) }
 {
     let settings = options.settings(rt.alloc())?;
     let (keyed, flush_every) = (options.keyed, options.flush_every);
@@ -136,8 +137,9 @@ where
     R: Wait + Threads + Clock + RandomSource + AllocGlobal + Sync,
     R: Net<Listener = TcpListener, Stream = TcpStream>,
     G: Gate + Sync,
+    requires { IsHere checked.now.options.place }
     ensures served { IfOk result (λ both. ServesAll checked.now.plan broker both.0) }
-    ensures produced { IfOk result (λ both. IsProduced (asked checked.now.options lines.now) (largest checked.now.options.config) both.1.accepted both.1.reports.items) }
+    ensures produced { IfOk result (λ both. IsProducedBy checked.now.options lines.now both.1.accepted both.1.reports.items) }
 {
     let options = &checked.options;
     let settings = options.settings(rt.alloc())?;
@@ -150,7 +152,7 @@ where
         rt,
         move |scope| -> Result<(Broker, Result<Produced, RunFault>), RunFault>
             ensures served { IfOk result (λ both. ServesAll plan.entry.now broker both.0) }
-            ensures produced { IfOk result (λ both. IfOk both.1 (λ p. IsProduced (dealt lines.entry.now settings.senders keyed) (largest settings.config) p.accepted p.reports.items)) }
+            ensures produced { IfOk result (λ both. IfOk both.1 (λ p. IsProduced address settings (dealt lines.entry.now settings.senders keyed) (largest settings.config) p.accepted p.reports.items)) }
         {
             let promise = Serving {
                 plan,
@@ -194,7 +196,7 @@ where
     R: Wait + Threads + Clock + RandomSource + AllocGlobal + Sync,
     R: Net<Listener = TcpListener, Stream = TcpStream>,
     G: Gate + Sync,
-    ensures { IfOk result (λ p. IsProduced (dealt lines.now settings.senders keyed) (largest settings.config) p.accepted p.reports.items) }
+    ensures { IfOk result (λ p. IsProduced address settings (dealt lines.now settings.senders keyed) (largest settings.config) p.accepted p.reports.items) }
 {
     let produced = produce(
         rt,

@@ -176,13 +176,13 @@ impl Port {
         ensures port { (pop_end self.new.entries ≡ pop_end self.old.entries) × (push_end self.new.reports ≡ push_end self.old.reports)
             × (passed self.new ≡ passed self.old) × (told self.new ≡ told self.old) × (asked_at self.new ≡ asked_at self.old) }
         ensures finished { (finished_number finished.new ≡ finished_number finished.old) × (finished_id finished.new ≡ finished_id finished.old)
-            × (pushed finished.new.lane ≡ pushed finished.old.lane) × (all_got finished.new ≡ all_got finished.old) }
-        ensures left { passed self.old ++ known_items self.new.entries ≡ pushed finished.old.lane }
+            × (pushed finished.new.outbox.lane ≡ pushed finished.old.outbox.lane) × (all_got finished.new ≡ all_got finished.old) }
+        ensures left { passed self.old ++ known_items self.new.entries ≡ pushed finished.old.outbox.lane }
         ensures reports_left { all_got finished.old ++ known_items finished.new.reports ≡ told self.old }
         ensures items { length (all_accepted finished.old) ≤ length (taken self.old) + result.0 }
         ensures reports { length (told self.old) ≤ length (all_got finished.old) + result.1 }
     {
-        let entries = self.entries.slots_beside(&mut finished.lane.ring);
+        let entries = self.entries.slots_beside(&mut finished.outbox.lane.ring);
         let reports = finished.reports.slots_beside(&mut self.reports);
         (entries, reports)
     }

@@ -1,8 +1,9 @@
 //! A sender's lane, with what numbers and places its records.
 
-ghost use Rattle.std.specs.Prelude.{◌≡◌, ◌≤◌, ◌<◌, ◌^◌, length};
+ghost use Rattle.std.specs.Prelude.{◌≡◌, ◌≤◌, ◌<◌, ◌^◌, [], length};
 ghost use Rattle.rtrb.specs.Ring.{sent};
 ghost use Rattle.kp_lanes.specs.Entries.{items_of, Counted};
+ghost use Rattle.kp_lanes.specs.Limits.{AreInPlace};
 
 use crate::entry::Entry;
 use crate::fault::{FlushFault, SendFault};
@@ -17,7 +18,7 @@ use kp_wire::partition_of_key;
 /// A sender's lane, with what numbers and places its records.
 #[derive(Drop)]
 pub struct Outbox {
-    sender: u32,
+    pub(crate) sender: u32,
     limits: Limits,
     /// How many records were accepted.
     count: u64,
@@ -25,11 +26,12 @@ pub struct Outbox {
     next: Vec<u64>,
     /// Where the next record goes that has no key and no named partition.
     turn: u32,
-    lane: Lane,
+    pub(crate) lane: Lane,
     ghost wide: { (1 ≤ limits.partitions) × (length next.items ≡ limits.partitions) },
     ghost in_turn: { turn < limits.partitions },
     ghost numbered: { Counted next.items (sent lane.ring) },
     ghost counted: { count ≡ length (items_of (sent lane.ring)) },
+    ghost in_place: { AreInPlace limits sender (items_of (sent lane.ring)) },
 }
 
 impl Outbox {
@@ -76,20 +78,6 @@ impl Outbox {
         ensures { gate_id result.now ≡ lane_gate self.now.lane }
     {
         self.lane.gate()
-    }
-
-    pub(crate) fn into_lane(self) -> Lane
-        ensures { result ≡ self.lane }
-    {
-        let Outbox {
-            sender: _,
-            limits: _,
-            count: _,
-            next: _,
-            turn: _,
-            lane,
-        } = self;
-        lane
     }
 
     /// The partition that the record is to go to. A named one may be none of the lane's.

@@ -6,7 +6,7 @@ use Rattle.kp_lanes.specs.Intake.{intake_gate, lanes_of}
 use Rattle.kp_lanes.specs.Sender.{IsFresh, IsSenderOf}
 use Rattle.kp_lanes.specs.declared.intake.Intake.{Intake}
 use Rattle.kp_lanes.specs.declared.limits.Limits.{Limits}
-use Rattle.kp_client.specs.Opening.{first_core, IsWay}
+use Rattle.kp_client.specs.Opening.{first_core, IsGreeting, IsWay}
 use Rattle.kp_client.specs.Service.{hello_of, intake_of}
 use Rattle.kp_client.specs.Settings.{limits_of}
 use Rattle.kp_client.specs.declared.connecting.Way.{Way}
@@ -27,6 +27,7 @@ returns-clause-opened c =
     let limits : Fresh (limits_of c.args.hello s) =
     subst (λ (most : ℕ). Fresh (record { partitions = c.args.hello.partitions; max_record = most })) c.max_record.ensures lanes.fresh in record {
       service = record {
+        greeting = subst (λ (h : Hello). IsGreeting s.names h) (sym hello) c.requires.greeting;
         asked = subst (λ (h : Hello). IfSome s.partitions (λ n. h.partitions ≡ n)) (sym hello) c.requires.asked;
         core = made.core ∙ ap (λ (h : Hello). first_core s h) (sym hello);
         way = subst (λ (w : Way). IsWay c.args.way.address s w) (sym made.made.1) c.requires.way;

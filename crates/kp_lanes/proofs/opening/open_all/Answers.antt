@@ -23,7 +23,7 @@ loop-number-preserved c =
       count = ap length ends ∙ (length-append c.loop-number.ends.items (c.in_ok-sender.sender ∷ []) ∙ omega arith);
       numbers = map_push sender_number c.loop-number.ends.items c.push.new.all.items c.in_ok-sender.sender (numbers_below n) n ends inv.numbers made.number ∙ sym (numbers_more n);
       meet = map_push sender_id c.loop-number.ends.items c.push.new.all.items c.in_ok-sender.sender _ _ ends inv.meet made.meet
-          ∙ sym (map_push (port_id (gate_id (arc_value c.in_ok-gate-2.gate))) c.loop-number.ports.items c.push-in-loop-number.new.all.items c.in_ok-sender.port _ _ ports refl refl);
+          ∙ sym (map_push (port_id (record { gate = gate_id (arc_value c.in_ok-gate-2.gate); limits = c.args.limits })) c.loop-number.ports.items c.push-in-loop-number.new.all.items c.in_ok-sender.port _ _ ports refl refl);
       fresh = subst (All (IsFresh c.args.capacity c.args.limits)) (sym ends) (All-push (IsFresh c.args.capacity c.args.limits) _ _ inv.fresh made.fresh.0);
       empty = subst (All (IsEmpty c.args.capacity)) (sym ports) (All-push (IsEmpty c.args.capacity) _ _ inv.empty made.fresh.1);
     }

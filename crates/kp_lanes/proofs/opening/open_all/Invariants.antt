@@ -14,7 +14,7 @@ invariant-loop-number l = record {
   view_is : view l.seat ≡ newcomer (64 - l.number);
   count : length l.ends.items ≡ l.number;
   numbers : map sender_number l.ends.items ≡ numbers_below l.number;
-  meet : map sender_id l.ends.items ≡ map (port_id (gate_id (arc_value l.gate))) l.ports.items;
+  meet : map sender_id l.ends.items ≡ map (port_id (record { gate = gate_id (arc_value l.gate); limits = l.fn.limits })) l.ports.items;
   fresh : All (IsFresh l.fn.capacity l.fn.limits) l.ends.items;
   empty : All (IsEmpty l.fn.capacity) l.ports.items;
 }

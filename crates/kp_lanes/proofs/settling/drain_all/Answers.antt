@@ -16,21 +16,21 @@ use Rattle.kp_lanes.proofs.settling.drain_all.Goals as goal
 
 pub settle_at-requires-clause-port : goal.settle_at-requires-clause-port
 settle_at-requires-clause-port c =
-    let inv = c.loop-j.invariant in let ps = c.args.ports.now.items in let fs = c.args.finished.now.items in let s = c.args.settled.now in let j = c.loop-j.j in let n = c.index.result.now.number in
+    let inv = c.loop-j.invariant in let ps = c.args.ports.now.items in let fs = c.args.finished.now.items in let s = c.args.settled.now in let j = c.loop-j.j in let n = c.index.result.now.outbox.sender in
     let there : j < length fs = omega arith in let from_here : j ≤ j = omega arith in let i : ℕ = get_or (numbers fs) j 0 in
     let at = place_left ps c.loop-j.ports.items fs c.loop-j.finished.items j c.index.result.now inv.wide.0 inv.wide.1 inv.counted (inv.ports j from_here there) (inv.ends j from_here) c.requires.placed there c.index.ensures in
     let near = at.1 in let near_p = at.2 in let wide_l = c.requires.rooms.wide.0 in let wide_r = c.requires.rooms.wide.1 in let same_l = inv.wide.2 in let same_r = inv.wide.3 in (omega arith, omega arith, omega arith)
 
 pub settle_at-requires-clause-meet : goal.settle_at-requires-clause-meet
 settle_at-requires-clause-meet c =
-    let inv = c.loop-j.invariant in let ps = c.args.ports.now.items in let fs = c.args.finished.now.items in let s = c.args.settled.now in let j = c.loop-j.j in let n = c.index.result.now.number in
+    let inv = c.loop-j.invariant in let ps = c.args.ports.now.items in let fs = c.args.finished.now.items in let s = c.args.settled.now in let j = c.loop-j.j in let n = c.index.result.now.outbox.sender in
     let there : j < length fs = omega arith in let from_here : j ≤ j = omega arith in let i : ℕ = get_or (numbers fs) j 0 in
     let at = place_left ps c.loop-j.ports.items fs c.loop-j.finished.items j c.index.result.now inv.wide.0 inv.wide.1 inv.counted (inv.ports j from_here there) (inv.ends j from_here) c.requires.placed there c.index.ensures in
     at.3
 
 pub settle_at-requires-clause-empty : goal.settle_at-requires-clause-empty
 settle_at-requires-clause-empty c =
-    let inv = c.loop-j.invariant in let ps = c.args.ports.now.items in let fs = c.args.finished.now.items in let s = c.args.settled.now in let j = c.loop-j.j in let n = c.index.result.now.number in
+    let inv = c.loop-j.invariant in let ps = c.args.ports.now.items in let fs = c.args.finished.now.items in let s = c.args.settled.now in let j = c.loop-j.j in let n = c.index.result.now.outbox.sender in
     let there : j < length fs = omega arith in let from_here : j ≤ j = omega arith in let i : ℕ = get_or (numbers fs) j 0 in
     let at = place_left ps c.loop-j.ports.items fs c.loop-j.finished.items j c.index.result.now inv.wide.0 inv.wide.1 inv.counted (inv.ports j from_here there) (inv.ends j from_here) c.requires.placed there c.index.ensures in
     let none = c.requires.rooms.empty i in (
@@ -40,7 +40,7 @@ settle_at-requires-clause-empty c =
 
 pub settle_at-requires-clause-items : goal.settle_at-requires-clause-items
 settle_at-requires-clause-items c =
-    let inv = c.loop-j.invariant in let ps = c.args.ports.now.items in let fs = c.args.finished.now.items in let s = c.args.settled.now in let j = c.loop-j.j in let n = c.index.result.now.number in
+    let inv = c.loop-j.invariant in let ps = c.args.ports.now.items in let fs = c.args.finished.now.items in let s = c.args.settled.now in let j = c.loop-j.j in let n = c.index.result.now.outbox.sender in
     let there : j < length fs = omega arith in let from_here : j ≤ j = omega arith in let i : ℕ = get_or (numbers fs) j 0 in
     let at = place_left ps c.loop-j.ports.items fs c.loop-j.finished.items j c.index.result.now inv.wide.0 inv.wide.1 inv.counted (inv.ports j from_here there) (inv.ends j from_here) c.requires.placed there c.index.ensures in
     let a : get_or (map all_accepted c.loop-j.finished.items) j [] ≡ get_or (map all_accepted fs) j [] = carry all_accepted fs c.loop-j.finished.items j [] inv.wide.1 (inv.ends j from_here) in
@@ -52,7 +52,7 @@ settle_at-requires-clause-items c =
 
 pub settle_at-requires-clause-reports : goal.settle_at-requires-clause-reports
 settle_at-requires-clause-reports c =
-    let inv = c.loop-j.invariant in let ps = c.args.ports.now.items in let fs = c.args.finished.now.items in let s = c.args.settled.now in let j = c.loop-j.j in let n = c.index.result.now.number in
+    let inv = c.loop-j.invariant in let ps = c.args.ports.now.items in let fs = c.args.finished.now.items in let s = c.args.settled.now in let j = c.loop-j.j in let n = c.index.result.now.outbox.sender in
     let there : j < length fs = omega arith in let from_here : j ≤ j = omega arith in let i : ℕ = get_or (numbers fs) j 0 in
     let at = place_left ps c.loop-j.ports.items fs c.loop-j.finished.items j c.index.result.now inv.wide.0 inv.wide.1 inv.counted (inv.ports j from_here there) (inv.ends j from_here) c.requires.placed there c.index.ensures in
     let a : get_or (map all_accepted c.loop-j.finished.items) j [] ≡ get_or (map all_accepted fs) j [] = carry all_accepted fs c.loop-j.finished.items j [] inv.wide.1 (inv.ends j from_here) in
@@ -64,7 +64,7 @@ settle_at-requires-clause-reports c =
 
 pub loop-j-preserved : goal.loop-j-preserved
 loop-j-preserved c =
-    let inv = c.loop-j.invariant in let ps = c.args.ports.now.items in let fs = c.args.finished.now.items in let s = c.args.settled.now in let j = c.loop-j.j in let n = c.index.result.now.number in
+    let inv = c.loop-j.invariant in let ps = c.args.ports.now.items in let fs = c.args.finished.now.items in let s = c.args.settled.now in let j = c.loop-j.j in let n = c.index.result.now.outbox.sender in
     let there : j < length fs = omega arith in let from_here : j ≤ j = omega arith in let i : ℕ = get_or (numbers fs) j 0 in
     let at = place_left ps c.loop-j.ports.items fs c.loop-j.finished.items j c.index.result.now inv.wide.0 inv.wide.1 inv.counted (inv.ports j from_here there) (inv.ends j from_here) c.requires.placed there c.index.ensures in
     let a : get_or (map all_accepted c.loop-j.finished.items) j [] ≡ get_or (map all_accepted fs) j [] = carry all_accepted fs c.loop-j.finished.items j [] inv.wide.1 (inv.ends j from_here) in

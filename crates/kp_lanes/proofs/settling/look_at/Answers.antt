@@ -11,7 +11,7 @@ pub returns-clause-ports : goal.returns-clause-ports
 returns-clause-ports c =
     let ps = c.args.ports.now.items in let at = c.index_mut.ensures.value in let same = c.look.ensures.port in record {
       rings = kept port_rings ps c.args.i _ c.look.new.self at (λ k. (same.0 k, same.1 k));
-      ids = λ g. kept (port_id g) ps c.args.i _ c.look.new.self at (λ k. record { gate = g; items = same.0 k; reports = same.1 k });
+      ids = λ g. kept (port_id g) ps c.args.i _ c.look.new.self at (λ k. record { gate = g.gate; limits = g.limits; items = same.0 k; reports = same.1 k });
       passed = kept passed ps c.args.i _ c.look.new.self at same.2;
       taken = kept taken ps c.args.i _ c.look.new.self at (ap items_of same.2);
       told = kept told ps c.args.i _ c.look.new.self at same.3;

@@ -44,7 +44,7 @@ index_mut-requires-in-loop-j c =
 pub loop-j-preserved : goal.loop-j-preserved
 loop-j-preserved c =
     let inv = c.loop-j.invariant in let there : c.loop-j.j < length c.args.finished.now.items = omega arith in
-    let ps = c.args.ports.now.items in let fs = c.args.finished.now.items in let j = c.loop-j.j in let n = c.index.result.now.number in
+    let ps = c.args.ports.now.items in let fs = c.args.finished.now.items in let j = c.loop-j.j in let n = c.index.result.now.outbox.sender in
     let at = place ps c.loop-j.ports.items fs c.loop-j.finished.items j c.index.result.now inv.ports.rings inv.finished.numbers inv.finished.rings c.requires.placed there c.index.ensures in
     let look = c.look_at-items.ensures in let v = c.in_ok-settled-2.ensures in let w = c.in_ok-settled-3.ensures in
     let a = ap (λ l. length (get_or l j [])) inv.finished.accepted in let t = ap (λ l. length (get_or l n [])) inv.ports.taken in let items = look.items in

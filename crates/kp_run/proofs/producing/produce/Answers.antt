@@ -8,6 +8,7 @@ use Rattle.kp_run.specs.Dealing.{dealt}
 use Rattle.kp_run.specs.Jobs.{limits_in}
 use Rattle.kp_run.specs.Portions.{Comes, Gathered}
 use Rattle.kp_run.specs.Settings.{largest}
+use Rattle.kp_run.specs.Theirs.{AreOfService, AreTheirs}
 use Rattle.kp_run.specs.declared.gathering.Produced.{Produced}
 use Rattle.kp_run.proofs.JobsLemmas.{all_keep, all_tried, comes, if_ok, jobs_limited, jobs_numbered, jobs_of_lanes}
 use Rattle.kp_run.proofs.producing.produce.Goals as goal
@@ -45,3 +46,15 @@ returns-clause-lines g c =
     c.gather.result (λ p gathered. comes (dealt c.args.lines.now c.args.settings.senders c.args.keyed) (hello_of c.in_ok-opened.opened.service).partitions (largest c.args.settings.config) p.accepted ran p.reports.items
     (jobs_numbered c.args.settings.senders ps js ran c.in_ok-jobs.ensures.producers opened.numbers c.in_ok-ran.ensures.ran.same)
     limited c.in_ok-ran.ensures.ran.ran gathered) c.gather.ensures.portions
+
+pub returns-clause-of_service : goal.returns-clause-of_service
+returns-clause-of_service g c =
+    if_ok {P = λ (p : Produced). AreTheirs c.in_ok-ran.ended c.in_ok-ran.ran.items p.reports.items} {Q = λ (p : Produced). AreOfService c.args.address c.args.settings p.reports.items} c.gather.result
+    (λ produced theirs. record {
+      service = c.in_ok-opened.opened.service;
+      begins = c.in_ok-opened.ensures.opened.service;
+      ended = c.in_ok-ran.ended;
+      has_ended = c.in_ok-ran.ensures.ended;
+      jobs = c.in_ok-ran.ran.items;
+      theirs = theirs;
+    }) c.gather.ensures.theirs

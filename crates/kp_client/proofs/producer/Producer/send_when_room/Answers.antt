@@ -5,9 +5,9 @@ use Rattle.kp_client.proofs.producer.Producer.send_when_room.Goals as goal
 pub returns-in-Ok : goal.returns-in-Ok
 returns-in-Ok g c =
     let i = c.loop.invariant in
-    sends_later _ _ _ _ _ _ _ _ i.same i.heard i.lost_nothing i.body c.send.ensures (sym c.in-Ok.is)
+    sends_later _ _ _ _ _ _ _ _ i.same i.heard i.clock i.lost_nothing i.unknown i.body c.send.ensures (sym c.in-Ok.is)
 
 pub returns-then-ne : goal.returns-then-ne
 returns-then-ne g c =
     let i = c.loop.invariant in
-    sends_later _ _ _ _ _ _ _ _ i.same i.heard i.lost_nothing i.body c.send.ensures (sym c.in-Err.is)
+    sends_later _ _ _ _ _ _ _ _ i.same i.heard i.clock i.lost_nothing i.unknown i.body c.send.ensures (sym c.in-Err.is)

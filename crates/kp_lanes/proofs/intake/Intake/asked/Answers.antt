@@ -1,21 +1,21 @@
 use Rattle.std.proofs.Common.{◌<◌, [], length, set, map, subst, sym, ap, ◌∙◌, refl, arith}
 use Rattle.std.proofs.lemmas.List.{length-map, map-set}
 use Rattle.kp_lanes.specs.Port.{passed, told, asked_at, port_id}
-use Rattle.kp_lanes.specs.Intake.{intake_gate}
+use Rattle.kp_lanes.specs.Intake.{common_of}
 use Rattle.kp_lanes.proofs.EachLemmas.{here, kept}
 use Rattle.kp_lanes.proofs.intake.Intake.asked.Goals as goal
 
 pub returns-clause-since : goal.returns-clause-since
 returns-clause-since c =
     let all = c.args.self.now.ports.items in let at = c.index_mut.ensures.value in
-    let near : c.args.sender < length all = subst (λ k. c.args.sender < k) (length-map all (port_id (intake_gate c.args.self.now))) c.requires in
+    let near : c.args.sender < length all = subst (λ k. c.args.sender < k) (length-map all (port_id (common_of c.args.self.now))) c.requires in
     map-set asked_at all c.args.sender c.asked.new.self ∙ ap (set (map asked_at all) c.args.sender) (c.asked.ensures.since ∙ ap length (sym (here passed all c.args.sender _ [] near at)))
 
 pub returns-clause-same : goal.returns-clause-same
 returns-clause-same c =
     let same = c.asked.ensures.same in let all = c.args.self.now.ports.items in let at = c.index_mut.ensures.value in (
       record {
-        lanes = kept (port_id (intake_gate c.args.self.now)) all c.args.sender _ c.asked.new.self at (grind (arith, same));
+        lanes = kept (port_id (common_of c.args.self.now)) all c.args.sender _ c.asked.new.self at (grind (arith, same));
         limits = refl;
         view = refl;
       },

@@ -1,20 +1,20 @@
 use Rattle.std.proofs.Common.{◌≡◌, ◌<◌, ℕ, map, length, get_or, sym, subst, arith}
-use Rattle.kp_lanes.specs.Intake.{intake_gate}
+use Rattle.kp_lanes.specs.Intake.{common_of}
 use Rattle.kp_lanes.specs.Sender.{finished_number}
 use Rattle.kp_lanes.specs.Settling.{HasRooms, IsOf}
 use Rattle.kp_lanes.specs.Port.{port_id}
 use Rattle.kp_lanes.specs.declared.sender.Finished.{Finished}
-use Rattle.kp_lanes.proofs.SettlingLemmas.{of_placed, moved, moved_rooms, adds, same_length, still_of}
+use Rattle.kp_lanes.proofs.SettlingLemmas.{in_place_in, of_placed, moved, moved_rooms, adds, same_length, still_of}
 use Rattle.kp_lanes.proofs.EachLemmas.{same_default}
 use Rattle.kp_lanes.proofs.intake.Intake.settle.Goals as goal
 
 pub rooms-requires-clause-placed : goal.rooms-requires-clause-placed
-rooms-requires-clause-placed c = of_placed (intake_gate c.args.self) c.args.self.ports.items c.args.finished.items c.requires
+rooms-requires-clause-placed c = of_placed (common_of c.args.self) c.args.self.ports.items c.args.finished.items c.requires
 
 pub drain_all-requires-clause-placed : goal.drain_all-requires-clause-placed
 drain_all-requires-clause-placed c =
     let ps = c.args.self.ports.items in let fs = c.args.finished.items in
-    moved ps c.rooms.new.ports.items fs c.rooms.new.finished.items c.rooms.ensures.ports c.rooms.ensures.finished (of_placed (intake_gate c.args.self) ps fs c.requires)
+    moved ps c.rooms.new.ports.items fs c.rooms.new.finished.items c.rooms.ensures.ports c.rooms.ensures.finished (of_placed (common_of c.args.self) ps fs c.requires)
 
 pub drain_all-requires-clause-rooms : goal.drain_all-requires-clause-rooms
 drain_all-requires-clause-rooms c =
@@ -33,6 +33,9 @@ returns-in-Ok-clause-settled c k d below =
 
 pub returns-in-Err-clause-again : goal.returns-in-Err-clause-again
 returns-in-Err-clause-again c =
-    let g = intake_gate c.args.self in let fs = c.args.finished.items in
+    let g = common_of c.args.self in let fs = c.args.finished.items in
     still_of (map (port_id g) c.rooms.new.ports.items) fs c.rooms.new.finished.items c.rooms.ensures.finished.numbers c.rooms.ensures.finished.ids
     (subst (λ l. (k : ℕ) (d : Finished) → k < length fs → IsOf l (get_or fs k d)) (sym (c.rooms.ensures.ports.ids g)) c.requires)
+
+pub returns-in-Ok-clause-in_place : goal.returns-in-Ok-clause-in_place
+returns-in-Ok-clause-in_place c = λ k d below. in_place_in c.args.self (get_or c.args.finished.items k d) (c.requires k d below)

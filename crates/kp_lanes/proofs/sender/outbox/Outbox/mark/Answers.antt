@@ -1,5 +1,6 @@
-use Rattle.std.proofs.Common.{length, sym, ap, ◌∙◌}
+use Rattle.std.proofs.Common.{length, sym, ap, ◌∙◌, subst}
 use Rattle.kp_lanes.specs.Lane.{pushed}
+use Rattle.kp_lanes.specs.Limits.{AreInPlace}
 use Rattle.kp_lanes.proofs.EntryLemmas.{marked, counted_same}
 use Rattle.kp_lanes.proofs.sender.outbox.Outbox.mark.Goals as goal
 
@@ -10,6 +11,7 @@ invariant_of-self c =
       in_turn = old.in_turn;
       numbered = counted_same old.next.items (pushed old.lane) (pushed c.push.new.self) old.numbered same;
       counted = old.counted ∙ ap length (sym same);
+      in_place = subst (AreInPlace old.limits old.sender) (sym same) old.in_place;
     }
 
 pub returns-clause-items : goal.returns-clause-items

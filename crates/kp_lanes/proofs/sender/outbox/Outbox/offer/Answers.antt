@@ -1,8 +1,9 @@
-use Rattle.std.proofs.Common.{◌≡◌, ◌+◌, ◌<◌, ◌++◌, ◌∷◌, [], length, length-append, length-set, ap, ◌∙◌, arith}
+use Rattle.std.proofs.Common.{◌≡◌, ◌+◌, ◌<◌, ◌++◌, ◌∷◌, [], length, length-append, length-set, refl, sym, subst, ap, ◌∙◌, arith}
 use Rattle.kp_accum.specs.declared.item.Item.{Item}
 use Rattle.kp_lanes.specs.Entries.{items_of}
 use Rattle.kp_lanes.specs.Lane.{pushed}
-use Rattle.kp_lanes.proofs.EntryLemmas.{items_sent, counted_item, number_of_next}
+use Rattle.kp_lanes.specs.Limits.{AreInPlace}
+use Rattle.kp_lanes.proofs.EntryLemmas.{items_sent, counted_item, number_of_next, one_more_in_place}
 use Rattle.kp_lanes.proofs.sender.outbox.Outbox.offer.Goals as goal
 
 pub overflow_add-number : goal.overflow_add-number
@@ -24,6 +25,8 @@ invariant_of-self c =
       in_turn = c.turn_behind-turn.ensures.below;
       numbered = counted_item old.next.items (pushed old.lane) (pushed c.push.new.self) x n old.numbered c.in-Ok.ensures.ok near number.0;
       counted = omega arith;
+      in_place = subst (AreInPlace old.limits old.sender) (sym all)
+          (one_more_in_place old.limits old.sender (items_of (pushed old.lane)) x old.in_place (record { its_sender = refl; its_partition = fits.there; its_charge = fits.fits }) number.0);
     }
 
 pub returns-in-Ok-clause-accepted : goal.returns-in-Ok-clause-accepted

@@ -1,0 +1,6 @@
+use Rattle.kp_client.specs.Service.{core_of, intake_of}
+use Rattle.kp_client.proofs.ServiceLemmas.{still_lanes}
+use Rattle.kp_client.proofs.service.Service.run.Goals as goal
+
+pub returns-clause-lanes : goal.returns-clause-lanes
+returns-clause-lanes g c = still_lanes (core_of c.args.self) (intake_of c.args.self) _ c.serve-ended.ensures.ended

@@ -1,0 +1,68 @@
+-- To what a service of a core and of lanes has come: all calls on the core are known.
+use Rattle.std.specs.Prelude.{◌≡◌, ◌≢◌, ◌⊎◌, ℕ, ◌≤◌, true, List, []}
+use Rattle.kp_engine.specs.Made.{WasEnded}
+use Rattle.kp_engine.specs.Opening.{MayTurn}
+use Rattle.kp_engine.specs.declared.engine.Engine.{Engine}
+use Rattle.kp_engine.specs.declared.parts.Parts.{Parts}
+use Rattle.kp_lanes.specs.Intake.{intake_limits, lanes_of, passed_lists, taken_lists, told_lists}
+use Rattle.kp_lanes.specs.declared.intake.Intake.{Intake}
+use Rattle.kp_rules.specs.Calls.{Call}
+use Rattle.kp_rules.specs.Records.{Core}
+use Rattle.kp_client.specs.Left.{ending_of, new_connections_of, parts_in}
+use Rattle.kp_client.specs.Policy.{limit_of}
+use Rattle.kp_client.specs.Serving.{Serves}
+use Rattle.kp_client.specs.declared.left.Ended.{Ended}
+use Rattle.kp_client.specs.declared.left.Ending.{Ending}
+use Rattle.kp_client.specs.declared.left.Ending.TheVariants.{Done, GaveUp}
+use Rattle.kp_client.specs.declared.policy.Policy.{Policy}
+
+-- The same lanes, of which nothing more was taken or told: their ends may have seen more.
+pub record Looks (old new : Intake) : Type 0 where
+  pub lanes : lanes_of new ≡ lanes_of old
+  pub limits : intake_limits new ≡ intake_limits old
+  pub passed : passed_lists new ≡ passed_lists old
+  pub taken : taken_lists new ≡ taken_lists old
+  pub told : told_lists new ≡ told_lists old
+
+-- An engine was made of them, polled over one stream after the other, ended, and taken apart. It was closed, where the
+-- service says that it is done.
+pub record WasServed (core : Core) (intake : Intake) (calls : List Call) (ended : Ended) : Type 0 where
+  pub parts : Parts
+  pub engine : WasEnded core intake calls parts
+  pub same_core : (parts_in ended).core ≡ parts.core
+  pub same_held : (parts_in ended).held ≡ parts.held
+  pub looks : Looks parts.intake (parts_in ended).intake
+  pub done : ending_of ended ≡ Done → engine.last.closed ≡ true
+
+-- No engine was made: nothing was called, taken or told.
+pub record WasUnserved (core : Core) (intake : Intake) (calls : List Call) (ended : Ended) : Type 0 where
+  pub may_turn : MayTurn core intake
+  pub no_call : calls ≡ []
+  pub same_core : (parts_in ended).core ≡ core
+  pub no_item : (parts_in ended).held.items.items ≡ []
+  pub no_report : (parts_in ended).held.reports.items ≡ []
+  pub looks : Looks intake (parts_in ended).intake
+  pub not_done : ending_of ended ≢ Done
+
+-- To give up, as many new connections have to be made as the policy allows.
+abbrev pub MayEnd : Policy → Ending → ℕ → Type 0
+MayEnd policy (GaveUp cause) made = limit_of policy ≤ made
+MayEnd policy ending made = Unit {0}
+
+-- It gave up only then.
+abbrev pub GaveUpLast : Policy → Ended → Type 0
+GaveUpLast policy ended = MayEnd policy (ending_of ended) (new_connections_of ended)
+
+pub record HasEnded (core : Core) (intake : Intake) (ended : Ended) : Type 0 where
+  pub calls : List Call
+  pub how : WasServed core intake calls ended ⊎ WasUnserved core intake calls ended
+
+-- Whatever the engine was made of, a service of it has come to this.
+abbrev pub EndsAs : {S C : Type 0} → Engine S C → Ended → Type 0
+EndsAs engine ended =
+    (core : Core) (intake : Intake) → Serves core intake engine → HasEnded core intake ended
+
+-- Whatever service has come to the one has come to the other.
+abbrev pub StaysEnded : Ended → Ended → Type 0
+StaysEnded old new =
+    (core : Core) (intake : Intake) → HasEnded core intake old → HasEnded core intake new

@@ -1,0 +1,4 @@
+pub mod Over
+pub mod Told
+pub mod Accounts
+pub mod Ending

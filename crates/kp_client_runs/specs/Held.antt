@@ -1,0 +1,17 @@
+-- A producer that was opened, used and settled.
+use Rattle.std.specs.Prelude.{List}
+use Rattle.std.specs.declared.net.socket_addr.SocketAddr.{SocketAddr}
+use Rattle.kp_client.specs.Opening.{Begins}
+use Rattle.kp_client.specs.declared.left.Left.{Left}
+use Rattle.kp_client.specs.declared.service.Service.{Service}
+use Rattle.kp_client.specs.declared.settings.Settings.{Settings}
+use Rattle.kp_client_laws.specs.Over.{IsOver}
+use Rattle.kp_lanes.specs.declared.sender.Finished.{Finished}
+
+-- Its service began so, and is over: the laws of any service speak of it.
+pub record WasHeld (address : SocketAddr) (settings : Settings) : Type 0 where
+  pub service : Service
+  pub begins : Begins address settings service
+  pub finished : List Finished
+  pub left : Left
+  pub over : IsOver service finished left
