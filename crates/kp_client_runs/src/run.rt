@@ -15,6 +15,8 @@ pub(crate) enum Run {
     Faults,
     /// How long a sender waits for room and for a report.
     Waits,
+    /// A sender that waits while its producer is closed.
+    Closes,
     /// A record, and how long new connections are waited for.
     Again,
     /// So many records, so many milliseconds apart, and how long it took until each was told of.
@@ -43,6 +45,7 @@ impl<'a> Line<'a> {
             "twice" => planned(Run::Twice),
             "faults" => planned(Run::Faults),
             "waits" => planned(Run::Waits),
+            "closes" => planned(Run::Closes),
             "again" => planned(Run::Again),
             "latency" => {
                 let (records, apart) = rest.split_once(' ')?;

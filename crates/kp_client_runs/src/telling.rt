@@ -5,7 +5,7 @@ use crate::example::publish;
 use crate::job::{Heard, Job, record};
 use crate::run::Run;
 use crate::session::{Came, hold};
-use crate::waiting::{tell_again, tell_waits};
+use crate::waiting::{tell_again, tell_closes, tell_waits};
 use crate::wrong::Wrong;
 use kp_client::{Policy, Settings, open};
 use kp_core::Outcome;
@@ -142,6 +142,7 @@ where
         }
         Run::Faults => tell_faults(rt, address),
         Run::Waits => tell_waits(rt, address),
+        Run::Closes => tell_closes(rt, address),
         Run::Again => tell_again(rt, address, one),
         Run::Latency { records, apart } => tell_latency(
             rt,

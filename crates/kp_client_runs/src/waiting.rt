@@ -11,7 +11,7 @@ use std::io;
 use std::net::{Net, SocketAddr, TcpListener, TcpStream};
 use std::random::RandomSource;
 use std::sync::Wait;
-use std::thread::Threads;
+use std::thread::{self, Threads};
 use std::time::{Clock, Duration, Instant};
 
 /// How long a call is to wait, in milliseconds.
@@ -60,6 +60,39 @@ where
     for producer in &mut producers {
         tell_sender(rt, producer)?;
     }
+    Ok(())
+}
+
+/// Prints whether a sender that waits for a report is told that its service has ended, which was closed.
+pub(crate) fn tell_closes<R>(rt: &R, address: SocketAddr) -> Result<(), Wrong>
+where
+    R: Wait + Threads + Clock + RandomSource + AllocGlobal + Sync + Print,
+    R: Net<Listener = TcpListener, Stream = TcpStream>,
+{
+    let Opened {
+        mut producers,
+        mut closer,
+        service,
+    } = open(rt, address, settings(rt.alloc())?)?;
+    let Some(producer) = producers.first_mut() else {
+        return Ok(());
+    };
+    let longest = Duration::from_millis(LONGEST);
+    let begun = Instant::now(rt)?;
+    let (report, ended) = thread::join(
+        rt,
+        || producer.wait_report(rt, longest),
+        move || {
+            closer.close();
+            service.run(rt)
+        },
+    );
+    let early = begun.elapsed(rt)? < longest;
+    println!(rt;
+        "{:?}, no report: {}, before its time: {early}",
+        ended?.ending(),
+        report.is_none()
+    )?;
     Ok(())
 }
 
