@@ -1,7 +1,7 @@
 -- What was handed over is what was accepted, but for what was told unsent and what comes back.
-use Rattle.std.proofs.Common.{◌≡◌, ◌≢◌, ℕ, zero, suc, ◌+◌, ◌<◌, Bool, true, false, List, [], ◌∷◌, ◌++◌, map, length, get_or, refl, sym, ap, ◌∙◌, subst, ⊎_elim, eq-eqb, ne_eqb, append_assoc, arith, sum_by}
-use Rattle.std.specs.Prelude.{All, filter, flat_map, drop, not, option_to_list, slice_index, slice_index_or, replicate, ◌==◌, ◌&&◌, ◌||◌, if◌then◌else◌}
-use Rattle.std.specs.List.{AllByRecursion, list_any}
+use Rattle.std.proofs.Common.{◌≡◌, ◌≢◌, ℕ, zero, suc, ◌<◌, Bool, true, false, List, [], ◌∷◌, ◌++◌, map, length, refl, sym, ap, ◌∙◌, subst, ⊎_elim, eq-eqb, ne_eqb, append_assoc, arith, sum_by}
+use Rattle.std.specs.Prelude.{filter, flat_map, drop, not, option_to_list, slice_index, slice_index_or, replicate, ◌==◌, ◌&&◌, ◌||◌, if◌then◌else◌}
+use Rattle.std.specs.List.{AllByRecursion}
 use Rattle.std.proofs.Math.Seq.{drop-append_seam}
 use Rattle.std.proofs.lemmas.Bool.{cases_eq}
 use Rattle.std.proofs.lemmas.List.{length-replicate}
@@ -11,10 +11,8 @@ use Rattle.kp_accum.specs.declared.item.Item.{Item}
 use Rattle.kp_client.specs.Ends.{Looks, WasServed, WasUnserved}
 use Rattle.kp_client.specs.Left.{parts_in, items_left, rings_left}
 use Rattle.kp_client.specs.Service.{core_of, intake_of}
-use Rattle.kp_client.specs.declared.left.Left.{Left}
 use Rattle.kp_client_laws.specs.Accounts.{AreAccountedFor, is_unsent_by, was_sent}
-use Rattle.kp_client_laws.specs.Over.{IsOver, opening_of}
-use Rattle.kp_client_laws.specs.Told.{all_reports}
+use Rattle.kp_client_laws.specs.Over.{opening_of}
 use Rattle.kp_client_laws.proofs.OverLemmas.{Whatever, after_service, have, looks_since, polls}
 use Rattle.kp_client_laws.proofs.ReportLemmas.{are_reported}
 use Rattle.kp_client_laws.proofs.StandLemmas.{still_accepted}
@@ -31,19 +29,17 @@ use Rattle.kp_engine.proofs.MadeLemmas.{has_served}
 use Rattle.kp_engine.proofs.PartsLemmas.{items_held}
 use Rattle.kp_engine.proofs.RunLemmas.{nothing_lived}
 use Rattle.kp_headline.specs.Laws.{calls_in}
-use Rattle.kp_headline.specs.Moves.{Move, led}
+use Rattle.kp_headline.specs.Moves.{led}
 use Rattle.kp_headline.specs.Offering.{having_accepted}
 use Rattle.kp_headline.specs.Outside.{State, known}
 use Rattle.kp_headline.proofs.LawLemmas as law
 use Rattle.kp_headline.proofs.LifeLemmas.{leads_to}
 use Rattle.kp_lanes.specs.Entries.{items_of}
 use Rattle.kp_lanes.specs.Intake.{lanes_of, passed_lists, taken_of}
-use Rattle.kp_lanes.specs.Limits.{AreInPlace}
 use Rattle.kp_lanes.specs.Sender.{all_accepted, finished_number}
 use Rattle.kp_lanes.specs.Settling.{Adds, left_items}
 use Rattle.kp_lanes.specs.declared.intake.Intake.{Intake}
 use Rattle.kp_lanes.specs.declared.sender.Finished.{Finished}
-use Rattle.kp_log.proofs.PlaceLemmas.{In, In-head, In-tail}
 use Rattle.kp_polls.proofs.AroundLemmas.{leads}
 use Rattle.kp_rules.specs.Auditing.{opened, unaudited, without_audits}
 use Rattle.kp_rules.specs.Calls.{Call, Life, Lives, appended_by}

@@ -1,10 +1,10 @@
 -- What the end of a service says of it.
-use Rattle.std.proofs.Common.{◌≡◌, ℕ, List, [], ◌++◌, length, refl, sym, ap, ◌∙◌, ⊎_elim}
-use Rattle.std.specs.Prelude.{All, drop, slice_index_or}
+use Rattle.std.proofs.Common.{◌≡◌, ℕ, List, [], ◌++◌, length, sym, ap, ◌∙◌, ⊎_elim}
+use Rattle.std.specs.Prelude.{drop, slice_index_or}
 use Rattle.std.proofs.Math.Seq.{drop-append_seam}
 use Rattle.kp_accum.specs.declared.item.Item.{Item}
 use Rattle.kp_client.specs.Ends.{WasServed, WasUnserved}
-use Rattle.kp_client.specs.Left.{ending_of, parts_in, items_left, reports_left, IsSettled}
+use Rattle.kp_client.specs.Left.{ending_of, parts_in, IsSettled}
 use Rattle.kp_client.specs.Service.{core_of, intake_of}
 use Rattle.kp_client.specs.declared.left.Ending.TheVariants.{Done}
 use Rattle.kp_client.specs.declared.left.Left.{Left}

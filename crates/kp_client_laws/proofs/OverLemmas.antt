@@ -1,9 +1,9 @@
 -- What holds after any moves holds after any service.
 use Rattle.std.proofs.Common.{◌≡◌, ℕ, zero, suc, ◌<◌, true, false, List, [], ◌∷◌, ◌++◌, length, map, refl, sym, ap, ◌∙◌, subst, ⊎_elim, eq-eqb, ne_eqb, arith}
-use Rattle.std.specs.Prelude.{All, slice_index_or, ◌==◌, if◌then◌else◌}
-use Rattle.std.specs.List.{range_with_len}
+use Rattle.std.specs.Prelude.{All, slice_index_or, ◌==◌}
 use Rattle.std.proofs.lemmas.List.{length-map}
 use Rattle.std.proofs.lemmas.List.FromFn.{get_or-map-range_with_len, length-map-range_with_len}
+use mathlib.Core.List.{IsPrefix}
 use Rattle.kp_accum.specs.declared.item.Item.{Item}
 use Rattle.kp_client.specs.Ends.{Looks, WasServed, WasUnserved}
 use Rattle.kp_client.specs.Left.{parts_in, rings_left}
@@ -16,21 +16,21 @@ use Rattle.kp_engine.specs.Agreement.{Serves}
 use Rattle.kp_engine.specs.Engine.{IsNew}
 use Rattle.kp_engine.specs.Made.{anything}
 use Rattle.kp_engine.specs.Opening.{MayTurn}
-use Rattle.kp_engine.specs.declared.exchange.Exchange.{Exchange}
 use Rattle.kp_engine.specs.declared.parts.Parts.{Parts}
 use Rattle.kp_engine.proofs.FreshLemmas.{fresh_agrees}
-use Rattle.kp_headline.specs.Assumptions.{IsHonest, IsNotMadeUp, IsInTurn, KeepsIdsApart, Assumed}
+use Rattle.kp_headline.specs.Assumptions.{IsHonest, IsNotMadeUp, IsInTurn, KeepsIdsApart}
 use Rattle.kp_headline.specs.Laws.{AfterAnyMoves, calls_in}
 use Rattle.kp_headline.specs.Moves.{Move, Accepting, Calling, Meeting, Drawing, Others, IsMove, AreMoves, Throughout, after, led}
 use Rattle.kp_headline.specs.Offering.{AllOffered, MayComeFirst, accepting, having_accepted}
 use Rattle.kp_headline.specs.Outside.{State, new_state}
 use Rattle.kp_headline.proofs.OfferingLemmas.{led_further, may_come_first, throughout_further}
 use Rattle.kp_lanes.specs.Intake.{intake_limits, lanes_of}
-use Rattle.kp_lanes.specs.Sender.{all_accepted, finished_number}
+use Rattle.kp_lanes.specs.Sender.{all_entered, all_accepted, finished_number}
 use Rattle.kp_lanes.specs.Lane.{LaneId}
-use Rattle.kp_lanes.specs.Settling.{Adds, Differ, EachOnce, IsInPlace, IsOf, left_items, numbers}
+use Rattle.kp_lanes.specs.Settling.{Differ, EachOnce, IsInPlace, IsOf, left_items, numbers}
 use Rattle.kp_lanes.specs.declared.intake.Intake.{Intake}
 use Rattle.kp_lanes.specs.declared.limits.Limits.{Limits}
+use Rattle.kp_lanes.specs.declared.entry.Entry.{Entry}
 use Rattle.kp_lanes.specs.declared.sender.Finished.{Finished}
 use Rattle.kp_polls.specs.Around.{Around, AssumedAround}
 use Rattle.kp_polls.specs.Polling.{HaveAccepted, Polling}
@@ -101,6 +101,7 @@ module _ (service : Service) (finished : List Finished) (left : Left) (accepted 
     adds = λ k d near.
         let f : Finished = slice_index_or finished k d in
         let both = over.settled.adds k d near in record {
+          entries = subst (λ (ls : List (List Entry)). IsPrefix (slice_index_or ls (finished_number f) []) (all_entered f)) looks.passed both.entries;
           items = both.items ∙ ap (λ (ls : List (List Item)). slice_index_or ls (finished_number f) [] ++ slice_index_or (left_items left.items.items) (finished_number f) []) looks.taken;
           reports = sym (ap (λ (ls : List (List Report)). slice_index_or ls (finished_number f) []) looks.told) ∙ both.reports;
         };

@@ -1,20 +1,18 @@
 -- A sender's reports are of all that was told of its records.
 use Rattle.std.proofs.Common.{◌≡◌, ℕ, ◌<◌, List, [], ◌∷◌, ◌++◌, length, get_or, refl, sym, ap, ◌∙◌, subst, ⊎_elim, arith}
-use Rattle.std.specs.Prelude.{All, slice_index_or, option_to_list}
-use Rattle.kp_accum.specs.declared.item.Item.{Item}
+use Rattle.std.specs.Prelude.{slice_index_or, option_to_list}
 use Rattle.kp_client.specs.Ends.{Looks, WasServed, WasUnserved}
-use Rattle.kp_client.specs.Left.{parts_in, reports_left, rings_left}
+use Rattle.kp_client.specs.Left.{parts_in, rings_left}
 use Rattle.kp_client.specs.Service.{core_of, intake_of}
 use Rattle.kp_client.specs.declared.left.Left.{Left}
-use Rattle.kp_client.specs.declared.service.Service.{Service}
-use Rattle.kp_client_laws.specs.Over.{IsOver, opening_of}
+use Rattle.kp_client_laws.specs.Over.{opening_of}
 use Rattle.kp_client_laws.specs.Told.{AreReported, all_reports}
 use Rattle.kp_client_laws.proofs.OverLemmas.{Whatever, have, looks_since, polls}
 use Rattle.kp_engine.specs.Agreement.{waiting_of}
 use Rattle.kp_engine.specs.Made.{anything}
 use Rattle.kp_engine.specs.Exchange.{mail_of, senders_of}
 use Rattle.kp_engine.specs.Parts.{to_sender}
-use Rattle.kp_engine.specs.Serving.{HasServed, reports_of}
+use Rattle.kp_engine.specs.Serving.{HasServed}
 use Rattle.kp_engine.specs.declared.exchange.Exchange.{Exchange}
 use Rattle.kp_engine.specs.declared.parts.Held.{Held}
 use Rattle.kp_engine.specs.declared.parts.Parts.{Parts}
@@ -23,19 +21,14 @@ use Rattle.kp_engine.proofs.FreshLemmas.{fresh_reports, nothing_at}
 use Rattle.kp_engine.proofs.MadeLemmas.{has_served}
 use Rattle.kp_engine.proofs.PartsLemmas.{reports_held}
 use Rattle.kp_engine.proofs.RunLemmas.{nothing_lived}
-use Rattle.kp_headline.specs.Laws.{LeadTo, calls_in}
-use Rattle.kp_headline.specs.Moves.{Move, led}
+use Rattle.kp_headline.specs.Moves.{led}
 use Rattle.kp_headline.specs.Offering.{having_accepted}
 use Rattle.kp_headline.specs.Outside.{State}
 use Rattle.kp_headline.proofs.LifeLemmas.{leads_to}
 use Rattle.kp_lanes.specs.Intake.{lanes_of, told_lists, told_of}
 use Rattle.kp_lanes.specs.Sender.{all_got, finished_number}
-use Rattle.kp_lanes.specs.Settling.{Adds, IsOf, left_reports}
-use Rattle.kp_lanes.specs.declared.intake.Intake.{Intake}
+use Rattle.kp_lanes.specs.Settling.{Adds, left_reports}
 use Rattle.kp_lanes.specs.declared.sender.Finished.{Finished}
-use Rattle.kp_polls.specs.Around.{Around, AssumedAround}
-use Rattle.kp_polls.specs.Polling as polling
-use Rattle.kp_polls.specs.Settled.{HadAccepted}
 use Rattle.kp_polls.proofs.AroundLemmas.{now_senders, reported}
 use Rattle.kp_rules.specs.Calls.{Call, Life, Lives}
 use Rattle.kp_rules.specs.Records.{Core}

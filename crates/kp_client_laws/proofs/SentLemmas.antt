@@ -1,26 +1,23 @@
 -- Each record of a log is one that a sender had accepted, and that was sent.
-use Rattle.std.proofs.Common.{◌≡◌, ℕ, ◌+◌, ◌<◌, ◌≤◌, Bool, true, false, List, [], ◌∷◌, ◌++◌, map, length, refl, sym, ap, ◌∙◌, subst, ⊎_elim, eq-eqb, ne_eqb, arith, Contains}
-use Rattle.std.specs.Prelude.{All, Some, filter, slice_get, slice_index_or, ◌==◌, ◌≢◌, if◌then◌else◌}
-use Rattle.std.specs.List.{range_with_len}
+use Rattle.std.proofs.Common.{◌≡◌, ℕ, ◌<◌, ◌≤◌, Bool, true, false, List, [], ◌∷◌, refl, sym, subst, ⊎_elim, eq-eqb, ne_eqb, arith, Contains}
+use Rattle.std.specs.Prelude.{filter, slice_index_or, ◌==◌, ◌≢◌, if◌then◌else◌}
 use Rattle.std.proofs.lemmas.Bool.{cases_eq, cases_lt}
 use Rattle.std.proofs.lemmas.List.{get_or_past}
 use Rattle.std.proofs.lemmas.List.FromFn.{get_or-map-range_with_len, length-map-range_with_len}
 use Rattle.std.proofs.lemmas.Option.{get_or_from_slice_get, slice_get_within}
 use Rattle.kp_accum.specs.declared.item.Item.{Item}
-use Rattle.kp_client.specs.declared.left.Left.{Left}
 use Rattle.kp_client.specs.declared.service.Service.{Service}
-use Rattle.kp_client_laws.specs.Accounts.{WasSent, WereSent, was_sent}
-use Rattle.kp_client_laws.specs.Over.{AfterAnyService, IsOver, accepted_in, accepted_of, begin, opening_of}
+use Rattle.kp_client_laws.specs.Accounts.{WereSent, was_sent}
+use Rattle.kp_client_laws.specs.Over.{AfterAnyService, accepted_in, accepted_of, begin, opening_of}
 use Rattle.kp_client_laws.proofs.AccountLemmas.{accounts}
 use Rattle.kp_client_laws.proofs.OverLemmas.{after_service, had_accepted, of_whatever}
 use Rattle.kp_client_laws.proofs.StandLemmas.{still_accepted}
 use Rattle.kp_client_laws.specs.Accounts.{AreAccountedFor}
-use Rattle.kp_headline.specs.Moves.{Move, led}
+use Rattle.kp_headline.specs.Moves.{led}
 use Rattle.kp_headline.specs.Outside.{State, known}
 use Rattle.kp_headline.proofs.LawLemmas as law
 use Rattle.kp_lanes.specs.Sender.{all_accepted, finished_number}
 use Rattle.kp_lanes.specs.declared.sender.Finished.{Finished}
-use Rattle.kp_log.specs.declared.stored.Stored.{Stored}
 use Rattle.kp_log.proofs.PlaceLemmas.{In, In-filter, In-from_contains, In-nil, contains_from_In}
 use Rattle.kp_polls.specs.Settled.{HadAccepted}
 use Rattle.kp_rules.proofs.ListLemmas.{contains_head, contains_tail}

@@ -1,10 +1,9 @@
 -- What a sender is told to be delivered stands where it is told.
-use Rattle.std.proofs.Common.{◌≡◌, ℕ, ◌+◌, ◌<◌, ◌≤◌, Bool, true, false, List, [], ◌∷◌, ◌++◌, map, length, refl, sym, ap, ◌∙◌, subst, ⊎_elim, inl, inr, eq-eqb, arith, Contains}
-use Rattle.std.specs.Prelude.{All, ℤ, Some, None, Ok, Err, filter, slice_index_or, ◌==◌, if◌then◌else◌, ◌⊎◌}
+use Rattle.std.proofs.Common.{◌≡◌, ℕ, ◌+◌, ◌<◌, Bool, true, List, [], ◌∷◌, ◌++◌, map, refl, sym, ap, ◌∙◌, subst, ⊎_elim, eq-eqb, arith, Contains}
+use Rattle.std.specs.Prelude.{ℤ, Some, None, Ok, Err, filter, slice_index_or, ◌==◌, if◌then◌else◌}
 use Rattle.kp_accum.specs.declared.item.Item.{Item}
-use Rattle.kp_client.specs.declared.left.Left.{Left}
-use Rattle.kp_client_laws.specs.Over.{IsOver, opening_of}
-use Rattle.kp_client_laws.specs.Told.{DeliveredStand, StandsAsTold, all_reports}
+use Rattle.kp_client_laws.specs.Over.{opening_of}
+use Rattle.kp_client_laws.specs.Told.{DeliveredStand}
 use Rattle.kp_client_laws.proofs.OverLemmas.{Whatever, after_service}
 use Rattle.kp_client_laws.proofs.ReportLemmas.{are_reported}
 use Rattle.kp_headline.specs.Laws.{AfterAnyMoves}

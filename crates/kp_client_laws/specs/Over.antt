@@ -1,5 +1,5 @@
 -- A service that has run to its end and was settled, and what brokers and the network did around the calls on its core.
-use Rattle.std.specs.Prelude.{◌≡◌, ℕ, List, [], ◌∷◌, length, map, ◌==◌, if◌then◌else◌}
+use Rattle.std.specs.Prelude.{ℕ, List, [], ◌∷◌, length, map, ◌==◌, if◌then◌else◌}
 use Rattle.std.specs.List.{range_with_len}
 use Rattle.kp_accum.specs.declared.item.Item.{Item}
 use Rattle.kp_client.specs.Ends.{HasEnded}

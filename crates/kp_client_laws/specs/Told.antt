@@ -1,5 +1,5 @@
 -- What senders are told: the reports that they received, and those that come back when the service is settled.
-use Rattle.std.specs.Prelude.{◌≡◌, ℕ, ℤ, List, ◌++◌, All, Contains}
+use Rattle.std.specs.Prelude.{◌≡◌, ℤ, List, ◌++◌, All, Contains}
 use Rattle.kp_accum.specs.declared.item.Item.{Item}
 use Rattle.kp_client.specs.Left.{reports_left}
 use Rattle.kp_client.specs.declared.left.Left.{Left}

@@ -1,12 +1,12 @@
 -- What one more entry changes.
-use Rattle.std.proofs.Common.{◌≡◌, ℕ, zero, suc, ◌+◌, ◌<◌, ◌≤◌, Bool, true, false, List, [], ◌∷◌, ◌++◌, length, length-append, drop, get_or, set, length-set, get_or-set_same, get_or-set_other, append_assoc, eq-eqb, ne_eqb, sym, refl, ap, ◌∙◌, ◌⊎◌, ⊎_elim, inl, inr, subst, arith}
+use Rattle.std.proofs.Common.{◌≡◌, ℕ, zero, suc, ◌+◌, ◌<◌, ◌≤◌, Bool, true, false, List, [], ◌∷◌, ◌++◌, length, length-append, length-take-le, take, take-append-drop, drop, get_or, set, length-set, get_or-set_same, get_or-set_other, append_assoc, eq-eqb, ne_eqb, sym, refl, ap, ◌∙◌, ◌⊎◌, ⊎_elim, inl, inr, subst, arith}
 use Rattle.std.specs.Prelude.{if◌then◌else◌, ◌==◌, Result, Ok, Err, OnOk, IfErr}
 use Rattle.std.proofs.lemmas.List.{drop-append-le}
 use mathlib.Core.List.{IsPrefix}
 use mathlib.Core.Logic.{dite}
 use native.Mathlib.Decide.{ℕ_discrete}
 use Rattle.kp_accum.specs.declared.item.Item.{Item}
-use Rattle.kp_lanes.specs.Entries.{items_of, has_mark, one_of, count_of, Counted, IsNext, MarksFollow}
+use Rattle.kp_lanes.specs.Entries.{items_of, has_mark, one_of, count_of, Counted, IsNext, MarksFollow, TookMark}
 use Rattle.kp_lanes.specs.Limits.{AreInPlace, Meets}
 use Rattle.kp_lanes.specs.Port.{HasNothing}
 use Rattle.kp_lanes.specs.declared.limits.Limits.{Limits}
@@ -28,8 +28,41 @@ items_append [] fs = refl
 items_append (Sent y ∷ es) fs = ap (λ l. y ∷ l) (items_append es fs)
 items_append (Mark ∷ es) fs = items_append es fs
 
+-- of two lists that begin another, the shorter begins the longer
+shorter_first : (a b s t : List Entry) → a ++ s ≡ b ++ t → length a ≤ length b → IsPrefix a b
+shorter_first [] b s t e few = (b, refl)
+shorter_first (x ∷ a) [] s t e few = absurd (omega arith)
+shorter_first (x ∷ a) (y ∷ b) s t e few =
+    let same : x ≡ y = cc in let rest : a ++ s ≡ b ++ t = cc in let more = shorter_first a b s t rest (omega arith) in
+    (more.0, (λ i. same i ∷ more.1 i))
+
+items_begin : (a b : List Entry) → IsPrefix a b → IsPrefix (items_of a) (items_of b)
+items_begin a b p = (items_of p.0, sym (items_append a p.0) ∙ ap items_of p.1)
+
 pub marks_follow : MarksFollow
-marks_follow passed before behind is = (items_of (Mark ∷ behind), sym (ap items_of is ∙ items_append before (Mark ∷ behind)))
+marks_follow entered passed before behind begins is few = items_begin before passed (shorter_first before passed (Mark ∷ behind) begins.0 (sym is ∙ sym begins.1) (omega arith))
+
+-- where there is a mark
+mark_at : (es : List Entry) → has_mark es ≡ true → (before behind : List Entry) × (es ≡ before ++ Mark ∷ behind)
+mark_at [] e = absurd cc
+mark_at (Sent x ∷ es) e = let (before, behind, is) = mark_at es e in (Sent x ∷ before, behind, ap (λ l. Sent x ∷ l) is)
+mark_at (Mark ∷ es) e = ([], es, refl)
+
+pub took_mark : (since : ℕ) (passed : List Entry) → since ≤ length passed → has_mark (drop since passed) ≡ true → TookMark since passed
+took_mark since passed few marked entered begins =
+    let (mid, behind, is) = mark_at (drop since passed) marked in
+    let all : passed ≡ (take since passed ++ mid) ++ Mark ∷ behind =
+    sym (take-append-drop since passed) ∙ ap (λ l. take since passed ++ l) is ∙ sym (append_assoc (take since passed) mid (Mark ∷ behind)) in
+    let before = take since passed ++ mid in
+    let size = length-append (take since passed) mid in let front = length-take-le since passed few in
+    let whole = ap length all in let parts = length-append before (Mark ∷ behind) in (
+      before,
+      behind ++ begins.0,
+      sym begins.1 ∙ ap (λ l. l ++ begins.0) all ∙ append_assoc before (Mark ∷ behind) begins.0,
+      omega arith,
+      omega arith,
+      items_begin before passed (Mark ∷ behind, sym all),
+    )
 
 pub first : (y e : Entry) (zs rest : List Entry) → IsPrefix (y ∷ []) zs → zs ≡ e ∷ rest → e ≡ y
 first y e zs rest p q = sym (ap (λ l. get_or l 0 y) (p.1 ∙ q))

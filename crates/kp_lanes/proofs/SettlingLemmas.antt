@@ -17,8 +17,10 @@ use Rattle.kp_lanes.specs.Rings.{RingId}
 use Rattle.kp_lanes.specs.Intake.{common_of, intake_limits, lanes_of}
 use Rattle.kp_lanes.specs.Lane.{LaneId}
 use Rattle.kp_lanes.specs.Limits.{AreInPlace}
-use Rattle.kp_lanes.specs.Port.{Common, port_id, taken, told}
-use Rattle.kp_lanes.specs.Sender.{finished_id, all_accepted, all_got}
+use mathlib.Core.List.{IsPrefix}
+use Rattle.kp_lanes.specs.declared.entry.Entry.{Entry}
+use Rattle.kp_lanes.specs.Port.{Common, port_id, passed, taken, told}
+use Rattle.kp_lanes.specs.Sender.{finished_id, all_entered, all_accepted, all_got}
 use Rattle.kp_lanes.specs.Sender.{finished_number}
 use Rattle.kp_lanes.specs.Settling.{IsInPlace, numbers, port_rings, finished_rings, left_items, left_reports, Differ, MeetAt, RingsMeet, HasRooms, AddsAt, IsOf, Placed, SamePorts, SameFinished}
 use Rattle.kp_lanes.proofs.EachLemmas.{same_default, here, here_set, else_set}
@@ -155,15 +157,19 @@ module _ (ps ps' : List Port) (fs fs' : List Finished) (sp : SamePorts ps ps') (
   moved_adds s j new = (
     subst (λ (z : List (List Item) × List (List Item) × List ℕ). get_or z.0 j [] ≡ get_or z.1 (get_or z.2 j 0) [] ++ get_or (left_items s.left.items) (get_or z.2 j 0) []) (λ i. (sf.accepted i, sp.taken i, sf.numbers i)) new.0,
     subst (λ (z : List (List Report) × List (List Report) × List ℕ). get_or z.0 (get_or z.2 j 0) [] ≡ get_or z.1 j [] ++ get_or (left_reports s.reports.items) (get_or z.2 j 0) []) (λ i. (sp.told i, sf.got i, sf.numbers i)) new.1,
+    subst (λ (z : List (List Entry) × List (List Entry) × List ℕ). IsPrefix (get_or z.0 (get_or z.2 j 0) []) (get_or z.1 j [])) (λ i. (sp.passed i, sf.entered i, sf.numbers i)) new.2,
   )
 
   pub adds : (s : Settled) (k : ℕ) (f : Finished) → k < length fs → f ≡ get_or fs k f → AddsAt ps' fs' s k
       → (all_accepted f ≡ get_or (map taken ps) f.outbox.sender [] ++ get_or (left_items s.left.items) f.outbox.sender []) × (get_or (map told ps) f.outbox.sender [] ≡ all_got f ++ get_or (left_reports s.reports.items) f.outbox.sender [])
+      × IsPrefix (get_or (map passed ps) f.outbox.sender []) (all_entered f)
   adds s k f below is new =
       let old = moved_adds s k new in let number : get_or (numbers fs) k 0 ≡ f.outbox.sender = here finished_number fs k f 0 below is in
+      let e : get_or (map all_entered fs) k [] ≡ all_entered f = here all_entered fs k f [] below is in
       let a : get_or (map all_accepted fs) k [] ≡ all_accepted f = here all_accepted fs k f [] below is in let g : get_or (map all_got fs) k [] ≡ all_got f = here all_got fs k f [] below is in (
         subst (λ (z : List Item × ℕ). z.0 ≡ get_or (map taken ps) z.1 [] ++ get_or (left_items s.left.items) z.1 []) (λ i. (a i, number i)) old.0,
         subst (λ (z : List Report × ℕ). get_or (map told ps) z.1 [] ≡ z.0 ++ get_or (left_reports s.reports.items) z.1 []) (λ i. (g i, number i)) old.1,
+        subst (λ (z : List Entry × ℕ). IsPrefix (get_or (map passed ps) z.1 []) z.0) (λ i. (e i, number i)) old.2,
       )
 
 pub ports_more : {old mid new : List Port} → SamePorts mid new → SamePorts old mid → SamePorts old new
@@ -181,6 +187,7 @@ finished_more later sooner = record {
   numbers = later.numbers ∙ sooner.numbers;
   ids = later.ids ∙ sooner.ids;
   rings = later.rings ∙ sooner.rings;
+  entered = later.entered ∙ sooner.entered;
   accepted = later.accepted ∙ sooner.accepted;
   got = later.got ∙ sooner.got;
 }

@@ -1,5 +1,5 @@
 -- The entries of a lane: items, and marks between them.
-use Rattle.std.specs.Prelude.{◌≡◌, ℕ, ◌+◌, ◌<◌, ◌==◌, Bool, true, false, List, [], ◌∷◌, ◌++◌, length, slice_index_or, Option, Some, None, if◌then◌else◌}
+use Rattle.std.specs.Prelude.{◌≡◌, ℕ, ◌+◌, ◌<◌, ◌≤◌, ◌==◌, Bool, true, false, List, [], ◌∷◌, ◌++◌, length, slice_index_or, Option, Some, None, if◌then◌else◌}
 use mathlib.Core.List.{IsPrefix}
 use Rattle.kp_batch.specs.declared.record.Record.{Record}
 use Rattle.kp_accum.specs.declared.item.Item.{Item}
@@ -40,9 +40,20 @@ MayFollow before Mark = Unit {0}
 abbrev pub Counted : List ℕ → List Entry → Type 0
 Counted next es = (p : ℕ) → p < length next → slice_index_or next p 0 ≡ count_of p (items_of es)
 
--- the items that stand before a mark are the first of all
+-- Whatever was put into a lane, of which what was taken out is a beginning: a mark of it was taken since there were so many, and
+-- all items that stand before this mark.
+abbrev pub TookMark : ℕ → List Entry → Type 0
+TookMark since passed =
+    (entered : List Entry) → IsPrefix passed entered
+    → (before behind : List Entry) × (entered ≡ before ++ Mark ∷ behind) × (since ≤ length before) × (length before < length passed)
+    × IsPrefix (items_of before) (items_of passed)
+
+-- Where what was taken out of a lane is a beginning of what was put into it, and is longer than what stands before a mark, it
+-- has all items that stand before the mark.
 abbrev pub MarksFollow : Type 0
-MarksFollow = (passed before behind : List Entry) → passed ≡ before ++ Mark ∷ behind → IsPrefix (items_of before) (items_of passed)
+MarksFollow =
+    (entered passed before behind : List Entry) → IsPrefix passed entered → entered ≡ before ++ Mark ∷ behind
+    → length before < length passed → IsPrefix (items_of before) (items_of passed)
 
 -- the record of an item that was sent
 abbrev pub body_of : Entry → Option Record

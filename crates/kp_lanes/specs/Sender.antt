@@ -102,5 +102,9 @@ finished_id f = lane_id f.outbox.limits f.outbox.lane (pop_end f.reports)
 abbrev pub all_accepted : Finished → List Item
 all_accepted f = accepted_in f.outbox.lane
 
+-- what it had put into its lane: the items that it had accepted, and marks
+abbrev pub all_entered : Finished → List Entry
+all_entered f = pushed f.outbox.lane
+
 abbrev pub all_got : Finished → List Report
 all_got f = received f.reports

@@ -1,15 +1,16 @@
 -- What a contract sees when both ends of each ring come together.
 use Rattle.std.specs.Prelude.{◌≡◌, ◌≢◌, ℕ, ◌+◌, ◌<◌, ◌≤◌, List, [], ◌++◌, map, length, slice_index_or, vec_capacity}
+use mathlib.Core.List.{IsPrefix}
 use Rattle.std.specs.declared.alloc.Global.{Global}
 use Rattle.std.specs.declared.vec.Vec.{Vec}
 use Rattle.kp_accum.specs.declared.item.Item.{Item}
 use Rattle.kp_rules.specs.declared.outcome.Report.{Report}
-use Rattle.kp_lanes.specs.Intake.{taken_of, told_of}
+use Rattle.kp_lanes.specs.Intake.{passed_of, taken_of, told_of}
 use Rattle.kp_lanes.specs.Lane.{LaneId}
 use Rattle.kp_lanes.specs.Limits.{AreInPlace}
 use Rattle.kp_lanes.specs.Port.{Common, port_id, passed, taken, told, asked_at}
 use Rattle.kp_lanes.specs.Rings.{RingId, push_end, pop_end}
-use Rattle.kp_lanes.specs.Sender.{finished_number, finished_id, all_accepted, all_got}
+use Rattle.kp_lanes.specs.Sender.{finished_number, finished_id, all_entered, all_accepted, all_got}
 use Rattle.kp_lanes.specs.declared.intake.Intake.{Intake}
 use Rattle.kp_lanes.specs.declared.intake.port.Port.{Port}
 use Rattle.kp_lanes.specs.declared.limits.Limits.{Limits}
@@ -41,8 +42,10 @@ left_items vs = map (λ v. v.items) vs
 abbrev pub left_reports : List (Vec Report Global) → List (List Report)
 left_reports vs = map (λ v. v.items) vs
 
--- what a sender had accepted was taken or is left, and what was handed over to it was received or is left
+-- What a sender had accepted was taken or is left, and what was handed over to it was received or is left. What was taken out
+-- of its lane, items and marks, is a beginning of what it had put in.
 pub record Adds (t : Intake) (s : Settled) (f : Finished) : Type 0 where
+  pub entries : IsPrefix (passed_of t (finished_number f)) (all_entered f)
   pub items : all_accepted f ≡ taken_of t (finished_number f) ++ slice_index_or (left_items s.left.items) (finished_number f) []
   pub reports : told_of t (finished_number f) ≡ all_got f ++ slice_index_or (left_reports s.reports.items) (finished_number f) []
 
@@ -86,6 +89,7 @@ pub record SameFinished (old new : List Finished) : Type 0 where
   pub numbers : map finished_number new ≡ map finished_number old
   pub ids : map finished_id new ≡ map finished_id old
   pub rings : map finished_rings new ≡ map finished_rings old
+  pub entered : map all_entered new ≡ map all_entered old
   pub accepted : map all_accepted new ≡ map all_accepted old
   pub got : map all_got new ≡ map all_got old
 
@@ -104,8 +108,10 @@ module _ (ps : List Port) (fs : List Finished) (s : Settled) where
     pub items : (j : ℕ) → j < n → length (slice_index_or (map all_accepted fs) j []) ≤ length (slice_index_or (map taken ps) (number_at j) []) + slice_index_or (map vec_capacity s.left.items) (number_at j) 0
     pub reports : (j : ℕ) → j < n → length (slice_index_or (map told ps) (number_at j) []) ≤ length (slice_index_or (map all_got fs) j []) + slice_index_or (map vec_capacity s.reports.items) (number_at j) 0
 
-  -- what the sender at place j had accepted was taken or is left, and what was handed over to it was received or is left
+  -- What the sender at place j had accepted was taken or is left, and what was handed over to it was received or is left. What
+  -- was taken out of its lane is a beginning of what it had put in.
   abbrev pub AddsAt : ℕ → Type 0
   AddsAt j =
       (slice_index_or (map all_accepted fs) j [] ≡ slice_index_or (map taken ps) (number_at j) [] ++ slice_index_or (left_items s.left.items) (number_at j) [])
       × (slice_index_or (map told ps) (number_at j) [] ≡ slice_index_or (map all_got fs) j [] ++ slice_index_or (left_reports s.reports.items) (number_at j) [])
+      × IsPrefix (slice_index_or (map passed ps) (number_at j) []) (slice_index_or (map all_entered fs) j [])

@@ -2,7 +2,7 @@
 
 ghost use Rattle.std.specs.Prelude.{◌≡◌, ◌≤◌, ◌+◌, ◌==◌, [], IfOk, true, false, MatchBool};
 ghost use Rattle.kp_lanes.specs.declared.gate.view.Stage.TheVariants.{Out, Trying, Inside};
-ghost use Rattle.kp_lanes.specs.Gate.{entered, newcomer, admitted, refused, outside, told_shut, looked, less_room};
+ghost use Rattle.kp_lanes.specs.Gate.{entered, newcomer, keeper, admitted, refused, outside, told_shut, looked, less_room};
 
 pub mod plays;
 pub mod view;
@@ -29,10 +29,10 @@ pub struct Gate {
 }
 
 impl Gate {
-    /// An open gate, and its first seat, which has room for 64 senders.
+    /// An open gate, and its first seat, which has room for 64 senders. It alone may shut the gate.
     pub fn new(alloc: Global) -> Result<(Gate, Seat), AllocError>
         ensures here { IfOk result (λ r. r.1.table_id ≡ r.0.table.shared.table_id) }
-        ensures view { IfOk result (λ r. r.1.me.0 ≡ newcomer 64) }
+        ensures view { IfOk result (λ r. r.1.me.0 ≡ keeper 64) }
     {
         let (table, seat) = Table::of_words(alloc, &[0], &())?;
         Ok((Gate { table }, seat))
@@ -50,7 +50,7 @@ impl Gate {
         self.table.shared.split_seat::<SeatSender>(seat)
     }
 
-    /// A seat for someone who looks or shuts, and never enters.
+    /// A seat for someone who looks, and never enters.
     pub fn seat_watcher(&self, seat: &mut Seat) -> Seat
         requires here { seat.old.table_id ≡ self.now.table.shared.table_id }
         requires out { seat.old.me.0.stage ≡ Out }
@@ -107,18 +107,21 @@ impl Gate {
     /// Shuts the gate, for good.
     pub fn shut(&self, seat: &mut Seat)
         requires here { seat.old.table_id ≡ self.now.table.shared.table_id }
+        requires may { seat.old.me.0.may_shut ≡ true }
         ensures here { seat.new.table_id ≡ seat.old.table_id }
         ensures view { seat.new.me.0 ≡ told_shut seat.old.me.0 }
     {
         self.table.shared.fetch_or::<Shut>(seat, 0, SHUT);
     }
 
-    /// Looks once. It is true where the gate was shut and nobody was trying or inside.
+    /// Looks once. It is true where the gate was shut and nobody was trying or inside. Who may shut it finds it shut only
+    /// where it has shut it.
     pub fn quiet(&self, seat: &mut Seat) -> bool
         requires here { seat.old.table_id ≡ self.now.table.shared.table_id }
         ensures here { seat.new.table_id ≡ seat.old.table_id }
         ensures view { seat.new.me.0 ≡ looked seat.old.me.0 seat.new.me.0.found }
         ensures answer { result ≡ (seat.new.me.0.found == 1) }
+        ensures only { seat.old.me.0.may_shut ≡ true → seat.new.me.0.knows_shut ≡ seat.old.me.0.knows_shut }
     {
         let found = self.table.shared.load::<Look>(seat, 0);
         found == SHUT

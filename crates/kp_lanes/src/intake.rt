@@ -28,7 +28,7 @@ pub struct Intake {
 
 impl Intake {
     ghost use Rattle.std.specs.Prelude.{◌==◌, ◌⊎◌, ◌+◌, ◌<◌, ◌++◌, ◌∷◌, [], length, drop, map, slice_set, true, IsTrue, IfSome, IfNone, OnOk, IfErr};
-    ghost use Rattle.kp_lanes.specs.Entries.{has_mark, IsNext};
+    ghost use Rattle.kp_lanes.specs.Entries.{has_mark, IsNext, TookMark};
     ghost use Rattle.kp_lanes.specs.Limits.{Meets};
     ghost use Rattle.kp_lanes.specs.Gate.{looked};
     ghost use Rattle.kp_lanes.specs.Port.{Extends, HasNothing};
@@ -89,10 +89,11 @@ impl Intake {
     }
 
     /// Whether a mark of the sender was passed since the last call. All that the sender had accepted before that mark
-    /// was taken before it, since a lane keeps its order.
+    /// was taken.
     pub fn asked(&mut self, sender: u32) -> bool
         requires { sender < length (lanes_of self.old) }
         ensures answer { result ≡ has_mark (drop (asked_at_of self.old sender) (passed_of self.old sender)) }
+        ensures mark { IsTrue result → TookMark (asked_at_of self.old sender) (passed_of self.old sender) }
         ensures since { asked_lists self.new ≡ slice_set (asked_lists self.old) sender (length (passed_of self.old sender)) }
         ensures same { SameIntake self.old self.new × (passed_lists self.new ≡ passed_lists self.old) × (told_lists self.new ≡ told_lists self.old) }
     {

@@ -1,6 +1,6 @@
 //! Facts about the gate's rule and the lanes' order alone, and the types that they speak of.
 
-ghost use Rattle.kp_lanes.specs.Gate.{NobodyInside};
+ghost use Rattle.kp_lanes.specs.Gate.{NobodyInside, OneShuts};
 ghost use Rattle.kp_lanes.specs.Entries.{MarksFollow};
 
 pub use crate::entry::Entry;
@@ -16,7 +16,15 @@ pub fn nobody_is_inside()
     ensures { NobodyInside }
 {}
 
-/// Where a mark was taken from a lane, all items that were accepted before it were taken too.
+/// Between any two steps: while the seat that may shut the gate has not, nobody knows it to be shut. So what a sender is
+/// told as Closed is the closer's doing: of the seats that `open_lanes` gives the closer's alone may shut, and `Gate::shut`
+/// asks for it.
+pub fn one_shuts()
+    ensures { OneShuts }
+{}
+
+/// Where a mark was taken from a lane, all items that were accepted before it were taken too: whatever its sender has put in,
+/// of which what was taken is a beginning (`Intake::settle`, `entries` of `Adds`).
 pub fn marks_follow_what_was_accepted()
     ensures { MarksFollow }
 {}

@@ -3,7 +3,7 @@
 ghost use Rattle.std.specs.Prelude.{◌≡◌, ◌≤◌, ◌<◌, ◌-◌, ◌++◌, ◌∷◌, [], IfOk, IfErr, OnOk, length, map, slice_index_or, All};
 ghost use Rattle.std.specs.Arc.{arc_value};
 ghost use Rattle.kp_lanes.specs.declared.gate.view.Stage.TheVariants.{Out};
-ghost use Rattle.kp_lanes.specs.Gate.{newcomer, less_room};
+ghost use Rattle.kp_lanes.specs.Gate.{newcomer, keeper, less_room};
 ghost use Rattle.kp_lanes.specs.Tokens.{gate_id, seat_gate, view};
 ghost use Rattle.kp_lanes.specs.Sender.{sender_id, sender_number, IsFresh, IsSenderOf};
 ghost use Rattle.kp_lanes.specs.Port.{port_id};
@@ -116,9 +116,9 @@ pub fn open_lanes(
     ensures empty { IfOk result (λ r. All (λ l. l ≡ []) (passed_lists r.1) × All (λ l. l ≡ []) (told_lists r.1) × All (λ n. n ≡ 0) (asked_lists r.1)) }
     ensures rooms { IfOk result (λ r. All (λ n. n ≡ capacity) (rooms r.1)) }
 
-    // The gate is open.
+    // The gate is open, and the closer alone may shut it.
     ensures gate { IfOk result (λ r. closer_gate r.2 ≡ intake_gate r.1) }
-    ensures views { IfOk result (λ r. (intake_view r.1 ≡ newcomer 0) × (closer_view r.2 ≡ newcomer (64 - senders))) }
+    ensures views { IfOk result (λ r. (intake_view r.1 ≡ newcomer 0) × (closer_view r.2 ≡ keeper (64 - senders))) }
 {
     if senders < 1 || senders > MOST_SENDERS {
         return Err(OpenFault::Senders);
@@ -154,7 +154,7 @@ fn open_all(
     ensures empty { IfOk result (λ r. All (λ l. l ≡ []) (passed_lists r.1) × All (λ l. l ≡ []) (told_lists r.1) × All (λ n. n ≡ 0) (asked_lists r.1)) }
     ensures rooms { IfOk result (λ r. All (λ n. n ≡ capacity) (rooms r.1)) }
     ensures gate { IfOk result (λ r. closer_gate r.2 ≡ intake_gate r.1) }
-    ensures views { IfOk result (λ r. (intake_view r.1 ≡ newcomer 0) × (closer_view r.2 ≡ newcomer (64 - senders))) }
+    ensures views { IfOk result (λ r. (intake_view r.1 ≡ newcomer 0) × (closer_view r.2 ≡ keeper (64 - senders))) }
 {
     let (gate, mut seat) = Gate::new(alloc)?;
     let gate = shared(alloc, gate)?;

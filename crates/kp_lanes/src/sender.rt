@@ -38,7 +38,7 @@ impl Sender {
     ghost use Rattle.kp_lanes.specs.Entries.{count_of};
     ghost use Rattle.kp_lanes.specs.Gate.{told_shut};
     ghost use Rattle.kp_lanes.specs.Lane.{pushed};
-    ghost use Rattle.kp_lanes.specs.Sender.{SameSender, sender_number, sender_id, sender_view, entered, accepted, got, seen_reports, turn, known_free_of, goes_to, turn_after, Accepts, Refuses, limits_of, finished_number, finished_id, all_accepted, all_got};
+    ghost use Rattle.kp_lanes.specs.Sender.{SameSender, sender_number, sender_id, sender_view, entered, accepted, got, seen_reports, turn, known_free_of, goes_to, turn_after, Accepts, Refuses, limits_of, finished_number, finished_id, all_entered, all_accepted, all_got};
 
     pub(crate) fn new(outbox: Outbox, reports: Consumer<Report>, seat: Seat) -> Sender
         requires here { seat.table_id ≡ (arc_value outbox.lane.gate).table.shared.table_id }
@@ -147,6 +147,7 @@ impl Sender {
     /// Ends the sender. Its ends of the rings stay as they are.
     pub fn finish(self) -> Finished
         ensures same { (finished_number result ≡ sender_number self) × (finished_id result ≡ sender_id self) × (all_accepted result ≡ accepted self) × (all_got result ≡ got self) }
+        ensures entered { all_entered result ≡ entered self }
 
         // Each record was numbered by its place.
         ensures in_place { AreInPlace (limits_of self) (sender_number self) (all_accepted result) }

@@ -1,8 +1,9 @@
 //! Settling: both ends of each ring come together, and what is left in it is taken out.
 
 ghost use Rattle.std.specs.Prelude.{◌≡◌, ℕ, ◌≤◌, ◌<◌, ◌+◌, ◌++◌, ◌↔◌, [], length, map, slice_index_or, All, IsTrue, IfOk, vec_len, vec_capacity};
-ghost use Rattle.kp_lanes.specs.Port.{taken, told};
-ghost use Rattle.kp_lanes.specs.Sender.{all_accepted, all_got, finished_number};
+ghost use mathlib.Core.List.{IsPrefix};
+ghost use Rattle.kp_lanes.specs.Port.{passed, taken, told};
+ghost use Rattle.kp_lanes.specs.Sender.{all_entered, all_accepted, all_got, finished_number};
 ghost use Rattle.kp_lanes.specs.Settling.{numbers, left_items, left_reports, HasRooms, AddsAt, Differ, SameBut, MeetAt, Placed, SamePorts, SameFinished};
 
 use crate::intake::port::Port;
@@ -71,6 +72,7 @@ fn settle_at(
         ≤ length (slice_index_or (map all_got finished.old.items) j []) + slice_index_or (map vec_capacity settled.old.reports.items) i 0 }
     ensures others { SameBut i ports.old.items ports.new.items × SameBut j finished.old.items finished.new.items × SameBut i settled.old.left.items settled.new.left.items × SameBut i settled.old.reports.items settled.new.reports.items }
     ensures numbers { map finished_number finished.new.items ≡ map finished_number finished.old.items }
+    ensures entered { IsPrefix (slice_index_or (map passed ports.old.items) i []) (slice_index_or (map all_entered finished.old.items) j []) }
     ensures left { slice_index_or (map all_accepted finished.old.items) j []
         ≡ slice_index_or (map taken ports.old.items) i [] ++ slice_index_or (left_items settled.new.left.items) i [] }
     ensures told { slice_index_or (map told ports.old.items) i []

@@ -1,5 +1,5 @@
 //! The rule of the gate's word, and the kinds of step that it takes.
-ghost use Rattle.kp_lanes.specs.Gate.{Keeps, newcomer, less_room, Entering, Leaving, Shutting, Looking};
+ghost use Rattle.kp_lanes.specs.Gate.{Keeps, keeper, newcomer, less_room, Entering, Leaving, Shutting, Looking};
 
 use crate::gate::view::View;
 use atomic_table::{Play, Split, TableRule};
@@ -10,7 +10,7 @@ pub struct GateRule;
 impl TableRule<(), View, ()> for GateRule {
     ghost holds = { λ _. Keeps };
 
-    ghost first = { λ _. newcomer 64 };
+    ghost first = { λ _. keeper 64 };
 }
 
 pub(crate) struct Enter;
@@ -46,7 +46,7 @@ impl Split<View> for SeatSender {
     ghost right = { λ _. newcomer 1 };
 }
 
-// The new seat stands for none: it may look, and shut.
+// The new seat stands for none: it may look.
 pub(crate) struct SeatWatcher;
 
 impl Split<View> for SeatWatcher {

@@ -20,4 +20,6 @@ pub struct View {
     pub found: u64,
     /// The gate is shut, and no seat is inside.
     pub knows_quiet: bool,
+    /// Whether the seat may shut the gate: at most one may.
+    pub may_shut: bool,
 }

@@ -164,11 +164,11 @@ impl Port {
 
 impl Port {
     ghost use Rattle.std.specs.Prelude.{[]};
-    ghost use Rattle.kp_lanes.specs.Lane.{pushed};
     ghost use Rattle.kp_lanes.specs.Port.{passed, taken, told, asked_at};
     ghost use Rattle.kp_lanes.specs.Rings.{push_end, pop_end};
-    ghost use Rattle.kp_lanes.specs.Sender.{finished_number, finished_id, all_accepted, all_got};
+    ghost use Rattle.kp_lanes.specs.Sender.{finished_number, finished_id, all_entered, all_accepted, all_got};
     ghost use Rattle.kp_lanes.specs.Settling.{Meet};
+    ghost use mathlib.Core.List.{IsPrefix};
 
     /// How many entries and reports are left in the rings, with both ends here.
     pub(crate) fn look(&mut self, finished: &mut Finished) -> (usize, usize)
@@ -176,8 +176,8 @@ impl Port {
         ensures port { (pop_end self.new.entries ≡ pop_end self.old.entries) × (push_end self.new.reports ≡ push_end self.old.reports)
             × (passed self.new ≡ passed self.old) × (told self.new ≡ told self.old) × (asked_at self.new ≡ asked_at self.old) }
         ensures finished { (finished_number finished.new ≡ finished_number finished.old) × (finished_id finished.new ≡ finished_id finished.old)
-            × (pushed finished.new.outbox.lane ≡ pushed finished.old.outbox.lane) × (all_got finished.new ≡ all_got finished.old) }
-        ensures left { passed self.old ++ known_items self.new.entries ≡ pushed finished.old.outbox.lane }
+            × (all_entered finished.new ≡ all_entered finished.old) × (all_got finished.new ≡ all_got finished.old) }
+        ensures left { passed self.old ++ known_items self.new.entries ≡ all_entered finished.old }
         ensures reports_left { all_got finished.old ++ known_items finished.new.reports ≡ told self.old }
         ensures items { length (all_accepted finished.old) ≤ length (taken self.old) + result.0 }
         ensures reports { length (told self.old) ≤ length (all_got finished.old) + result.1 }
@@ -199,6 +199,7 @@ impl Port {
         requires items { length (all_accepted finished.old) ≤ length (taken self.old) + vec_capacity left.old }
         requires reports { length (told self.old) ≤ length (all_got finished.old) + vec_capacity reports.old }
         ensures number { finished_number finished.new ≡ finished_number finished.old }
+        ensures entered { IsPrefix (passed self.old) (all_entered finished.old) }
         ensures left { all_accepted finished.old ≡ taken self.old ++ left.new.items }
         ensures reports { told self.old ≡ all_got finished.old ++ reports.new.items }
     {

@@ -6,7 +6,7 @@ use Rattle.std.proofs.lemmas.List.Elements.{All-push}
 use Rattle.std.specs.declared.alloc.Global.{Global}
 use Rattle.std.specs.declared.vec.Vec.{Vec}
 use Rattle.kp_lanes.specs.declared.intake.port.Port.{Port}
-use Rattle.kp_lanes.specs.Gate.{newcomer, less_room}
+use Rattle.kp_lanes.specs.Gate.{keeper, less_room}
 use Rattle.kp_lanes.specs.Tokens.{gate_id}
 use Rattle.kp_lanes.specs.Sender.{sender_id, sender_number, IsFresh}
 use Rattle.kp_lanes.specs.Port.{port_id, passed, told, asked_at, room}
@@ -19,7 +19,7 @@ loop-number-preserved c =
     let inv = c.loop-number.invariant in let made = c.in_ok-sender.ensures in let n = c.loop-number.number in
     let ends = c.in_ok-push.ensures in let ports = c.in_ok-push-2.ensures in let count = inv.count in let less : 64 - n - 1 ≡ 64 - (n + 1) = omega arith in record {
       here = made.seat.0 ∙ inv.here;
-      view_is = made.seat.1 ∙ (ap (less_room 1) inv.view_is ∙ ap newcomer less);
+      view_is = made.seat.1 ∙ (ap (less_room 1) inv.view_is ∙ ap keeper less);
       count = ap length ends ∙ (length-append c.loop-number.ends.items (c.in_ok-sender.sender ∷ []) ∙ omega arith);
       numbers = map_push sender_number c.loop-number.ends.items c.push.new.all.items c.in_ok-sender.sender (numbers_below n) n ends inv.numbers made.number ∙ sym (numbers_more n);
       meet = map_push sender_id c.loop-number.ends.items c.push.new.all.items c.in_ok-sender.sender _ _ ends inv.meet made.meet

@@ -1,4 +1,4 @@
-use Rattle.std.proofs.Common.{◌≡◌, ◌≢◌, ◌++◌, ◌<◌, ◌≤◌, ℕ, [], length, map, get_or, sym, ap, ◌∙◌, subst, arith}
+use Rattle.std.proofs.Common.{◌≡◌, ◌≢◌, ◌++◌, ◌<◌, ◌≤◌, ℕ, List, [], length, map, get_or, sym, ap, ◌∙◌, subst, arith}
 use Rattle.std.specs.Prelude.{vec_capacity}
 use Rattle.std.proofs.lemmas.List.{length-map}
 use Rattle.std.specs.declared.alloc.Global.{Global}
@@ -7,8 +7,10 @@ use mathlib.Core.Logic.{dite}
 use native.Mathlib.Decide.{ℕ_discrete}
 use Rattle.kp_accum.specs.declared.item.Item.{Item}
 use Rattle.kp_rules.specs.declared.outcome.Report.{Report}
-use Rattle.kp_lanes.specs.Port.{taken, told}
-use Rattle.kp_lanes.specs.Sender.{all_accepted, all_got}
+use mathlib.Core.List.{IsPrefix}
+use Rattle.kp_lanes.specs.declared.entry.Entry.{Entry}
+use Rattle.kp_lanes.specs.Port.{passed, taken, told}
+use Rattle.kp_lanes.specs.Sender.{all_entered, all_accepted, all_got}
 use Rattle.kp_lanes.specs.Sender.{finished_number}
 use Rattle.kp_lanes.specs.Settling.{numbers, left_items, left_reports, AddsAt}
 use Rattle.kp_lanes.proofs.SettlingLemmas.{place_left, carry, at_number}
@@ -71,6 +73,8 @@ loop-j-preserved c =
     let g : get_or (map all_got c.loop-j.finished.items) j [] ≡ get_or (map all_got fs) j [] = carry all_got fs c.loop-j.finished.items j [] inv.wide.1 (inv.ends j from_here) in
     let t : get_or (map taken c.loop-j.ports.items) n [] ≡ get_or (map taken ps) i [] = at_number taken ps c.loop-j.ports.items i n [] at.0 inv.wide.0 (inv.ports j from_here there) in
     let o : get_or (map told c.loop-j.ports.items) n [] ≡ get_or (map told ps) i [] = at_number told ps c.loop-j.ports.items i n [] at.0 inv.wide.0 (inv.ports j from_here there) in
+    let e : get_or (map all_entered c.loop-j.finished.items) j [] ≡ get_or (map all_entered fs) j [] = carry all_entered fs c.loop-j.finished.items j [] inv.wide.1 (inv.ends j from_here) in
+    let p : get_or (map passed c.loop-j.ports.items) n [] ≡ get_or (map passed ps) i [] = at_number passed ps c.loop-j.ports.items i n [] at.0 inv.wide.0 (inv.ports j from_here there) in
     let one = c.settle_at.ensures in let others = one.others in let s' = c.settle_at.new.settled in
     let long : length (numbers fs) ≡ length fs = length-map fs finished_number in
     let later : (k : ℕ) → j < k → k < length fs → get_or (numbers fs) k 0 ≢ n = λ k after below e. c.requires.differ j k after (omega arith) (sym at.0 ∙ sym e) in
@@ -82,9 +86,10 @@ loop-j-preserved c =
       left = λ k after below d. others.2.1 (get_or (numbers fs) k 0) d (later k (omega arith) below) ∙ inv.left k (omega arith) below d;
       reports = λ k after below d. others.3.1 (get_or (numbers fs) k 0) d (later k (omega arith) below) ∙ inv.reports k (omega arith) below d;
       done = λ k below. dite (ℕ_discrete k j)
-          (λ e. subst (AddsAt ps fs s') (sym e) (
+          (λ same. subst (AddsAt ps fs s') (sym same) (
             sym a ∙ (one.left ∙ (λ x. t x ++ ap (λ m. get_or (left_items s'.left.items) m []) at.0 x)),
             sym o ∙ (one.told ∙ (λ x. g x ++ ap (λ m. get_or (left_reports s'.reports.items) m []) at.0 x)),
+            subst (λ (z : List Entry × List Entry). IsPrefix z.0 z.1) (λ x. (p x, e x)) one.entered,
           ))
           (λ other.
           let old = inv.done k (omega arith) in let m : ℕ = get_or (numbers fs) k 0 in let apart : m ≢ n = sooner k (omega arith) in
@@ -92,5 +97,9 @@ loop-j-preserved c =
           let r : get_or (left_reports s'.reports.items) m [] ≡ get_or (left_reports c.loop-j.settled.reports.items) m [] = carry (λ (v : Vec Report Global). v.items) c.loop-j.settled.reports.items s'.reports.items m [] others.3.0 (λ d. others.3.1 m d apart) in (
             old.0 ∙ ap (λ x. get_or (map taken ps) m [] ++ x) (sym l),
             old.1 ∙ ap (λ x. get_or (map all_got fs) k [] ++ x) (sym r),
+            old.2,
           ));
     }
+
+pub returns-clause-all : goal.returns-clause-all
+returns-clause-all c = λ j below. c.loop-j.invariant.done j (omega arith)

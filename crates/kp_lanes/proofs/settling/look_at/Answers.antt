@@ -2,7 +2,7 @@ use Rattle.std.proofs.Common.{◌<◌, [], length, ap, arith}
 use Rattle.kp_lanes.specs.Entries.{items_of}
 use Rattle.kp_lanes.specs.Lane.{LaneId}
 use Rattle.kp_lanes.specs.Port.{port_id, passed, taken, told, asked_at}
-use Rattle.kp_lanes.specs.Sender.{finished_number, finished_id, all_accepted, all_got}
+use Rattle.kp_lanes.specs.Sender.{finished_number, finished_id, all_entered, all_accepted, all_got}
 use Rattle.kp_lanes.specs.Settling.{port_rings, finished_rings}
 use Rattle.kp_lanes.proofs.EachLemmas.{here, kept}
 use Rattle.kp_lanes.proofs.settling.look_at.Goals as goal
@@ -24,6 +24,7 @@ returns-clause-finished c =
       numbers = kept finished_number fs c.args.j _ c.look.new.finished at same.0;
       ids = kept finished_id fs c.args.j _ c.look.new.finished at same.1;
       rings = kept finished_rings fs c.args.j _ c.look.new.finished at (ap (λ (i : LaneId). (i.items, i.reports)) same.1);
+      entered = kept all_entered fs c.args.j _ c.look.new.finished at same.2;
       accepted = kept all_accepted fs c.args.j _ c.look.new.finished at (ap items_of same.2);
       got = kept all_got fs c.args.j _ c.look.new.finished at same.3;
     }

@@ -8,7 +8,7 @@ use Rattle.kp_lanes.proofs.settling.rooms.Goals as goal
 pub loop-j-init : goal.loop-j-init
 loop-j-init c = let made = c.in_ok-settled.ensures in let long = c.len.ensures in record {
   ports = record { rings = refl; ids = λ g. refl; passed = refl; taken = refl; told = refl; asked = refl };
-  finished = record { numbers = refl; ids = refl; rings = refl; accepted = refl; got = refl };
+  finished = record { numbers = refl; ids = refl; rings = refl; entered = refl; accepted = refl; got = refl };
   rooms = record {
     wide = (omega arith, omega arith);
     empty = λ i. (all_nil _ made.2 i, all_nil _ made.3 i);

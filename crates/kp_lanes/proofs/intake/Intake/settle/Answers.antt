@@ -29,7 +29,7 @@ returns-in-Ok-clause-settled c k d below =
     let long : length c.rooms.new.finished.items ≡ length fs = same_length finished_number finished_number c.rooms.new.finished.items fs c.rooms.ensures.finished.numbers in
     let both = adds ps c.rooms.new.ports.items fs c.rooms.new.finished.items c.rooms.ensures.ports c.rooms.ensures.finished c.drain_all.new.settled k (get_or fs k d) below (same_default fs k d (get_or fs k d) below)
     (c.drain_all.ensures.all k (omega arith)) in
-    record { items = both.0; reports = both.1 }
+    record { entries = both.2; items = both.0; reports = both.1 }
 
 pub returns-in-Err-clause-again : goal.returns-in-Err-clause-again
 returns-in-Err-clause-again c =

@@ -12,6 +12,9 @@ drain_items-requires c =
     let all = ap length (items_left (passed c.args.self.now) known (pushed c.args.finished.now.outbox.lane) c.look.ensures.left) in
     let both = length-append (taken c.args.self.now) (items_of known) in let none = ap length c.requires.empty.0 in let room = c.requires.items in omega arith
 
+pub returns-clause-entered : goal.returns-clause-entered
+returns-clause-entered c = (known_items c.look.new.self.entries, c.look.ensures.left)
+
 pub returns-clause-left : goal.returns-clause-left
 returns-clause-left c =
     let known = known_items c.look.new.self.entries in
