@@ -1,6 +1,6 @@
 //! A stream with the bytes that wait to be written and the frames that were read and not heard.
 
-ghost use Rattle.std.specs.Prelude.{◌≡◌, ◌↔◌, ◌+◌, ◌<◌, ◌≤◌, ℕ, List, [], ◌∷◌, length, IsTrue, OnOk};
+ghost use Rattle.std.specs.Prelude.{◌≡◌, ◌↔◌, ◌+◌, ◌<◌, ◌≤◌, ℕ, List, [], ◌∷◌, length, max, vec_len, IsTrue, OnOk};
 ghost use Rattle.futures.specs.Task.{Covers, Keeps};
 ghost use Rattle.futures.specs.Poll.{OnPending};
 ghost use Rattle.kp_frames.specs.Stream.{stream, wanted};
@@ -22,7 +22,7 @@ const READ_ROOM: usize = 65_536;
 
 /// A stream, seen as its state, the bytes that are kept for writing, and the bytes that were read and not heard.
 ///
-/// What is read goes through one buffer, which is made at the first read and kept.
+/// What is read goes through one buffer, which is made at the first read and kept, and grows no further.
 #[derive(Drop)]
 pub struct Wire<S> {
     stream: S,
@@ -32,11 +32,15 @@ pub struct Wire<S> {
 }
 
 impl<S> Model for Wire<S> {
+    ghost use Rattle.std.specs.Prelude.{◌≤◌, vec_len};
     ghost use Rattle.kp_connection.specs.Wire.{Wired};
+    ghost use Rattle.kp_connection.specs.declared.wire.TheConstants.{READ_ROOM};
 
     ghost Value = { Wired S };
 
     ghost view = { λ w. record { stream = w.stream; kept = w.kept; held = w.held } };
+
+    ghost invariant = { λ w. vec_len w.buffer ≤ READ_ROOM };
 }
 
 impl<S: Stream> Wire<S> {
@@ -101,8 +105,7 @@ impl<S: Stream> Wire<S> {
         if grow(&mut self.buffer, most).is_err() {
             return Poll::Ready(Err(ReadFault::OutOfMemory));
         }
-        let room = &mut self.buffer[..most];
-        poll_feed(&mut self.stream, &mut self.held, cx, room)
+        poll_feed(&mut self.stream, &mut self.held, cx, &mut self.buffer, most)
     }
 
     /// How many bytes the frame at hand still wants, as far as its size is known: of the size first, then of the
@@ -147,9 +150,10 @@ impl<S: Stream> Wire<S> {
     }
 }
 
-/// Makes a buffer at least so long.
+/// Makes a buffer so long, where it is shorter.
 fn grow(buffer: &mut Vec<u8>, len: usize) -> Result<(), AllocError>
-    ensures { OnOk result (len ≤ length buffer.new.items) }
+    ensures long { OnOk result (len ≤ vec_len buffer.new) }
+    ensures bound { vec_len buffer.new ≤ max len (vec_len buffer.old) }
 {
     if buffer.len() < len {
         buffer.resize(len, 0)?;
@@ -157,19 +161,23 @@ fn grow(buffer: &mut Vec<u8>, len: usize) -> Result<(), AllocError>
     Ok(())
 }
 
-/// One read into `room`, of which what came is held. What is kept has no part in it.
+/// One read of at most `most` bytes into the buffer, of which what came is held. What is kept has no part in it.
 fn poll_feed<S: Stream>(
     stream: &mut S,
     held: &mut Splitter,
     cx: &mut Context<'_>,
-    room: &mut [u8],
+    buffer: &mut Vec<u8>,
+    most: usize,
 ) -> Poll<Result<usize, ReadFault>>
-    ensures reads { (kept : List ℕ) → Reads S.answers (length room.old)
+    requires { most ≤ vec_len buffer.old }
+    ensures buffer { vec_len buffer.new ≡ vec_len buffer.old }
+    ensures reads { (kept : List ℕ) → Reads S.answers most
         (record { stream = stream.old; kept = kept; held = held.old }) result
         (record { stream = stream.new; kept = kept; held = held.new }) }
     ensures registered { OnPending result (Covers cx.new (S.reader stream.new)) }
     ensures kept { Keeps cx.old cx.new }
 {
+    let room = &mut buffer[..most];
     let count = match stream.poll_take(cx, room) {
         Poll::Pending => return Poll::Pending,
         Poll::Ready(Ok(count)) => count,

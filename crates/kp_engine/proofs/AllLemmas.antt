@@ -1,6 +1,6 @@
 -- The parts of all senders, one after the other, and the close.
-use Rattle.std.proofs.Common.{◌≡◌, ℕ, zero, suc, ◌+◌, ◌<◌, ◌≤◌, Bool, true, false, List, [], ◌∷◌, ◌++◌, length, refl, sym, ap, ◌∙◌, subst, ⊎_elim, append-nil, arith}
-use Rattle.std.specs.Prelude.{Option, None, IsTrue, option_to_list, ◌||◌}
+use Rattle.std.proofs.Common.{◌≡◌, ℕ, zero, suc, ◌+◌, ◌<◌, ◌≤◌, Bool, true, false, List, [], ◌∷◌, ◌++◌, length, refl, sym, ap, ◌∙◌, subst, ⊎_elim, inl, inr, append-nil, arith}
+use Rattle.std.specs.Prelude.{◌≢◌, ◌⊎◌, Option, None, IsTrue, option_to_list, ◌||◌, ◌&&◌}
 use Rattle.std.proofs.lemmas.Bool.{cases_lt}
 use Rattle.kp_accum.specs.declared.item.Item.{Item}
 use Rattle.kp_lanes.specs.Entries.{items_of}
@@ -9,7 +9,7 @@ use Rattle.kp_lanes.specs.declared.gate.view.View.{View}
 use Rattle.kp_lanes.specs.declared.intake.Intake.{Intake}
 use Rattle.kp_rules.specs.Calls.{Call, Close}
 use Rattle.kp_engine.specs.Agreement.{held_at}
-use Rattle.kp_engine.specs.Exchange.{AreIdle, IsIdle, IsQuiet, OnlyCore, Runs, SameClosed, SameSides, TookEnough, senders_of, side_of}
+use Rattle.kp_engine.specs.Exchange.{AreIdle, IsIdle, IsQuiet, MayStayOpen, OnlyCore, Runs, SameClosed, SameSides, SomeBusy, TookEnough, WasBusy, senders_of, side_of}
 use Rattle.kp_engine.specs.Steps.{AppendsUntil, Closes, OnlySide, OnlySides, OnlyView, TakesAll, TakesAndCloses, TakesUntil, WholePart}
 use Rattle.kp_engine.specs.Turn.{Side, SenderPart, SenderParts, SenderPartUntil}
 use Rattle.kp_engine.specs.declared.exchange.Exchange.{Exchange}
@@ -27,6 +27,12 @@ parts_kept (suc n) old new newer calls same parts = (
   subst (λ (s : Side). SenderPart n (old n) parts.1 s) (sym (same n (omega arith))) parts.4,
 )
 
+-- One of the first n senders was busy.
+pub record BusyBelow (n : ℕ) (a b : Exchange) : Type 0 where
+  pub sender : ℕ
+  pub near : sender < n
+  pub busy : WasBusy (side_of a sender) (side_of b sender)
+
 -- The parts of the first n senders were made.
 pub record TakenTo (n : ℕ) (a b : Exchange) (idle : Bool) : Type 0 where
   pub calls : List Call
@@ -36,6 +42,7 @@ pub record TakenTo (n : ℕ) (a b : Exchange) (idle : Bool) : Type 0 where
   pub only : OnlySides a b
   pub enough : (k : ℕ) → k < n → TookEnough k (side_of a k) (side_of b k) b.intake
   pub found : IsTrue idle → (k : ℕ) → k < n → IsIdle k b
+  pub busy : (idle ≡ true) ⊎ BusyBelow n a b
 
 pub sides_same : (a : Exchange) → OnlySides a a
 sides_same a = record { mail = λ k. refl; lanes = record { lanes = refl; limits = refl; senders = refl }; view = refl; closed = refl }
@@ -57,13 +64,22 @@ nobody_taken a = record {
   only = sides_same a;
   enough = λ k below. absurd (omega (arith, below));
   found = λ is k below. absurd (omega (arith, below));
+  busy = inl refl;
 }
+
+pub both_true : (a b : Bool) → (a && b) ≡ true → (a ≡ true) × (b ≡ true)
+both_true true b e = (refl, e)
+both_true false b e = absurd cc
+
+pub true_both : (a b : Bool) → a ≡ true → b ≡ true → (a && b) ≡ true
+true_both true b p q = q
+true_both false b p q = absurd cc
 
 parts_one_more : (n : ℕ) (old new : ℕ → Side) (calls : List Call) → SenderParts (suc n) old calls new → SenderParts (n + 1) old calls new
 parts_one_more n old new calls parts = let e : suc n ≡ n + 1 = omega arith in subst (λ (m : ℕ). SenderParts m old calls new) e parts
 
 pub next_taken : (n : ℕ) (a m b : Exchange) (idle found all : Bool) → TakenTo n a m idle → WholePart n m b found → OnlySide n m b
-    → (IsTrue all → IsTrue idle × IsTrue found) → TakenTo (n + 1) a b all
+    → all ≡ (idle && found) → TakenTo (n + 1) a b all
 next_taken n a m b idle found all h w only both = record {
   calls = h.calls ++ w.calls;
   parts = parts_one_more n (side_of a) (side_of b) (h.calls ++ w.calls) (
@@ -82,9 +98,24 @@ next_taken n a m b idle found all h w only both = record {
       (subst (λ (s : Side). TookEnough n s (side_of b n) b.intake) (h.later n (omega arith)) w.enough))
       (cases_lt k n);
   found = λ is k below. ⊎_elim
-      (λ (before : k < n). idle_still k m b (only.others k (λ e. omega (arith, e, before))) only.lanes.lanes only.view (h.found (both is).0 k before))
-      (λ (here : n ≤ k). let same : n ≡ k = omega (arith, here, below) in subst (λ (j : ℕ). IsIdle j b) same (w.idle (both is).1))
+      (λ (before : k < n). idle_still k m b (only.others k (λ e. omega (arith, e, before))) only.lanes.lanes only.view (h.found (both_true idle found (sym both ∙ is)).0 k before))
+      (λ (here : n ≤ k). let same : n ≡ k = omega (arith, here, below) in subst (λ (j : ℕ). IsIdle j b) same (w.idle (both_true idle found (sym both ∙ is)).1))
       (cases_lt k n);
+  busy = ⊎_elim
+      (λ (free : idle ≡ true). ⊎_elim
+      (λ (empty : found ≡ true). inl (both ∙ true_both idle found free empty))
+      (λ (mine : WasBusy (side_of m n) (side_of b n)). inr (record {
+        sender = n;
+        near = omega arith;
+        busy = subst (λ (s : Side). WasBusy s (side_of b n)) (h.later n (omega arith)) mine;
+      }))
+      w.busy)
+      (λ (other : BusyBelow n a m). inr (record {
+        sender = other.sender;
+        near = omega (arith, other.near);
+        busy = subst (λ (s : Side). WasBusy (side_of a other.sender) s) (sym (only.others other.sender (λ e. omega (arith, e, other.near)))) other.busy;
+      }))
+      h.busy;
 }
 
 pub until_taken : (n : ℕ) (a m b : Exchange) (idle : Bool) → TakenTo n a m idle → AppendsUntil n m b → OnlySide n m b → TakesUntil a b
@@ -110,6 +141,10 @@ all_taken n a b idle whole h = record {
   runs = h.runs;
   enough = λ k below. h.enough k (omega (arith, below, whole));
   found = λ is k below. h.found is k (omega (arith, below, whole, h.only.lanes.senders));
+  busy = ⊎_elim
+      (λ (free : idle ≡ true). inl free)
+      (λ (other : BusyBelow n a b). inr (record { sender = other.sender; near = omega (arith, other.near, whole); busy = other.busy }))
+      h.busy;
 }
 
 -- no part of a sender
@@ -158,9 +193,20 @@ module _ (a q b : Exchange) (view : OnlyView a q) where
   enough_viewed h k below =
       subst (λ (s : Side). TookEnough k s (side_of b k) b.intake) (view.sides k) (h.enough k (omega (arith, below, view.lanes.senders)))
 
+  busy_viewed : (P : Type 0) → P ⊎ SomeBusy q b → P ⊎ SomeBusy a b
+  busy_viewed P (inl p) = inl p
+  busy_viewed P (inr h) = inr (record {
+    sender = h.sender;
+    near = omega (arith, h.near, view.lanes.senders);
+    busy = subst (λ (s : Side). WasBusy s (side_of b h.sender)) (view.sides h.sender) h.busy;
+  })
+
+  found_viewed : OnlySides q b → ((intake_view q.intake).found ≢ 1) → ((intake_view b.intake).found ≢ 1)
+  found_viewed only other is = other (sym (ap (λ (v : View). v.found) only.view) ∙ is)
+
   -- all is taken, and it isn't closed
-  pub left_open : (idle : Bool) → TakesAll q b idle → OnlySides q b → TakesAndCloses a b idle
-  left_open idle h only = record {
+  pub left_open : (idle quiet : Bool) → (quiet && idle) ≡ false → (quiet ≡ true) ⊎ ((a.closed ≡ true) ⊎ ((intake_view q.intake).found ≢ 1)) → TakesAll q b idle → OnlySides q b → TakesAndCloses a b idle
+  left_open idle quiet not_both loud h only = record {
     calls = h.calls;
     closes = false;
     part = record { of_senders = h.calls; parts = senders_parts h.calls h.parts; made = sym (append-nil h.calls) };
@@ -168,8 +214,16 @@ module _ (a q b : Exchange) (view : OnlyView a q) where
     enough = enough_viewed h;
     closed = only.closed ∙ view.closed ∙ or_false a.closed;
     only = λ is. absurd (false_true is);
+    must = inr (stays idle quiet not_both loud (busy_viewed (idle ≡ true) h.busy));
     found = h.found;
+    busy = busy_viewed (idle ≡ true) h.busy;
   }
+    where
+      stays : (idle quiet : Bool) → (quiet && idle) ≡ false → (quiet ≡ true) ⊎ ((a.closed ≡ true) ⊎ ((intake_view q.intake).found ≢ 1)) → (idle ≡ true) ⊎ SomeBusy a b → MayStayOpen a b
+      stays idle quiet not_both loud (inr busy) = inr (inr busy)
+      stays idle quiet not_both (inr (inl closed)) (inl free) = inl closed
+      stays idle quiet not_both (inr (inr other)) (inl free) = inr (inl (found_viewed only other))
+      stays idle quiet not_both (inl is) (inl free) = absurd (false_true (sym not_both ∙ true_both quiet idle is free))
 
   -- all is taken, and it is closed
   pub closed_then : (c : Exchange) (idle : Bool) → IsTrue idle → a.closed ≡ false → IsQuiet q → TakesAll q b idle → OnlySides q b → Closes b c → TakesAndCloses a c idle
@@ -189,7 +243,9 @@ module _ (a q b : Exchange) (view : OnlyView a q) where
         enough = λ k below. enough_same k (side_of a k) b c (sides k) (ap (λ (t : Intake). lanes_of t) closes.intake) (ap (λ (t : Intake). intake_view t) closes.intake) (enough_viewed h k below);
         closed = closes.closed ∙ ap (λ (o : Bool). o || true) (sym was_open);
         only = λ yes. (was_open, ap (λ (v : View). v.knows_quiet) (ap (λ (t : Intake). intake_view t) closes.intake ∙ only.view) ∙ quiet, still);
+        must = inl refl;
         found = λ yes. still;
+        busy = inl is;
       }
 
   -- memory was refused

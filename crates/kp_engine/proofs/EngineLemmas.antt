@@ -6,7 +6,7 @@ use Rattle.kp_connection.specs.Wire.{Told, Wired}
 use Rattle.kp_frames.specs.Stream.{is_faulty}
 use Rattle.kp_frames.proofs.KeptLemmas.{none_faulty}
 use Rattle.kp_engine.specs.Engine.{Cleared, Polls, line_after, moments_in}
-use Rattle.kp_engine.specs.Polls.{Turns}
+use Rattle.kp_engine.specs.Polls.{GoesOnBehind, IsUndone, Turns}
 use Rattle.kp_engine.specs.declared.engine.Line.{Line}
 use Rattle.kp_engine.specs.declared.engine.Line.TheVariants.{Open}
 use Rattle.kp_engine.specs.declared.exchange.Exchange.{Exchange}
@@ -26,8 +26,8 @@ sound_to b is = ap not is
 -- one turn was made over the open connection, at the moment that the clock told
 pub made_turn : {S : Type 0} (answers : Told S) (line : Line S) (wire : Wired S) → line ≡ Open wire
     → (now : ℕ) (old begun new : Exchange) (result : Poll Stop) (after : Wired S) (left : Line S) (before told : List ℕ)
-    → Cleared old begun → Turns answers now begun wire result new after → left ≡ line_after result after → told ≡ before ++ now ∷ []
+    → Cleared old begun → Turns answers now begun wire result new after → (GoesOnBehind result → IsUndone begun new) → left ≡ line_after result after → told ≡ before ++ now ∷ []
     → (poll : Polls answers line old result new left) × (told ≡ before ++ moments_in answers line old result new left poll)
-made_turn answers line wire is now old begun new result after left before told cleared turns afterwards tells =
+made_turn answers line wire is now old begun new result after left before told cleared turns undone afterwards tells =
     subst (λ (l : Line _). (poll : Polls answers l old result new left) × (told ≡ before ++ moments_in answers l old result new left poll)) (sym is)
-    (record { now = now; begun = begun; cleared = cleared; after = after; turns = turns; line = afterwards }, tells)
+    (record { now = now; begun = begun; cleared = cleared; after = after; turns = turns; undone = undone; line = afterwards }, tells)

@@ -1,6 +1,6 @@
 -- The reports of senders, handed over one after the other.
-use Rattle.std.proofs.Common.{◌≡◌, ◌≢◌, ℕ, zero, suc, ◌+◌, ◌<◌, ◌≤◌, Bool, true, false, List, [], ◌∷◌, ◌++◌, length, refl, sym, ap, ◌∙◌, subst, ⊎_elim, append_assoc, append-nil, arith}
-use Rattle.std.specs.Prelude.{Option, Some, None, Result, Ok, Err, IsTrue, IsSome, is_some, option_to_list}
+use Rattle.std.proofs.Common.{◌≡◌, ◌≢◌, ◌⊎◌, ℕ, zero, suc, ◌+◌, ◌<◌, ◌≤◌, Bool, true, false, List, [], ◌∷◌, ◌++◌, length, refl, sym, ap, ◌∙◌, subst, ⊎_elim, inl, inr, append_assoc, append-nil, arith}
+use Rattle.std.specs.Prelude.{Option, Some, None, Result, Ok, Err, IsTrue, IsSome, is_some, option_to_list, ◌&&◌}
 use Rattle.std.proofs.lemmas.Bool.{cases_lt}
 use Rattle.std.proofs.lemmas.List.{map-append}
 use Rattle.kp_lanes.specs.Intake.{intake_view, passed_of, asked_at_of, told_of}
@@ -14,6 +14,7 @@ use Rattle.kp_engine.specs.Exchange.{HasMoved, OnlyCore, Runs, mail_of, senders_
 use Rattle.kp_engine.specs.Steps.{FetchesOne, HandsOne, OnlyMail, OnlyMails, OnlyReports, SendsAll, SendsAllUntil, SendsFrom, SendsSome, SendsUntil}
 use Rattle.kp_engine.specs.Turn.{Mail, MailPart, MailParts, fetches}
 use Rattle.kp_engine.specs.declared.exchange.Exchange.{Exchange}
+use Rattle.kp_engine.proofs.AllLemmas.{both_true, true_both}
 use Rattle.kp_engine.proofs.RunLemmas.{runs_none, runs_still, runs_then}
 use Rattle.kp_engine.proofs.SideLemmas.{runs_from, same_lanes, same_mail, same_side}
 
@@ -22,6 +23,9 @@ false_true e = cc
 
 not_some : {A : Type 0} (o : Option A) → o ≡ None → IsSome o → ⊥
 not_some {A = A} o is some = false_true (ap (λ (x : Option A). is_some x) (sym is) ∙ some)
+
+some_held : {A : Type 0} (o : Option A) (x : A) → o ≡ Some x → IsSome o
+some_held {A = A} o x is = ap (λ (p : Option A). is_some p) is
 
 not_none : {A : Type 0} (o : Option A) (x : A) → o ≡ Some x → o ≡ None → ⊥
 not_none o x some none = let same : Some x ≡ None = sym some ∙ none in cc
@@ -121,6 +125,7 @@ module _ (i : ℕ) (r : Report) (a m b c : Exchange) (h : SentSoFar i a m) (fetc
       only_full = λ some. hands.2;
     };
     none_held = λ is. absurd (false_true is);
+    held = inr (some_held (mail_of c i).held r hands.1);
   }
 
 -- none waits any more, or memory was refused
@@ -148,6 +153,7 @@ all_sent i a m b h free fetched core =
         only_full = λ some. absurd (not_some (mail_of b i).held none some);
       };
       none_held = λ is. none;
+      held = inl refl;
     }
 
 pub until_sent : (i : ℕ) (a m b : Exchange) → SentSoFar i a m → (mail_of a i).held ≡ None → Runs m [] b → OnlyCore m b → SendsUntil i a b
@@ -170,6 +176,7 @@ from_no_report i a m b (Ok all) same mail h = record {
   runs = runs_from a m b h.calls mail.core mail.kept h.runs;
   moved = h.moved;
   none_held = h.none_held;
+  held = h.held;
 }
 from_no_report i a m b (Err refused) same mail h = record {
   calls = h.calls;
@@ -199,6 +206,7 @@ module _ (i : ℕ) (r : Report) (a m b : Exchange) (was : (mail_of a i).held ≡
       only_full = λ some. hands.2;
     };
     none_held = λ is. absurd (false_true is);
+    held = inr (some_held (mail_of b i).held r hands.1);
   }
 
   -- it was handed over, and others may be behind it
@@ -219,6 +227,7 @@ module _ (i : ℕ) (r : Report) (a m b : Exchange) (was : (mail_of a i).held ≡
     runs = runs_from a b c h.calls core_both (mail.kept ∙ emptied.kept) h.runs;
     moved = h.moved;
     none_held = h.none_held;
+    held = h.held;
   }
   from_report c (Err refused) hands h = record {
     calls = h.calls;
@@ -238,6 +247,12 @@ mail_parts_kept (suc n) old new newer calls same parts = (
   subst (λ (x : Mail). MailPart n (old n) parts.1 x) (sym (same n (omega arith))) parts.4,
 )
 
+-- A report of one of the first n senders is held back.
+pub record HeldBelow (n : ℕ) (b : Exchange) : Type 0 where
+  pub sender : ℕ
+  pub near : sender < n
+  pub held : IsSome (mail_of b sender).held
+
 -- The parts of the first n senders were made.
 pub record SentTo (n : ℕ) (a b : Exchange) (all : Bool) : Type 0 where
   pub calls : List Call
@@ -247,6 +262,7 @@ pub record SentTo (n : ℕ) (a b : Exchange) (all : Bool) : Type 0 where
   pub only : OnlyMails a b
   pub moved : (k : ℕ) → k < n → HasMoved k b
   pub none_held : IsTrue all → (k : ℕ) → k < n → (mail_of b k).held ≡ None
+  pub held : (all ≡ true) ⊎ HeldBelow n b
 
 pub mails_same : (a : Exchange) → OnlyMails a a
 mails_same a = record { sides = λ k. refl; lanes = record { lanes = refl; limits = refl; senders = refl }; view = refl; closed = refl }
@@ -268,6 +284,7 @@ nobody_sent a = record {
   only = mails_same a;
   moved = λ k below. absurd (omega (arith, below));
   none_held = λ is k below. absurd (omega (arith, below));
+  held = inl refl;
 }
 
 moved_still : (i k : ℕ) (a b : Exchange) → k ≢ i → OnlyReports i a b → HasMoved k a → HasMoved k b
@@ -295,7 +312,7 @@ parts_behind n a m b calls h mine same part only =
     )
 
 pub next_sent : (n : ℕ) (a m b : Exchange) (all sent both_sent : Bool) → SentTo n a m all → SendsSome n m b sent → OnlyReports n m b
-    → (IsTrue both_sent → IsTrue all × IsTrue sent) → SentTo (n + 1) a b both_sent
+    → both_sent ≡ (all && sent) → SentTo (n + 1) a b both_sent
 next_sent n a m b all sent both_sent h w only both = record {
   calls = h.calls ++ w.calls;
   parts = parts_behind n a m b h.calls h.parts w.calls (h.later n (omega arith)) w.part only;
@@ -307,9 +324,20 @@ next_sent n a m b all sent both_sent h w only both = record {
       (λ (here : n ≤ k). let same : n ≡ k = omega (arith, here, below) in subst (λ (j : ℕ). HasMoved j b) same w.moved)
       (cases_lt k n);
   none_held = λ is k below. ⊎_elim
-      (λ (before : k < n). ap (λ (x : Mail). x.held) (only.others k (λ e. omega (arith, e, before))) ∙ h.none_held (both is).0 k before)
-      (λ (here : n ≤ k). let same : n ≡ k = omega (arith, here, below) in subst (λ (j : ℕ). (mail_of b j).held ≡ None) same (w.none_held (both is).1))
+      (λ (before : k < n). ap (λ (x : Mail). x.held) (only.others k (λ e. omega (arith, e, before))) ∙ h.none_held (both_true all sent (sym both ∙ is)).0 k before)
+      (λ (here : n ≤ k). let same : n ≡ k = omega (arith, here, below) in subst (λ (j : ℕ). (mail_of b j).held ≡ None) same (w.none_held (both_true all sent (sym both ∙ is)).1))
       (cases_lt k n);
+  held = ⊎_elim
+      (λ (before : all ≡ true). ⊎_elim
+      (λ (here : sent ≡ true). inl (both ∙ true_both all sent before here))
+      (λ (mine : IsSome (mail_of b n).held). inr (record { sender = n; near = omega arith; held = mine }))
+      w.held)
+      (λ (other : HeldBelow n m). inr (record {
+        sender = other.sender;
+        near = omega (arith, other.near);
+        held = subst (λ (o : Option Report). IsSome o) (sym (ap (λ (x : Mail). x.held) (only.others other.sender (λ e. omega (arith, e, other.near))))) other.held;
+      }))
+      h.held;
 }
 
 pub all_until : (n : ℕ) (a m b : Exchange) (all : Bool) → SentTo n a m all → SendsUntil n m b → OnlyReports n m b → SendsAllUntil a b
@@ -328,4 +356,8 @@ everyone_sent n a b all whole h = record {
   runs = h.runs;
   moved = λ k below. h.moved k (omega (arith, below, whole, h.only.lanes.senders));
   none_held = λ is k below. h.none_held is k (omega (arith, below, whole, h.only.lanes.senders));
+  held = ⊎_elim
+      (λ (is : all ≡ true). inl is)
+      (λ (other : HeldBelow n b). inr (record { sender = other.sender; near = omega (arith, other.near, whole, h.only.lanes.senders); held = other.held }))
+      h.held;
 }

@@ -1,5 +1,5 @@
 -- What stays of the senders' items and reports.
-use Rattle.std.proofs.Common.{◌≡◌, ℕ, ◌<◌, List, [], length, get_or, refl, sym, ap, ◌∙◌, subst, inl, inr}
+use Rattle.std.proofs.Common.{◌≡◌, ◌⊎◌, ℕ, ◌<◌, List, [], length, get_or, refl, sym, ap, ◌∙◌, subst, inl, inr}
 use Rattle.std.specs.Prelude.{Option, None, IsSome}
 use Rattle.std.proofs.lemmas.List.{get_or-set_same, get_or-set_other, length-set}
 use Rattle.kp_accum.specs.declared.item.Item.{Item}
@@ -10,7 +10,7 @@ use Rattle.kp_lanes.specs.declared.intake.Intake.{Intake}
 use Rattle.kp_rules.specs.declared.outcome.Report.{Report}
 use Rattle.kp_rules.specs.Calls.{Call}
 use Rattle.kp_engine.specs.Agreement.{held_at}
-use Rattle.kp_engine.specs.Exchange.{IsIdle, OnlyCore, Runs, SameLanes, TookEnough, TookNone, kept_calls, mail_of, senders_of, side_of}
+use Rattle.kp_engine.specs.Exchange.{IsIdle, OnlyCore, Runs, SameLanes, TookEnough, TookNone, WasBusy, kept_calls, mail_of, senders_of, side_of}
 use Rattle.kp_engine.specs.Turn.{Side}
 use Rattle.kp_engine.specs.Steps.{OnlyItem, OnlyLane, OnlySide}
 use Rattle.kp_engine.specs.declared.exchange.Exchange.{Exchange}
@@ -95,6 +95,14 @@ idle_still i a b side lanes view h = record {
   found = none_still i a b (ap (λ (s : Side). s.passed) side) lanes view h.found;
   none_held = ap (λ (s : Side). s.held) side ∙ h.none_held;
 }
+
+-- ---- who was busy was so
+
+pub busy_still : (P : Type 0) (old new newer : Side) → newer.passed ≡ new.passed → newer.held ≡ new.held → P ⊎ WasBusy old new → P ⊎ WasBusy old newer
+busy_still P old new newer passed held (inl p) = inl p
+busy_still P old new newer passed held (inr (inl h)) = inr (inl h)
+busy_still P old new newer passed held (inr (inr (inl h))) = inr (inr (inl (subst (λ (o : Option Item). IsSome o) (sym held) h)))
+busy_still P old new newer passed held (inr (inr (inr h))) = inr (inr (inr (ap (λ (l : List Entry). length (items_of l)) passed ∙ h)))
 
 -- ---- enough taken stays so
 

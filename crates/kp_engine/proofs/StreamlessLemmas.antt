@@ -89,6 +89,7 @@ module _ {S : Type 0} where
       cleared = p.cleared;
       after = no_wire p.after;
       turns = turns_so p.now p.begun wire y p.after result p.turns;
+      undone = p.undone;
       line = ap no_line p.line ∙ left_so result p.after;
     }
     poll_so (Stopped stop) x result y left p = (p.0, p.1, ap no_line p.2)

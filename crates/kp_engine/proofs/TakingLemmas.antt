@@ -1,5 +1,5 @@
 -- A sender's items, appended one after the other.
-use Rattle.std.proofs.Common.{◌≡◌, ℕ, ◌+◌, ◌<◌, ◌≤◌, Bool, true, false, List, [], ◌∷◌, ◌++◌, length, get_or, refl, sym, ap, ◌∙◌, subst, append_assoc, append-nil, inl, inr, length-append, arith}
+use Rattle.std.proofs.Common.{◌≡◌, ℕ, ◌+◌, ◌<◌, ◌≤◌, ◌⊎◌, Bool, true, false, List, [], ◌∷◌, ◌++◌, length, get_or, refl, sym, ap, ◌∙◌, subst, append_assoc, append-nil, inl, inr, length-append, arith}
 use Rattle.std.specs.Prelude.{Option, Some, None, Result, Ok, Err, IfSome, IsSome, is_some, drop, option_to_list, slice_set}
 use Rattle.std.specs.List.{AllByRecursion}
 use Rattle.std.proofs.lemmas.List.{length-map, map-append, get_or-set_same, get_or-set_other, set-get_or}
@@ -15,13 +15,13 @@ use Rattle.kp_lanes.specs.declared.intake.Intake.{Intake}
 use Rattle.kp_rules.specs.declared.outcome.Report.{Report}
 use Rattle.kp_rules.specs.Calls.{Call, Append, Flush}
 use Rattle.kp_engine.specs.Agreement.{held_at}
-use Rattle.kp_engine.specs.Exchange.{OnlyCore, Runs, TookEnough, senders_of, side_of}
+use Rattle.kp_engine.specs.Exchange.{OnlyCore, Runs, TookEnough, WasBusy, senders_of, side_of}
 use Rattle.kp_engine.specs.Steps.{AppendsFrom, AppendsHeld, AppendsOne, AppendsSome, AppendsUntil, Flushes, HeldAgain, HoldsNow, OnlyLane, OnlySide, TakesOne, WholePart, ended_by}
 use Rattle.kp_engine.specs.Turn.{Side, Takes, appends, fails, if_so, refuses}
 use Rattle.kp_engine.specs.declared.exchange.Exchange.{Exchange}
 use Rattle.kp_engine.proofs.RunLemmas.{runs_none, runs_still, runs_then}
 use Rattle.kp_engine.proofs.AgreementLemmas.{none_some}
-use Rattle.kp_engine.proofs.SideLemmas.{enough_still, none_still, now_held, of_core, of_item, of_lane, runs_from, same_mail, same_side, side_same, side_then}
+use Rattle.kp_engine.proofs.SideLemmas.{busy_still, enough_still, none_still, now_held, of_core, of_item, of_lane, runs_from, same_mail, same_side, side_same, side_then}
 
 pub if_some_is : {A : Type 0} (P : A → Type 0) (o : Option A) → ((x : A) → o ≡ Some x → P x) → IfSome o P
 if_some_is P None h = tt
@@ -111,6 +111,7 @@ module _ (i : ℕ) (item : Item) (a m b : Exchange) (near : i < senders_of a) (w
     asked = asked_now h.1.asked;
     runs = runs_from a m b _ now.core now.kept h.1.runs;
     enough = inl (some_is (held_at a.items.items i) item was);
+    busy = inr (inl (some_is (held_at a.items.items i) item was));
     idle = λ is. absurd (not_both (sym h.0 ∙ is));
   }
     where
@@ -208,6 +209,7 @@ module _ (i n : ℕ) (item : Item) (a m b c : Exchange) (h : TakenSoFar i n a m)
         asked = asked_one refused.1.intake;
         runs = subst (λ (o : Option Item). Runs a (appends h.items ++ refuses o) c) (sym held) (runs_one_more (Append item (Err BufferFull) ∷ []) refused.0);
         enough = inr (inl (some_is (held_at c.items.items i) item held));
+        busy = inr (inr (inl (some_is (held_at c.items.items i) item held)));
         idle = λ is. absurd (false_true is);
       }
   last_taken OutOfMemory near was few refused =
@@ -245,6 +247,7 @@ found_none i n a m b h few was takes lane =
       runs = subst (λ (o : Option Item). Runs a (appends h.items ++ refuses o) b) (sym free)
           (subst (λ (xs : List Call). Runs a xs b) (sym (append-nil (appends h.items))) (runs_still a m b (appends h.items) h.runs lane.core lane.kept));
       enough = inr (inr (inr takes.1));
+      busy = inl refl;
       idle = λ is. record { found = takes.1; none_held = free };
     }
 
@@ -266,6 +269,7 @@ enough_taken i n a m h whole was = record {
   runs = subst (λ (o : Option Item). Runs a (appends h.items ++ refuses o) m) (sym h.free)
       (subst (λ (xs : List Call). Runs a xs m) (sym (append-nil (appends h.items))) h.runs);
   enough = inr (inr (inl (omega (arith, ap length h.passed, length-append (items_of (passed_of a.intake i)) h.items, h.count, whole))));
+  busy = inr (inr (inr (omega (arith, ap length h.passed, length-append (items_of (passed_of a.intake i)) h.items, h.count, whole))));
   idle = λ is. absurd (false_true is);
 }
 
@@ -293,6 +297,7 @@ from_none i a m b (Ok found) was now h =
       asked = h.asked ∙ asked_core i a m same.intake;
       runs = runs_from a m b _ now.core now.kept h.runs;
       enough = subst (λ (s : Side). TookEnough i s (side_of b i) b.intake) (side_still i a m same) h.enough;
+      busy = subst (λ (s : Side). (found ≡ true) ⊎ WasBusy s (side_of b i)) (side_still i a m same) h.busy;
       idle = h.idle;
     }
 from_none i a m b (Err refused) was now h =
@@ -360,6 +365,7 @@ whole_part i a m b found h f only = record {
   };
   runs = runs_then a m b (appends h.appended ++ refuses (side_of m i).held) _ h.runs f.runs;
   enough = enough_still i (side_of a i) m b f.passed f.held only.lanes.lanes only.view h.enough;
+  busy = busy_still (found ≡ true) (side_of a i) (side_of m i) (side_of b i) f.passed f.held h.busy;
   idle = λ is. let before = h.idle is in record {
     found = none_still i m b f.passed only.lanes.lanes only.view before.found;
     none_held = f.held ∙ before.none_held;

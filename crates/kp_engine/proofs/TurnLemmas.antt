@@ -1,16 +1,17 @@
 -- A whole turn, of its parts.
-use Rattle.std.proofs.Common.{◌≡◌, ◌<◌, ℕ, zero, suc, Bool, true, false, List, [], ◌∷◌, ◌++◌, length, Some, None, Ok, refl, ap, subst, ◌∙◌, inl, inr, append-nil, arith}
+use Rattle.std.proofs.Common.{◌≡◌, ◌<◌, ◌⊎◌, ℕ, zero, suc, Bool, true, false, List, [], ◌∷◌, ◌++◌, length, Some, None, Ok, refl, sym, ap, subst, ◌∙◌, inl, inr, append-nil, arith}
 use Rattle.std.specs.Prelude.{Option, IsTrue, ◌||◌}
 use Rattle.kp_connection.specs.Answers.{Answer}
 use Rattle.kp_connection.specs.Wire.{Told, Wired, Stops}
 use Rattle.kp_connection.proofs.WireLemmas.{Goes-nothing, Goes-stops}
 use Rattle.kp_lanes.specs.Intake.{intake_view}
+use Rattle.kp_lanes.specs.declared.gate.view.View.{View}
 use Rattle.kp_rules.specs.Calls.{Call, Tick}
 use Rattle.kp_frames.specs.declared.fault.FrameFault.{FrameFault}
 use Rattle.kp_rules.specs.declared.outgoing.Outgoing.{Outgoing}
 use Rattle.kp_rules.specs.declared.ticked.Ticked.{Ticked}
-use Rattle.kp_engine.specs.Exchange.{AreIdle, IsQuiet, OnlyCore, Runs, SameClosed, SameLanes, SameMail, TookEnough, mail_of, senders_of, side_of}
-use Rattle.kp_engine.specs.Polls.{Closed, CutFor, FinishesAll, FinishesUntil, IsDone, TalksAll, TalksCut, TalksOn, TalksOut, TurnUntil, Turns, TurnsCut, TurnsOn, TurnsOut, stop_of}
+use Rattle.kp_engine.specs.Exchange.{AreIdle, IsQuiet, MayStayOpen, OnlyCore, Runs, SameClosed, SameLanes, SameMail, SomeBusy, TookEnough, WasBusy, mail_of, senders_of, side_of}
+use Rattle.kp_engine.specs.Polls.{Closed, CutFor, FinishesAll, FinishesUntil, GoesOnBehind, HasMore, IsDone, IsUndone, TalksAll, TalksCut, TalksOn, TalksOut, TurnUntil, Turns, TurnsCut, TurnsOn, TurnsOut, stop_of}
 use Rattle.kp_engine.specs.Steps.{OnlyMails, TakesAndCloses, TakesUntil}
 use Rattle.kp_engine.specs.Talking.{contents_of, frames_of}
 use Rattle.kp_engine.specs.Turn.{Heard, ItemsPart, Mail, MailPart, MailParts, RepliesPart, ReportsPart, ReportsPartUntil, RequestsPart, Side}
@@ -77,6 +78,15 @@ core_mail a b h k = (of_core k a b h).mail k
 idle_then : (a b : Exchange) → ((k : ℕ) → side_of b k ≡ side_of a k) → SameLanes a b → intake_view b.intake ≡ intake_view a.intake → AreIdle a → AreIdle b
 idle_then a b sides lanes view h k near = idle_still k a b (sides k) lanes.lanes view (h k (omega (arith, near, lanes.senders)))
 
+busy_then : (a b c : Exchange) → ((k : ℕ) → side_of c k ≡ side_of b k) → SomeBusy a b → SomeBusy a c
+busy_then a b c sides h = record { sender = h.sender; near = h.near; busy = subst (λ (s : Side). WasBusy (side_of a h.sender) s) (sym (sides h.sender)) h.busy }
+
+stays_open : (a b c : Exchange) (closes : Bool) → ((k : ℕ) → side_of c k ≡ side_of b k) → intake_view c.intake ≡ intake_view b.intake → (closes ≡ true) ⊎ MayStayOpen a b → (closes ≡ true) ⊎ MayStayOpen a c
+stays_open a b c closes sides view (inl is) = inl is
+stays_open a b c closes sides view (inr (inl closed)) = inr (inl closed)
+stays_open a b c closes sides view (inr (inr (inl other))) = inr (inr (inl (λ is. other (sym (ap (λ (v : View). v.found) view) ∙ is))))
+stays_open a b c closes sides view (inr (inr (inr busy))) = inr (inr (inr (busy_then a b c sides busy)))
+
 -- ---- a turn
 
 module _ (now : ℕ) (x a b c d : Exchange) (idle : Bool) (ticked : Ticked) (takes : TakesAndCloses x a idle) (same_mail : SameMail x a) (same_lanes_taken : SameLanes x a)
@@ -112,6 +122,9 @@ module _ (now : ℕ) (x a b c d : Exchange) (idle : Bool) (ticked : Ticked) (tak
 
   only_all : IsTrue takes.closes → (x.closed ≡ false) × IsQuiet d × AreIdle d
   only_all so = let p = takes.only so in (p.0, ap (λ v. v.knows_quiet) view_all ∙ p.1, idle_all p.2)
+
+  must_all : (takes.closes ≡ true) ⊎ MayStayOpen x d
+  must_all = stays_open x a d takes.closes sides view_all takes.must
 
   pub items_all : ItemsPart (senders_of x) (side_of x) takes.closes takes.calls (side_of d)
   items_all = items_kept (senders_of x) (side_of x) (side_of a) (side_of d) takes.closes takes.calls sides takes.part
@@ -157,6 +170,7 @@ module _ (now : ℕ) (x a b c d : Exchange) (idle : Bool) (ticked : Ticked) (tak
         took = enough_all;
         closed = closed_all;
         only = only_all;
+        must = must_all;
         moved = f.moved;
       };
       runs = runs_all (p.asked ++ p.replied) f.calls p.talks.runs f.runs;
@@ -218,6 +232,7 @@ module _ (now : ℕ) (x a b c d : Exchange) (idle : Bool) (ticked : Ticked) (tak
             took = enough_all;
             closed = closed_all;
             only = only_all;
+            must = must_all;
             moved = f.moved;
           };
           runs = runs_all (p.asked ++ p.replied) f.calls p.talks.runs f.runs;
@@ -238,6 +253,23 @@ module _ (now : ℕ) (x a b c d : Exchange) (idle : Bool) (ticked : Ticked) (tak
         ended h = (h refl).1 (idle_talked (takes.found (h refl).0))
     turned false None p f = turned_on false p.0 p.1 f
     turned false (Some cause) p f = turned_cut false cause p f
+
+    -- where it is not done
+    pub undone_turned : (done : Bool) (cut : Option Cause) → FinishesAll now cut c idle done d → GoesOnBehind (stop_of done cut) → IsUndone x d
+    undone_turned true cut f goes = absurd goes
+    undone_turned false cut f goes = left f.undone takes.busy
+      where
+        left : (false ≡ true) ⊎ ((idle ≡ false) ⊎ HasMore d) → (idle ≡ true) ⊎ SomeBusy x a → IsUndone x d
+        left (inl e) busy = absurd (apart e)
+          where
+            apart : false ≡ true → ⊥
+            apart e = cc
+        left (inr (inr more)) busy = inr more
+        left (inr (inl e)) (inl free) = absurd (apart (sym e ∙ free))
+          where
+            apart : false ≡ true → ⊥
+            apart e = cc
+        left (inr (inl e)) (inr busy) = inl (busy_then x a d sides busy)
 
     -- memory was refused in the last part
     until_reports : (cut : Bool) (sent : List Outgoing) (heard : List Heard) (refused : Option (List ℕ × FrameFault)) (asked replied reports : List Call)

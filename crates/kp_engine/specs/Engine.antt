@@ -8,7 +8,7 @@ use Rattle.kp_frames.specs.Stream.{is_faulty}
 use Rattle.kp_lanes.specs.declared.intake.Intake.{Intake}
 use Rattle.kp_rules.specs.Records.{Core}
 use Rattle.kp_engine.specs.Exchange.{kept_calls}
-use Rattle.kp_engine.specs.Polls.{Turns}
+use Rattle.kp_engine.specs.Polls.{GoesOnBehind, IsUndone, Turns}
 use Rattle.kp_engine.specs.declared.engine.Line.{Line}
 use Rattle.kp_engine.specs.declared.engine.Line.TheVariants.{Open, Stopped}
 use Rattle.kp_engine.specs.declared.exchange.Exchange.{Exchange}
@@ -67,13 +67,14 @@ abbrev pub line_after : {S : Type 0} → Poll Stop → Wired S → Line S
 line_after Pending wire = Open wire
 line_after (Ready stop) wire = Stopped stop
 
--- One turn was made, over this connection.
+-- One turn was made, over this connection. The engine is done where nothing is left to do.
 pub record MakesTurn {S : Type 0} (answers : Told S) (old : Exchange) (wire : Wired S) (result : Poll Stop) (new : Exchange) (left : Line S) : Type 0 where
   pub now : ℕ
   pub begun : Exchange
   pub cleared : Cleared old begun
   pub after : Wired S
   pub turns : Turns answers now begun wire result new after
+  pub undone : GoesOnBehind result → IsUndone begun new
   pub line : left ≡ line_after result after
 
 -- Where the connection was given up, no turn is made, and the same is answered.

@@ -1,5 +1,5 @@
 -- What contracts see of the core, the lanes and what is held between them.
-use Rattle.std.specs.Prelude.{◌≡◌, ◌⊎◌, ℕ, ◌+◌, ◌<◌, true, List, [], length, Option, None, IsSome}
+use Rattle.std.specs.Prelude.{◌≡◌, ◌≢◌, ◌⊎◌, ℕ, ◌+◌, ◌<◌, true, List, [], length, Option, None, IsSome}
 use Rattle.std.specs.List.{AllByRecursion}
 use Rattle.kp_lanes.specs.Entries.{items_of}
 use Rattle.kp_lanes.specs.Intake.{lanes_of, intake_limits, intake_view, passed_of, asked_at_of, told_of, room_of, seen_of, places_of}
@@ -88,11 +88,31 @@ abbrev pub TookEnough : ℕ → Side → Side → Intake → Type 0
 TookEnough i old new intake = IsSome old.held ⊎ (IsSome new.held
     ⊎ ((length (items_of new.passed) ≡ length (items_of old.passed) + 64) ⊎ TookNone i intake))
 
+-- One of the sender's items is held now or was before, or 64 were taken.
+abbrev pub WasBusy : Side → Side → Type 0
+WasBusy old new = IsSome old.held ⊎ (IsSome new.held ⊎ (length (items_of new.passed) ≡ length (items_of old.passed) + 64))
+
+-- So it is of one of the senders.
+pub record SomeBusy (old new : Exchange) : Type 0 where
+  pub sender : ℕ
+  pub near : sender < senders_of old
+  pub busy : WasBusy (side_of old sender) (side_of new sender)
+
 -- the gate was known to be shut, with nobody inside
 abbrev pub IsQuiet : Exchange → Type 0
 IsQuiet x = (intake_view x.intake).knows_quiet ≡ true
 
+-- It was closed before, or was not found to be quiet, or a sender was busy.
+abbrev pub MayStayOpen : Exchange → Exchange → Type 0
+MayStayOpen old new = (old.closed ≡ true) ⊎ (((intake_view new.intake).found ≢ 1) ⊎ SomeBusy old new)
+
 -- ---- full rings
+
+-- A sender's report is held back.
+pub record SomeHeld (x : Exchange) : Type 0 where
+  pub sender : ℕ
+  pub near : sender < senders_of x
+  pub held : IsSome (held_at x.reports.items sender)
 
 -- the sender's ring knew no free place
 pub record WasFull (i : ℕ) (new : Intake) : Type 0 where

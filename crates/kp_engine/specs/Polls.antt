@@ -14,7 +14,7 @@ use Rattle.kp_rules.specs.declared.outgoing.Outgoing.{Outgoing}
 use Rattle.kp_rules.specs.declared.ticked.Ticked.{Ticked}
 use Rattle.kp_rules.specs.Partitions.{all_untold}
 use Rattle.kp_engine.specs.Agreement.{waiting_of}
-use Rattle.kp_engine.specs.Exchange.{AreIdle, HasMoved, IsQuiet, Runs, SameClosed, SameLanes, SameMail, TookEnough, mail_of, senders_of, side_of}
+use Rattle.kp_engine.specs.Exchange.{AreIdle, HasMoved, IsQuiet, MayStayOpen, Runs, SomeBusy, SomeHeld, SameClosed, SameLanes, SameMail, TookEnough, mail_of, senders_of, side_of}
 use Rattle.kp_engine.specs.Talking.{CutBy, HeardAll, Talks, TalksUntil, contents_of, frames_of}
 use Rattle.kp_engine.specs.Turn.{Heard, ItemsPart, ItemsPartUntil, RepliesPart, RepliesPartUntil, ReportsPart, ReportsPartUntil, RequestsPart, RequestsPartUntil, TickPart}
 use Rattle.kp_engine.specs.declared.exchange.Exchange.{Exchange}
@@ -101,12 +101,17 @@ pub record IsDone (x : Exchange) : Type 0 where
   pub no_item : (i : ℕ) → i < senders_of x → (side_of x i).held ≡ None
   pub no_report : (i : ℕ) → i < senders_of x → ((mail_of x i).held ≡ None) × (waiting_of x.core i ≡ [])
 
+-- It was not closed, or an item is not told of, or a report is held back.
+abbrev pub HasMore : Exchange → Type 0
+HasMore x = (x.closed ≡ false) ⊎ (((all_untold x.core ≡ []) → ⊥) ⊎ SomeHeld x)
+
 pub record FinishesAll (now : ℕ) (cut : Option Cause) (x : Exchange) (idle all : Bool) (y : Exchange) : Type 0 where
   pub calls : List Call
   pub part : ReportsPart (senders_of x) now (is_cut cut) (mail_of x) calls (mail_of y)
   pub runs : Runs x calls y
   pub moved : (k : ℕ) → k < senders_of y → HasMoved k y
   pub done : IsTrue all → IsTrue idle × (AreIdle x → IsDone y)
+  pub undone : (all ≡ true) ⊎ ((idle ≡ false) ⊎ HasMore y)
 
 pub record FinishesUntil (now : ℕ) (cut : Option Cause) (x y : Exchange) : Type 0 where
   pub calls : List Call
@@ -140,9 +145,10 @@ pub record Turn (now : ℕ) (x : Exchange) (sent : List Outgoing) (heard : List 
   pub nothing_tried : cut ≡ Some TimedOut → asked ++ replied ≡ []
   -- items are left in a lane only behind one that is held, or 64
   pub took : (k : ℕ) → k < senders_of x → TookEnough k (side_of x k) (side_of y k) y.intake
-  -- it closes at most once, and only where no sender could send any more before all was taken
+  -- it closes at most once, and only where no sender could send any more before all was taken; and then it does
   pub closed : y.closed ≡ (x.closed || closes)
   pub only : IsTrue closes → (x.closed ≡ false) × IsQuiet y × AreIdle y
+  pub must : (closes ≡ true) ⊎ MayStayOpen x y
   -- reports are held back only where the sender's ring is full
   pub moved : (k : ℕ) → k < senders_of y → HasMoved k y
 
@@ -169,6 +175,17 @@ pub data TurnUntil (now : ℕ) (x y : Exchange) : List Outgoing → List Heard �
       → TurnUntil now x y sent heard (items ++ tick ++ (asked ++ replied) ++ reports)
 
 -- ---- a poll
+
+-- Behind this answer the engine is to be polled again, or to be given a stream.
+abbrev pub GoesOnBehind : Poll Stop → Type 0
+GoesOnBehind Pending = Unit {0}
+GoesOnBehind (Ready Done) = ⊥
+GoesOnBehind (Ready (NeedStream cause)) = Unit {0}
+GoesOnBehind (Ready OutOfMemory) = ⊥
+
+-- What an engine is not done for: a sender was busy in its turn, or there is more to do.
+abbrev pub IsUndone : Exchange → Exchange → Type 0
+IsUndone x y = SomeBusy x y ⊎ HasMore y
 
 -- what a turn answers
 abbrev pub stop_of : Bool → Option Cause → Poll Stop

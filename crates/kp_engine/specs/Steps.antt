@@ -1,5 +1,5 @@
 -- What the engine does with one sender, step by step.
-use Rattle.std.specs.Prelude.{◌≡◌, ◌≢◌, ℕ, ◌<◌, ◌≤◌, ◌||◌, Bool, true, false, List, [], ◌∷◌, ◌++◌, length, Option, Some, None, IsTrue, Result, Ok, Err, alloc_error, drop, option_to_list, slice_set}
+use Rattle.std.specs.Prelude.{◌≡◌, ◌≢◌, ◌⊎◌, ℕ, ◌<◌, ◌≤◌, ◌||◌, Bool, true, false, List, [], ◌∷◌, ◌++◌, length, Option, Some, None, IsSome, IsTrue, Result, Ok, Err, alloc_error, drop, option_to_list, slice_set}
 use Rattle.std.specs.declared.alloc.AllocError.{AllocError}
 use Rattle.kp_accum.specs.declared.fault.AppendFault.{AppendFault}
 use Rattle.kp_accum.specs.declared.fault.AppendFault.TheVariants.{BufferFull, OutOfMemory}
@@ -10,7 +10,7 @@ use Rattle.kp_rules.specs.declared.outcome.Report.{Report}
 use Rattle.kp_rules.specs.Appending.{may_append}
 use Rattle.kp_rules.specs.Calls.{Call, Append, Close, Fetch, Flush}
 use Rattle.kp_engine.specs.Agreement.{waiting_of}
-use Rattle.kp_engine.specs.Exchange.{AreIdle, HasMoved, IsIdle, IsQuiet, OnlyCore, Runs, SameClosed, SameLanes, SameMail, SameSides, TookEnough, TookNone, WasFull, kept_calls, mail_of, senders_of, side_of}
+use Rattle.kp_engine.specs.Exchange.{AreIdle, HasMoved, IsIdle, IsQuiet, MayStayOpen, SomeBusy, SomeHeld, WasBusy, OnlyCore, Runs, SameClosed, SameLanes, SameMail, SameSides, TookEnough, TookNone, WasFull, kept_calls, mail_of, senders_of, side_of}
 use Rattle.kp_engine.specs.Turn.{ItemsPart, ItemsPartUntil, MailPart, MailParts, Takes, SenderPart, SenderParts, SenderPartUntil, appends, fails, if_so, refuses}
 use Rattle.kp_engine.specs.declared.exchange.Exchange.{Exchange}
 
@@ -83,6 +83,7 @@ pub record AppendsSome (i : ℕ) (old new : Exchange) (found_empty : Bool) : Typ
   pub runs : Runs old (appends appended ++ refuses (side_of new i).held) new
   pub enough : TookEnough i (side_of old i) (side_of new i) new.intake
   pub idle : IsTrue found_empty → IsIdle i new
+  pub busy : (found_empty ≡ true) ⊎ WasBusy (side_of old i) (side_of new i)
 
 -- the sender's part until memory was refused
 pub record AppendsUntil (i : ℕ) (old new : Exchange) : Type 0 where
@@ -133,6 +134,7 @@ pub record WholePart (i : ℕ) (old new : Exchange) (found_empty : Bool) : Type 
   pub runs : Runs old calls new
   pub enough : TookEnough i (side_of old i) (side_of new i) new.intake
   pub idle : IsTrue found_empty → IsIdle i new
+  pub busy : (found_empty ≡ true) ⊎ WasBusy (side_of old i) (side_of new i)
 
 abbrev pub TakesFrom : ℕ → Exchange → Result Bool AllocError → Exchange → Type 0
 TakesFrom i old (Ok found_empty) new = WholePart i old new found_empty
@@ -154,6 +156,7 @@ pub record TakesAll (old new : Exchange) (idle : Bool) : Type 0 where
   pub runs : Runs old calls new
   pub enough : (k : ℕ) → k < senders_of old → TookEnough k (side_of old k) (side_of new k) new.intake
   pub found : IsTrue idle → AreIdle new
+  pub busy : (idle ≡ true) ⊎ SomeBusy old new
 
 pub record TakesUntil (old new : Exchange) : Type 0 where
   pub calls : List Call
@@ -193,7 +196,9 @@ pub record TakesAndCloses (old new : Exchange) (idle : Bool) : Type 0 where
   pub closed : new.closed ≡ (old.closed || closes)
   -- it closes at most once, and only where no sender could send any more before all was taken
   pub only : IsTrue closes → (old.closed ≡ false) × IsQuiet new × AreIdle new
+  pub must : (closes ≡ true) ⊎ MayStayOpen old new
   pub found : IsTrue idle → AreIdle new
+  pub busy : (idle ≡ true) ⊎ SomeBusy old new
 
 abbrev pub TakesItems : Exchange → Result Bool AllocError → Exchange → Type 0
 TakesItems old (Ok idle) new = TakesAndCloses old new idle
@@ -240,6 +245,7 @@ pub record SendsSome (i : ℕ) (old new : Exchange) (all : Bool) : Type 0 where
   pub runs : Runs old calls new
   pub moved : HasMoved i new
   pub none_held : IsTrue all → (mail_of new i).held ≡ None
+  pub held : (all ≡ true) ⊎ IsSome (mail_of new i).held
 
 -- the sender's part until memory was refused
 pub record SendsUntil (i : ℕ) (old new : Exchange) : Type 0 where
@@ -266,6 +272,7 @@ pub record SendsAll (old new : Exchange) (all : Bool) : Type 0 where
   pub runs : Runs old calls new
   pub moved : (k : ℕ) → k < senders_of new → HasMoved k new
   pub none_held : IsTrue all → (k : ℕ) → k < senders_of new → (mail_of new k).held ≡ None
+  pub held : (all ≡ true) ⊎ SomeHeld new
 
 -- the parts of so many senders, until memory was refused in the last one's
 pub record SendsAllUntil (old new : Exchange) : Type 0 where

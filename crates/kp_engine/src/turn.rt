@@ -4,7 +4,7 @@ ghost use Rattle.std.specs.Prelude.{◌≡◌, None, false, IfOk};
 ghost use Rattle.futures.specs.Poll.{OnPending};
 ghost use Rattle.futures.specs.Task.{Covers, Keeps};
 ghost use Rattle.kp_frames.specs.Stream.{is_faulty};
-ghost use Rattle.kp_engine.specs.Polls.{TalksAll, Turns, stop_of};
+ghost use Rattle.kp_engine.specs.Polls.{GoesOnBehind, IsUndone, TalksAll, Turns, stop_of};
 
 mod ending;
 mod hearing;
@@ -25,6 +25,7 @@ pub(crate) fn turn<S: Stream>(
 ) -> Poll<Stop>
     requires { is_faulty wire.old.held ≡ false }
     ensures turns { Turns S.answers now exchange.old wire.old result exchange.new wire.new }
+    ensures undone { GoesOnBehind result → IsUndone exchange.old exchange.new }
     ensures registered { OnPending result (Covers cx.new (S.reader wire.new.stream)) }
     ensures kept { Keeps cx.old cx.new }
 {

@@ -6,12 +6,13 @@ use Rattle.std.specs.Str.{IsUtf8}
 use Rattle.std.proofs.lemmas.List.Folds.{concat-append}
 use Rattle.kp_accum.specs.declared.config.Config.{Config}
 use Rattle.kp_connection.specs.Answers.{Answer, gone}
-use Rattle.kp_connection.specs.Wire.{Told}
+use Rattle.kp_connection.specs.Wire.{Told, Wired}
 use Rattle.kp_connection.proofs.WireLemmas.{Stops-first}
 use Rattle.kp_engine.specs.Closing.{Polled, calls_of_poll}
 use Rattle.kp_engine.specs.Engine.{fresh_wire}
 use Rattle.kp_engine.specs.Serving.{Served, asked_by, replied_by}
 use Rattle.kp_engine.specs.declared.engine.Line.{Line}
+use Rattle.kp_engine.specs.declared.engine.Line.TheVariants.{Open}
 use Rattle.kp_engine.specs.declared.exchange.Exchange.{Exchange}
 use Rattle.kp_engine.proofs.ClosingLemmas.{polls_serve}
 use Rattle.kp_frames.specs.declared.frame.TheConstants.{CONTENT_LIMIT}
@@ -32,11 +33,11 @@ use Rattle.kp_rules.proofs.FittingLemmas.{request_fits}
 use Rattle.kp_rules.proofs.OrderedCallLemmas.{kept, new_in_order, order_unaudited}
 use Rattle.kp_world.specs.Run.{MayBegin}
 use Rattle.kp_world.specs.World.{Opening}
-use Rattle.kp_polls.specs.Bytes.{AreWritten, GoesOver, OverStream}
+use Rattle.kp_polls.specs.Bytes.{AreWritten, GoesOnOver, GoesOver, OverStream}
 use Rattle.kp_polls.specs.Polling.{Polling, core_of}
 use Rattle.kp_polls.proofs.AroundLemmas.{served}
 use Rattle.kp_polls.proofs.NameLemmas.{SameNames, same_names}
-use Rattle.kp_polls.proofs.StreamLemmas.{StopsBy, stopped_so, went_over}
+use Rattle.kp_polls.proofs.StreamLemmas.{GoesBy, StopsBy, stopped_so, went_over}
 
 -- ---- the packets of calls, and their frames
 
@@ -208,9 +209,15 @@ alone_polled answers given x more xs y line over = over_polls answers x [] given
 
 module _ {S : Type 0} (answers : Told S) (nothing : (s : S) → answers s [] s)
     (in_order : (a : S) (xs : List Answer) (b : S) (ys : List Answer) (c : S) → answers a xs b → answers b ys c → answers a (xs ++ ys) c) where
-  pub goes_over : (o : Opening) (calls : List Call) (x : Exchange) (given : S) (more : List Call) (xs : List Answer) (y : Exchange) (line : Line S)
-      → Polling answers o calls x → OverStream answers given x more xs y line → GoesOver answers given o.config o.names x.core more xs y.core
-  goes_over o calls x given more xs y line p over =
+  -- the core was run over these calls, and the frames that they asked for are those of its packets
+  record WasRun (o : Opening) (x : Exchange) (more : List Call) (y : Exchange) : Type 0 where
+    life : Life
+    lives : Lives x.core more life y.core
+    frames : AreFrames o.config o.names (flat_map asked_by more) life.packets
+
+  was_run : (o : Opening) (calls : List Call) (x : Exchange) (given : S) (more : List Call) (xs : List Answer) (y : Exchange) (line : Line S)
+      → Polling answers o calls x → OverStream answers given x more xs y line → WasRun o x more y
+  was_run o calls x given more xs y line p over =
       let before : Served p.first calls x = served answers o calls x p in
       let later : Served x more y = polls_serve answers x y more before.places (alone_polled answers given x more xs y line over) in
       let config_is : (core_of o).config ≡ o.config = new_config o o.audits in
@@ -221,9 +228,17 @@ module _ {S : Type 0} (answers : Told S) (nothing : (s : S) → answers s [] s)
       let second : Framed x.core.config x.core.names more later.life.packets y.core = calls_framed x.core more later.life y.core later.lives later.held first.order in
       let config : x.core.config ≡ o.config = first.config ∙ ap (λ (s : Core). s.config) p.is_new.core ∙ config_is in
       let names : x.core.names ≡ o.names = first.named ∙ ap (λ (s : Core). s.names) p.is_new.core ∙ names_are in
-      let frames : AreFrames o.config o.names (flat_map asked_by more) later.life.packets =
-      subst (λ (n : Names). AreFrames o.config n (flat_map asked_by more) later.life.packets) names
-      (subst (λ (g : Config). AreFrames g x.core.names (flat_map asked_by more) later.life.packets) config second.frames) in
+      record {
+        life = later.life;
+        lives = later.lives;
+        frames = subst (λ (n : Names). AreFrames o.config n (flat_map asked_by more) later.life.packets) names
+            (subst (λ (g : Config). AreFrames g x.core.names (flat_map asked_by more) later.life.packets) config second.frames);
+      }
+
+  pub goes_over : (o : Opening) (calls : List Call) (x : Exchange) (given : S) (more : List Call) (xs : List Answer) (y : Exchange) (line : Line S)
+      → Polling answers o calls x → OverStream answers given x more xs y line → GoesOver answers given o.config o.names x.core more xs y.core
+  goes_over o calls x given more xs y line p over =
+      let run : WasRun o x more y = was_run o calls x given more xs y line p over in
       let went : StopsBy answers (fresh_wire given) more xs = stopped_so answers nothing in_order (fresh_wire given) more xs line (went_over answers nothing in_order given x more xs y line over) in
       let bytes : gone xs ++ (went.stops.unwritten ++ concat went.more) ≡ concat (flat_map asked_by more) =
       sym (append_assoc (gone xs) went.stops.unwritten (concat went.more))
@@ -233,10 +248,24 @@ module _ {S : Type 0} (answers : Told S) (nothing : (s : S) → answers s [] s)
       record {
         left = went.left.stream;
         told = went.stops.told;
-        life = later.life;
-        lives = later.lives;
-        written = written o.config o.names (flat_map asked_by more) later.life.packets (gone xs) (went.stops.unwritten ++ concat went.more) frames bytes;
+        life = run.life;
+        lives = run.lives;
+        written = written o.config o.names (flat_map asked_by more) run.life.packets (gone xs) (went.stops.unwritten ++ concat went.more) run.frames bytes;
         heard = Stops-first answers (fresh_wire given) went.left went.sent (flat_map replied_by more) xs went.stops;
+      }
+
+  -- while the stream is there
+  pub goes_on_over : (o : Opening) (calls : List Call) (x : Exchange) (given : S) (more : List Call) (xs : List Answer) (y : Exchange) (wire : Wired S)
+      → Polling answers o calls x → OverStream answers given x more xs y (Open wire) → GoesOnOver answers given o.config o.names x.core more xs y.core wire
+  goes_on_over o calls x given more xs y wire p over =
+      let run : WasRun o x more y = was_run o calls x given more xs y (Open wire) p over in
+      let goes : GoesBy answers (fresh_wire given) more xs wire = went_over answers nothing in_order given x more xs y (Open wire) over in
+      record {
+        told = goes.told;
+        life = run.life;
+        lives = run.lives;
+        written = goes.written ∙ ap concat run.frames.are ∙ flat o.config o.names run.life.packets;
+        heard = goes.read;
       }
 
   -- a stretch over a stream is polls

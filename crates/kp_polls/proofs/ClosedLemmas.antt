@@ -50,7 +50,7 @@ known_for_good step m word m' quiet = record {
   entering = entered m.0 m'.0 (word % 2 == 1) quiet;
   leaving = λ is. ap (λ (u : View). u.knows_quiet) is ∙ quiet;
   shutting = λ is. ap (λ (u : View). u.knows_quiet) is ∙ quiet;
-  looking = λ is. ap (λ (u : View). u.knows_quiet) is ∙ or_so m.0.knows_quiet (word == 1) quiet;
+  looking = λ is. ap (λ (u : View). u.knows_quiet) is.0 ∙ or_so m.0.knows_quiet (word == 1) quiet;
   parting = λ senders. quiet;
 }
 

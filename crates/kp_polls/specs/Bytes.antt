@@ -5,7 +5,7 @@ use Rattle.futures.specs.declared.task.Poll.{Poll}
 use Rattle.futures.specs.declared.task.Poll.TheVariants.{Ready, Pending}
 use Rattle.kp_accum.specs.declared.config.Config.{Config}
 use Rattle.kp_connection.specs.Answers.{Answer, came, gone}
-use Rattle.kp_connection.specs.Wire.{Told, Wired}
+use Rattle.kp_connection.specs.Wire.{Told, Wired, frames}
 use Rattle.kp_engine.specs.Closing.{calls_of_poll}
 use Rattle.kp_engine.specs.Engine.{Polls, fresh_wire}
 use Rattle.kp_engine.specs.Exchange.{OnlyCore}
@@ -76,3 +76,13 @@ pub record GoesOver {S : Type 0} (answers : Told S) (given : S) (c : Config) (na
   pub lives : Lives s calls life t
   pub written : AreWritten c names life.packets (gone xs)
   pub heard : AreHeard calls (came xs)
+
+-- The same while the stream is there, to the byte: the bytes written, and behind them those that the wire keeps, are the
+-- frames of all packets that went out; and the frames that were heard, and behind them the bytes that it holds, are all that
+-- came.
+pub record GoesOnOver {S : Type 0} (answers : Told S) (given : S) (c : Config) (names : Names) (s : Core) (calls : List Call) (xs : List Answer) (t : Core) (wire : Wired S) : Type 0 where
+  pub told : answers given xs wire.stream
+  pub life : Life
+  pub lives : Lives s calls life t
+  pub written : gone xs ++ wire.kept ≡ flat_map (frame_of c names) life.packets
+  pub heard : frames (flat_map replied_by calls) ++ wire.held ≡ came xs

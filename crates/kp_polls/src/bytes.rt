@@ -2,9 +2,11 @@
 
 ghost use Rattle.std.specs.Prelude.{◌++◌, List};
 ghost use Rattle.kp_connection.specs.Answers.{Answer};
+ghost use Rattle.kp_connection.specs.Wire.{Wired};
 ghost use Rattle.kp_engine.specs.declared.engine.Line.{Line};
+ghost use Rattle.kp_engine.specs.declared.engine.Line.TheVariants.{Open};
 ghost use Rattle.kp_engine.specs.declared.exchange.Exchange.{Exchange};
-ghost use Rattle.kp_polls.specs.Bytes.{GoesOver, OverStream};
+ghost use Rattle.kp_polls.specs.Bytes.{GoesOnOver, GoesOver, OverStream};
 ghost use Rattle.kp_polls.specs.Polling.{Polling};
 ghost use Rattle.kp_rules.specs.Calls.{Call};
 ghost use Rattle.kp_world.specs.World.{Opening};
@@ -23,4 +25,13 @@ pub fn polls_over_a_stream_are_polls<S: Stream>()
 pub fn frames_are_of_packets_and_of_replies<S: Stream>()
     ensures { (o : Opening) (calls : List Call) (x : Exchange) (given : S) (more : List Call) (xs : List Answer) (y : Exchange) (line : Line S)
         → Polling S.answers o calls x → OverStream S.answers given x more xs y line → GoesOver S.answers given o.config o.names x.core more xs y.core }
+{}
+
+/// While the stream is there, to the byte: the bytes that were written on it since it was given, and behind them those that
+/// the wire keeps, are the frames of all packets that went out since then, in their order; and the frames of the contents that
+/// were heard, and behind them the bytes that the wire holds, are all bytes that came.
+pub fn all_bytes_are_of_packets_and_of_replies<S: Stream>()
+    ensures { (o : Opening) (calls : List Call) (x : Exchange) (given : S) (more : List Call) (xs : List Answer) (y : Exchange) (wire : Wired S)
+        → Polling S.answers o calls x → OverStream S.answers given x more xs y (Open wire)
+        → GoesOnOver S.answers given o.config o.names x.core more xs y.core wire }
 {}

@@ -1,6 +1,7 @@
 //! The first part of a turn, and the close.
 
-ghost use Rattle.std.specs.Prelude.{◌≡◌, [], IsTrue, OnOk, OnErr, false};
+ghost use Rattle.std.specs.Prelude.{◌≡◌, ◌≢◌, ◌⊎◌, [], IsTrue, OnOk, OnErr, true, false};
+ghost use Rattle.kp_lanes.specs.Intake.{intake_view};
 ghost use Rattle.kp_engine.specs.Exchange.{IsQuiet, OnlyCore, Runs, SameLanes, SameMail};
 ghost use Rattle.kp_engine.specs.Steps.{Closes, OnlyView, TakesItems};
 
@@ -13,6 +14,7 @@ impl Exchange {
     /// Looks whether no sender can send any more, unless the core was closed.
     fn is_quiet(&mut self) -> bool
         ensures quiet { IsTrue result → (self.old.closed ≡ false) × IsQuiet self.new }
+        ensures loud { (result ≡ true) ⊎ ((self.old.closed ≡ true) ⊎ ((intake_view self.new.intake).found ≢ 1)) }
         ensures only { OnlyView self.old self.new }
     {
         if self.closed {

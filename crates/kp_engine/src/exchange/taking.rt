@@ -1,6 +1,6 @@
 //! Items are taken out of the lanes and appended.
 
-ghost use Rattle.std.specs.Prelude.{◌≡◌, ◌<◌, None, OnOk, OnErr, IsTrue, [], true};
+ghost use Rattle.std.specs.Prelude.{◌≡◌, ◌<◌, ◌&&◌, None, OnOk, OnErr, [], true};
 ghost use Rattle.kp_rules.specs.Appending.{may_append};
 ghost use Rattle.kp_engine.specs.Agreement.{held_at};
 ghost use Rattle.kp_engine.specs.Exchange.{OnlyCore, Runs, senders_of};
@@ -136,7 +136,7 @@ fn ended_by(fault: AppendFault) -> Result<bool, AllocError>
 }
 
 pub(crate) fn both(first: bool, second: bool) -> bool
-    ensures { IsTrue result → IsTrue first × IsTrue second }
+    ensures { result ≡ (first && second) }
 {
     first && second
 }

@@ -1,6 +1,6 @@
 //! The last part of a turn: the attempts are dropped where it was cut, and reports.
 
-ghost use Rattle.std.specs.Prelude.{◌≡◌, [], IsTrue, OnOk, OnErr, true};
+ghost use Rattle.std.specs.Prelude.{◌≡◌, ◌==◌, ◌&&◌, [], length, OnOk, OnErr};
 ghost use Rattle.kp_rules.specs.Calls.{Disconnect};
 ghost use Rattle.kp_rules.specs.Partitions.{all_untold};
 ghost use Rattle.kp_engine.specs.Exchange.{OnlyCore, Runs};
@@ -45,8 +45,7 @@ fn drop_if_cut(exchange: &mut Exchange, cut: Option<Cause>, now: u64) -> Result<
 }
 
 fn is_done(exchange: &Exchange, idle: bool, all_sent: bool) -> bool
-    ensures { IsTrue result → IsTrue idle × IsTrue all_sent × (exchange.now.closed ≡ true)
-        × (all_untold exchange.now.core ≡ []) }
+    ensures { result ≡ (exchange.now.closed && idle && all_sent && (length (all_untold exchange.now.core) == 0)) }
 {
     exchange.closed && idle && all_sent && exchange.core.untold() == 0
 }
