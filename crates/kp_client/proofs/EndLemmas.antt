@@ -1,15 +1,10 @@
 -- To what a service has come.
-use Rattle.std.proofs.Common.{◌≡◌, ℕ, List, [], refl, sym, ap, ◌∙◌, subst, inl, inr, ⊎_elim}
+use Rattle.std.proofs.Common.{◌≡◌, refl, sym, ap, ◌∙◌, subst, inl, inr, ⊎_elim}
 use Rattle.kp_engine.specs.declared.parts.Held.{Held}
-use Rattle.kp_lanes.specs.Intake.{SameIntake, lanes_of, passed_lists, taken_lists, told_lists}
 use Rattle.kp_lanes.specs.declared.intake.Intake.{Intake}
-use Rattle.kp_rules.specs.Calls.{Call}
-use Rattle.kp_rules.specs.Records.{Core}
-use Rattle.kp_client.specs.Ends.{GaveUpLast, HasEnded, Looks, MayEnd, StaysEnded, WasServed, WasUnserved}
-use Rattle.kp_client.specs.Left.{ending_of, new_connections_of, parts_in}
+use Rattle.kp_client.specs.Ends.{Looks, StaysEnded, WasServed, WasUnserved}
+use Rattle.kp_client.specs.Left.{ending_of, parts_in}
 use Rattle.kp_client.specs.declared.left.Ended.{Ended}
-use Rattle.kp_client.specs.declared.left.Ending.{Ending}
-use Rattle.kp_client.specs.declared.policy.Policy.{Policy}
 
 pub still_looks : (t u : Intake) → u ≡ t → Looks t u
 still_looks t u same = subst (λ (v : Intake). Looks t v) (sym same) (record { lanes = refl; limits = refl; passed = refl; taken = refl; told = refl })
@@ -36,6 +31,7 @@ stays_ended old new looks core held ending given lanes h = record {
         same_held = held ∙ s.same_held;
         looks = looks_on s.parts.intake (parts_in old).intake (parts_in new).intake s.looks looks;
         done = λ is. s.done (sym ending ∙ is);
+        gave_up = λ cause is. s.gave_up cause (sym ending ∙ is);
       }))
       (λ (u : WasUnserved given lanes h.calls old). inr (record {
         may_turn = u.may_turn;

@@ -1,16 +1,19 @@
 -- To what a service of a core and of lanes has come: all calls on the core are known.
-use Rattle.std.specs.Prelude.{◌≡◌, ◌≢◌, ◌⊎◌, ℕ, ◌≤◌, true, List, []}
+use Rattle.std.specs.Prelude.{◌≡◌, ◌≢◌, ◌⊎◌, ℕ, ◌≤◌, true, List, [], ◌∷◌, ◌++◌}
 use Rattle.kp_engine.specs.Made.{WasEnded}
 use Rattle.kp_engine.specs.Opening.{MayTurn}
 use Rattle.kp_engine.specs.declared.engine.Engine.{Engine}
+use Rattle.kp_engine.specs.declared.exchange.Exchange.{Exchange}
 use Rattle.kp_engine.specs.declared.parts.Parts.{Parts}
+use Rattle.kp_engine.specs.declared.stop.Cause.{Cause}
+use Rattle.kp_engine.specs.declared.stop.Stop.TheVariants.{NeedStream}
 use Rattle.kp_lanes.specs.Intake.{intake_limits, lanes_of, passed_lists, taken_lists, told_lists}
 use Rattle.kp_lanes.specs.declared.intake.Intake.{Intake}
-use Rattle.kp_rules.specs.Calls.{Call}
+use Rattle.kp_rules.specs.Calls.{Call, End}
 use Rattle.kp_rules.specs.Records.{Core}
 use Rattle.kp_client.specs.Left.{ending_of, new_connections_of, parts_in}
 use Rattle.kp_client.specs.Policy.{limit_of}
-use Rattle.kp_client.specs.Serving.{Serves}
+use Rattle.kp_client.specs.Serving.{LastGave, Serves}
 use Rattle.kp_client.specs.declared.left.Ended.{Ended}
 use Rattle.kp_client.specs.declared.left.Ending.{Ending}
 use Rattle.kp_client.specs.declared.left.Ending.TheVariants.{Done, GaveUp}
@@ -24,8 +27,16 @@ pub record Looks (old new : Intake) : Type 0 where
   pub taken : taken_lists new ≡ taken_lists old
   pub told : told_lists new ≡ told_lists old
 
+-- These are the calls of an engine whose last poll before its end needed a stream for this cause.
+pub record NeededStream (core : Core) (intake : Intake) (calls : List Call) (cause : Cause) : Type 0 where
+  pub earlier : List Call
+  pub last : Exchange
+  pub gave : LastGave core intake earlier (NeedStream cause) last
+  pub told : ℕ
+  pub made : calls ≡ earlier ++ End told ∷ []
+
 -- An engine was made of them, polled over one stream after the other, ended, and taken apart. It was closed, where the
--- service says that it is done.
+-- service says that it is done; and it needed a stream for the cause for which the service gave up.
 pub record WasServed (core : Core) (intake : Intake) (calls : List Call) (ended : Ended) : Type 0 where
   pub parts : Parts
   pub engine : WasEnded core intake calls parts
@@ -33,6 +44,7 @@ pub record WasServed (core : Core) (intake : Intake) (calls : List Call) (ended 
   pub same_held : (parts_in ended).held ≡ parts.held
   pub looks : Looks parts.intake (parts_in ended).intake
   pub done : ending_of ended ≡ Done → engine.last.closed ≡ true
+  pub gave_up : (cause : Cause) → ending_of ended ≡ GaveUp cause → NeededStream core intake calls cause
 
 -- No engine was made: nothing was called, taken or told.
 pub record WasUnserved (core : Core) (intake : Intake) (calls : List Call) (ended : Ended) : Type 0 where

@@ -7,7 +7,7 @@ ghost use Rattle.kp_client.specs.Fitting.{Fits};
 ghost use Rattle.kp_engine.specs.Polls.{IsDone};
 ghost use Rattle.kp_client.specs.Left.{parts_in};
 ghost use Rattle.kp_client.specs.Ends.{EndsAs, GaveUpLast, HasEnded, MayEnd};
-ghost use Rattle.kp_client.specs.Serving.{GoesOn, HasStream, IsServing, StoppedFor};
+ghost use Rattle.kp_client.specs.Serving.{GivesUpFor, GoesOn, HasStream, IsServing, StoppedFor};
 
 use crate::again::Again;
 use crate::connecting::{Way, connect_again, connect_first};
@@ -244,6 +244,7 @@ fn ended<S: Stream, C: Moments>(tended: Tended<'_, S, C>, ending: Ending) -> End
     requires serves { IsServing tended.engine }
     requires done { ending ≡ Ending.Done → IsDone tended.engine.exchange }
     requires spent { MayEnd tended.again.policy ending tended.again.made }
+    requires cause { GivesUpFor ending tended.engine }
     ensures ended { EndsAs tended.entry.engine result }
     ensures gave_up { GaveUpLast tended.entry.again.policy result }
 {

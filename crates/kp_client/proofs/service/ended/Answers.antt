@@ -1,11 +1,13 @@
-use Rattle.std.proofs.Common.{◌∙◌, ap, inl, subst, sym}
+use Rattle.std.proofs.Common.{◌∙◌, ap, inl, refl, subst, sym}
 use Rattle.kp_engine.specs.Polls.{IsDone}
 use Rattle.kp_engine.specs.declared.engine.Engine.{Engine}
 use Rattle.kp_engine.specs.declared.parts.Parts.{Parts}
 use Rattle.kp_engine.proofs.MadeLemmas.{ended_then, has_served}
 use Rattle.kp_engine.proofs.PartsLemmas.{accounted}
 use Rattle.kp_engine.proofs.SinceLemmas.{end_served}
-use Rattle.kp_client.specs.Serving.{IsServing, Serves}
+use Rattle.kp_engine.specs.declared.stop.Stop.TheVariants.{NeedStream}
+use Rattle.kp_client.specs.Serving.{GivesUpFor, IsServing, Serves}
+use Rattle.kp_client.specs.declared.left.Ending.{Ending}
 use Rattle.kp_client.proofs.AccountLemmas.{all_accounted}
 use Rattle.kp_client.proofs.DoneLemmas.{holds_nothing}
 use Rattle.kp_client.proofs.EndLemmas.{still_looks}
@@ -55,5 +57,12 @@ returns-clause-ended g c core intake h =
         done = λ is.
             let d = subst (λ (e : Engine _ _). IsDone e.exchange) (sym c.into_engine-engine.ensures) (c.requires.done (sym c.new.ensures.1 ∙ is)) in
             c.end-told.ensures.same.0.closed ∙ d.closed;
+        gave_up = λ cause is. record {
+          earlier = s.calls;
+          last = _;
+          gave = s.gave (NeedStream cause) (ap (λ (e : Engine _ _). e.line) c.into_engine-engine.ensures ∙ subst (λ (how : Ending). GivesUpFor how c.args.tended.engine) (sym c.new.ensures.1 ∙ is) c.requires.cause);
+          told = c.end-told.result;
+          made = refl;
+        };
       });
     }

@@ -12,7 +12,7 @@ serve_on-requires-clause-serves g c _ _ =
     (record {
       core = c.args.core;
       intake = c.args.intake;
-      serves = new_serves c.args.core c.args.intake false c.in-Ok-new.engine c.requires c.in-Ok-new.ensures.made;
+      serves = new_serves c.args.core c.args.intake false c.in-Ok-new.engine _ c.requires c.in-Ok-new.ensures.made c.in-Ok-new.ensures.line;
     })
 
 pub serve_on-requires-clause-stream : goal.serve_on-requires-clause-stream
@@ -26,7 +26,7 @@ returns-in_default-connect_first-clause-ended g c = unserved_ended c.args.core c
 
 pub returns-in-Ok-new-clause-ended : goal.returns-in-Ok-new-clause-ended
 returns-in-Ok-new-clause-ended g c =
-    ended_anew c.args.core c.args.intake false c.in-Ok-new.engine _ _ c.requires c.in-Ok-new.ensures.made c.new-tended.ensures.0 c.serve_on.ensures.ended
+    ended_anew c.args.core c.args.intake false c.in-Ok-new.engine _ _ _ c.requires c.in-Ok-new.ensures.made c.in-Ok-new.ensures.line c.new-tended.ensures.0 c.serve_on.ensures.ended
 
 pub returns-clause-ended : goal.returns-clause-ended
 returns-clause-ended g c =

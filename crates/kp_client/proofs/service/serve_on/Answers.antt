@@ -7,7 +7,7 @@ pub loop-preserved : goal.loop-preserved
 loop-preserved g c = record {
   next = tt;
   finite = tt;
-  goes = λ core intake h. still_serves _ _ c.give_stream.ensures.same.0 core intake (c.in_ok-served.ensures.served core intake (c.loop.invariant.goes core intake h));
+  goes = λ core intake h. still_serves _ _ _ c.give_stream.ensures.same.0 c.give_stream.ensures.line core intake (c.in_ok-served.ensures.served core intake (c.loop.invariant.goes core intake h));
   policy = c.connect_again.ensures.same ∙ (c.in_ok-served.ensures.policy ∙ c.loop.invariant.policy);
   stream = ap stop_in c.give_stream.ensures.line;
 }
