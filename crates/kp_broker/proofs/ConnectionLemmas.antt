@@ -1,7 +1,5 @@
 -- The frames of a connection, taken one after the other.
-use Rattle.std.proofs.Common.{◌≡◌, ◌≢◌, ℕ, List, [], ◌∷◌, ◌++◌, Option, Some, None, Result, Ok, Err, IsErrAnd, refl, sym, ap, subst, ◌∙◌, append_assoc, append-nil}
-use Rattle.std.specs.Io.KnownBytes.{Appends}
-use Rattle.std.proofs.KnownBytes.{Appends-nil, Appends-trans}
+use Rattle.std.proofs.Common.{◌≡◌, ◌≢◌, ℕ, List, [], ◌∷◌, ◌++◌, Option, Some, None, Result, Ok, Err, IsErrAnd, refl, sym, ap, subst, ◌∙◌, append_assoc, append-nil, arith}
 use Rattle.kp_frames.specs.declared.fault.FrameFault.{FrameFault}
 use Rattle.kp_frames.specs.declared.fault.FrameFault.TheVariants as frame_fault
 use Rattle.kp_frames.specs.Life.{Next, behind}
@@ -13,9 +11,11 @@ use Rattle.kp_broker.specs.declared.fault.BrokerFault.TheVariants.{Frame, Io, Ou
 use Rattle.kp_broker.specs.declared.serving.Served.{Served}
 use Rattle.kp_broker.specs.declared.serving.Served.TheVariants.{End, HungUp}
 use Rattle.kp_broker.specs.Broker.{Broker}
+use Rattle.kp_broker.specs.Calls.{Answer, Told, gone, reads, AreGood}
 use Rattle.kp_broker.specs.Plan.{Plan}
 use Rattle.kp_broker.specs.Serving.{Ending, Refuses, HangsUp, and_then, served, Breaks, LosesAnswer, LosesMemory, ServesFrames}
-use Rattle.kp_broker.specs.Taking.{TakesFrame, TakesFrames}
+use Rattle.kp_broker.specs.Taking.{GoBy, TakesFrame, TakesFrames}
+use Rattle.kp_broker.proofs.CallLemmas.{gone_behind, reads_behind, good_behind, goes_behind}
 use Rattle.kp_broker.proofs.ReplyLemmas.{and_then-open}
 use Rattle.kp_broker.proofs.CourseLemmas.{served-append, and_then-ended, still-breaks, breaks-more, breaks-behind}
 
@@ -75,61 +75,77 @@ err-is (Err e) fault is = ap Err is
 
 -- ---- some frames were taken
 
-pub record HasTaken (plan : Plan) (before : Broker) (bytes : List ℕ) (held held' : Option (List ℕ)) (left : List ℕ) (after : Broker) : Type 0 where
+pub record HasTaken {C : Type 0} (answers : Told C) (plan : Plan) (before : Broker) (bytes : List ℕ) (old : C) (left : List ℕ) (new : C) (after : Broker) : Type 0 where
   pub earlier : List (List ℕ)
-  pub written : List ℕ
-  pub appended : Appends held held' written
-  pub course : served plan before earlier ≡ record { written = written; broker = after; ending = None }
+  pub xs : List Answer
+  pub told : answers old xs new
+  pub no_reads : reads xs ≡ 0
+  pub good : AreGood xs
+  pub course : served plan before earlier ≡ record { written = gone xs; broker = after; ending = None }
   pub frames : (stream bytes).frames ≡ earlier ++ (stream left).frames
   pub rest : (stream bytes).rest ≡ (stream left).rest
 
-pub none-taken : (plan : Plan) (before : Broker) (bytes : List ℕ) (held : Option (List ℕ)) → HasTaken plan before bytes held held bytes before
-none-taken plan before bytes held = record { earlier = []; written = []; appended = Appends-nil held; course = refl; frames = refl; rest = refl }
+pub none-taken : {C : Type 0} (answers : Told C) → ((s : C) → answers s [] s) → (plan : Plan) (before : Broker) (bytes : List ℕ) (old : C) → HasTaken answers plan before bytes old bytes old before
+none-taken answers nothing plan before bytes old = record { earlier = []; xs = []; told = nothing old; no_reads = refl; good = tt; course = refl; frames = refl; rest = refl }
 
-module _ (plan : Plan) (before : Broker) (bytes : List ℕ) (held held' : Option (List ℕ)) (left : List ℕ) (mid : Broker) (has : HasTaken plan before bytes held held' left mid) where
-  pub all-taken : (stream left).frames ≡ [] → (left' : List ℕ) → left' ≡ left → TakesFrames plan before bytes held held' (Ok End) left' mid
+module _ {C : Type 0} (answers : Told C) (in_order : (a : C) (xs : List Answer) (b : C) (ys : List Answer) (c : C) → answers a xs b → answers b ys c → answers a (xs ++ ys) c)
+    (plan : Plan) (before : Broker) (bytes : List ℕ) (old : C) (left : List ℕ) (now : C) (mid : Broker) (has : HasTaken answers plan before bytes old left now mid) where
+  pub all-taken : (stream left).frames ≡ [] → (left' : List ℕ) → left' ≡ left → TakesFrames answers plan before bytes old (Ok End) left' now mid
   all-taken none left' same = record {
-    written = has.written;
-    appended = has.appended;
+    xs = has.xs;
+    told = has.told;
+    no_reads = has.no_reads;
+    go = has.good;
     served = ap (served plan before) (has.frames ∙ ap (λ fs. has.earlier ++ fs) none ∙ append-nil has.earlier) ∙ has.course;
     rest = λ _. same ∙ sym (no_frames-rest left none) ∙ sym has.rest;
   }
 
-  still : Breaks (LosesMemory plan) plan before (stream bytes).frames has.written mid
+  still : Breaks (LosesMemory plan) plan before (stream bytes).frames (gone has.xs) mid
   still =
-      let breaks = breaks-behind (LosesMemory plan) plan before has.earlier (stream left).frames has.written mid [] mid has.course (still-breaks (LosesMemory plan) plan mid (stream left).frames) in
-      subst (λ fs. Breaks (LosesMemory plan) plan before fs has.written mid) (sym has.frames)
-      (subst (λ w. Breaks (LosesMemory plan) plan before (has.earlier ++ (stream left).frames) w mid) (append-nil has.written) breaks)
+      let breaks = breaks-behind (LosesMemory plan) plan before has.earlier (stream left).frames (gone has.xs) mid [] mid has.course (still-breaks (LosesMemory plan) plan mid (stream left).frames) in
+      subst (λ fs. Breaks (LosesMemory plan) plan before fs (gone has.xs) mid) (sym has.frames)
+      (subst (λ w. Breaks (LosesMemory plan) plan before (has.earlier ++ (stream left).frames) w mid) (append-nil (gone has.xs)) breaks)
 
-  pub memory-refused : (fault : FrameFault) (left' : List ℕ) → Next left (Err fault) left' → (r : Result Served BrokerFault) → IsErrAnd r (λ e. e ≡ of_frame fault) → TakesFrames plan before bytes held held' r left' mid
+  pub memory-refused : (fault : FrameFault) (left' : List ℕ) → Next left (Err fault) left' → (r : Result Served BrokerFault) → IsErrAnd r (λ e. e ≡ of_frame fault) → TakesFrames answers plan before bytes old r left' now mid
   memory-refused fault left' next r is =
       let refused : r ≡ Err OutOfMemory = err-is r (of_frame fault) is ∙ ap (λ f. Err (of_frame f)) (only_memory left fault left' next) in
       record {
-        written = has.written;
-        appended = has.appended;
-        served = subst (λ r. ServesFrames plan before (stream bytes).frames r has.written mid) (sym refused) still;
+        xs = has.xs;
+        told = has.told;
+        no_reads = has.no_reads;
+        go = subst (λ r. GoBy r has.xs) (sym refused) has.good;
+        served = subst (λ r. ServesFrames plan before (stream bytes).frames r (gone has.xs) mid) (sym refused) still;
         rest = λ ended. let no = sym refused ∙ ended in absurd cc;
       }
 
-  module _ (content : List ℕ) (left' : List ℕ) (next : stream left ≡ behind (content ∷ []) (stream left')) (held'' : Option (List ℕ)) (after : Broker) where
-    pub ended-taken : (r : Result Served BrokerFault) → r ≢ Ok End → TakesFrame plan mid content held' held'' r after → TakesFrames plan before bytes held held'' r left' after
+  module _ (content : List ℕ) (left' : List ℕ) (next : stream left ≡ behind (content ∷ []) (stream left')) (new : C) (after : Broker) where
+    none-read : (ys : List Answer) → reads ys ≡ 0 → reads (has.xs ++ ys) ≡ 0
+    none-read ys none = omega (arith, reads_behind has.xs ys, has.no_reads)
+
+    pub ended-taken : (r : Result Served BrokerFault) → r ≢ Ok End → TakesFrame answers plan mid content now r new after → TakesFrames answers plan before bytes old r left' new after
     ended-taken r other t =
         let frames : content ∷ (stream left').frames ≡ (stream left).frames = sym (ap (λ (s : Split). s.frames) next) in
-        let all = serves-more plan mid (content ∷ []) (stream left').frames r other t.written after t.served in
-        let taken = serves-behind plan before has.earlier (content ∷ (stream left').frames) has.written mid has.course r t.written after all in
+        let all = serves-more plan mid (content ∷ []) (stream left').frames r other (gone t.xs) after t.served in
+        let taken = serves-behind plan before has.earlier (content ∷ (stream left').frames) (gone has.xs) mid has.course r (gone t.xs) after all in
         record {
-          written = has.written ++ t.written;
-          appended = Appends-trans held held' held'' has.written t.written has.appended t.appended;
-          served = subst (λ fs. ServesFrames plan before fs r (has.written ++ t.written) after) (sym (has.frames ∙ ap (λ fs. has.earlier ++ fs) (sym frames))) taken;
+          xs = has.xs ++ t.xs;
+          told = in_order old has.xs now t.xs new has.told t.told;
+          no_reads = none-read t.xs t.no_reads;
+          go = goes_behind r has.xs t.xs has.good t.go;
+          served = subst (λ w. ServesFrames plan before (stream bytes).frames r w after) (sym (gone_behind has.xs t.xs))
+              (subst (λ fs. ServesFrames plan before fs r (gone has.xs ++ gone t.xs) after) (sym (has.frames ∙ ap (λ fs. has.earlier ++ fs) (sym frames))) taken);
           rest = λ ended. absurd (other ended);
         }
 
-    pub one-more : TakesFrame plan mid content held' held'' (Ok End) after → HasTaken plan before bytes held held'' left' after
+    pub one-more : TakesFrame answers plan mid content now (Ok End) new after → HasTaken answers plan before bytes old left' new after
     one-more t = record {
       earlier = has.earlier ++ content ∷ [];
-      written = has.written ++ t.written;
-      appended = Appends-trans held held' held'' has.written t.written has.appended t.appended;
-      course = served-behind plan before has.earlier (content ∷ []) has.written mid has.course t.written after None t.served;
+      xs = has.xs ++ t.xs;
+      told = in_order old has.xs now t.xs new has.told t.told;
+      no_reads = none-read t.xs t.no_reads;
+      good = good_behind has.xs t.xs has.good t.go;
+      course = served-behind plan before has.earlier (content ∷ []) (gone has.xs) mid has.course (gone t.xs) after None t.served
+          ∙ (λ i. record { written = sym (gone_behind has.xs t.xs) i; broker = after; ending = None });
       frames = has.frames ∙ ap (λ (s : Split). has.earlier ++ s.frames) next ∙ sym (append_assoc has.earlier (content ∷ []) (stream left').frames);
       rest = has.rest ∙ ap (λ (s : Split). s.rest) next;
     }

@@ -1,5 +1,6 @@
 pub mod AgainLemmas
 pub mod BrokenLemmas
+pub mod CallLemmas
 pub mod CodeLemmas
 pub mod ConnectionLemmas
 pub mod CourseLemmas
@@ -11,6 +12,7 @@ pub mod PieceLemmas
 pub mod PlanLemmas
 pub mod ReadLemmas
 pub mod ReplyLemmas
+pub mod SendingLemmas
 pub mod ServedLemmas
 pub mod SplitLemmas
 pub mod TakingLemmas

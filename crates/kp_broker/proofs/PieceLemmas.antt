@@ -1,5 +1,5 @@
 -- A piece of a connection's stream, and the frames that are whole with it.
-use Rattle.std.proofs.Common.{◌≡◌, ◌≢◌, ℕ, true, false, List, [], ◌++◌, Option, Some, None, Result, Ok, Err, IsErrAnd, refl, sym, ap, subst, ◌∙◌, append-nil}
+use Rattle.std.proofs.Common.{◌≡◌, ◌≢◌, ℕ, true, false, List, [], ◌++◌, Some, None, Result, Ok, Err, IsErrAnd, refl, sym, ap, subst, ◌∙◌, append-nil}
 use Rattle.kp_frames.specs.declared.fault.FrameFault.{FrameFault}
 use Rattle.kp_frames.specs.declared.fault.FrameFault.TheVariants as frame_fault
 use Rattle.kp_frames.specs.Life.{Feeds}
@@ -10,10 +10,11 @@ use Rattle.kp_broker.specs.declared.fault.BrokerFault.TheVariants.{Frame, Io, Ou
 use Rattle.kp_broker.specs.declared.serving.Served.{Served}
 use Rattle.kp_broker.specs.declared.serving.Served.TheVariants.{End, HungUp}
 use Rattle.kp_broker.specs.Broker.{Broker}
+use Rattle.kp_broker.specs.Calls.{Answer, Told, gone, AreGood}
 use Rattle.kp_broker.specs.Fault.{of_frame}
 use Rattle.kp_broker.specs.Plan.{Plan}
 use Rattle.kp_broker.specs.Serving.{Course, Ending, Refuses, HangsUp, and_then, served, heard, behind_frames, Breaks, LosesMemory, ServesFrames, Serves}
-use Rattle.kp_broker.specs.Taking.{TakesFrames, TakesPiece}
+use Rattle.kp_broker.specs.Taking.{GoBy, TakesFrames, TakesPiece}
 use Rattle.kp_broker.proofs.ReplyLemmas.{and_then-open}
 use Rattle.kp_broker.proofs.CourseLemmas.{and_then-ended, still-breaks, breaks-behind}
 use Rattle.kp_broker.proofs.ConnectionLemmas.{err-is, serves-more}
@@ -77,12 +78,12 @@ fed held piece none (Err frame_fault.UnknownVersion) mid feeds = absurd feeds
 fed held piece none (Err (frame_fault.Wire w)) mid feeds = absurd feeds
 fed held piece none (Err frame_fault.Mismatch) mid feeds = absurd feeds
 
-module _ (plan : Plan) (before : Broker) (held piece : List ℕ) (none : (stream held).frames ≡ []) (r : Result (Unit {0}) FrameFault) (mid : List ℕ) (feeds : Feeds held piece r mid) (out out' : Option (List ℕ)) (left : List ℕ) (after : Broker) where
-  pub piece-ended : (result : Result Served BrokerFault) → result ≢ Ok End → TakesFrames plan before mid out out' result left after → TakesPiece plan before held piece out out' result left after
+module _ (plan : Plan) (before : Broker) (held piece : List ℕ) (none : (stream held).frames ≡ []) (r : Result (Unit {0}) FrameFault) (mid : List ℕ) (feeds : Feeds held piece r mid) {C : Type 0} (answers : Told C) (old : C) (left : List ℕ) (new : C) (after : Broker) where
+  pub piece-ended : (result : Result Served BrokerFault) → result ≢ Ok End → TakesFrames answers plan before mid old result left new after → TakesPiece answers plan before held piece old result left new after
   piece-ended result other t =
       let f = fed held piece none r mid feeds in
-      let all = subst (λ fs. ServesFrames plan before fs result t.written after) (sym f.frames) (serves-more plan before (stream mid).frames f.more result other t.written after t.served) in
-      record { written = t.written; appended = t.appended; served = serves-frames plan before (held ++ piece) result other t.written after all; in_time = λ late. subst (λ r. ServesFrames plan before (stream mid).frames r t.written after) late t.served; rest = λ ended. absurd (other ended) }
+      let all = subst (λ fs. ServesFrames plan before fs result (gone t.xs) after) (sym f.frames) (serves-more plan before (stream mid).frames f.more result other (gone t.xs) after t.served) in
+      record { xs = t.xs; told = t.told; no_reads = t.no_reads; go = t.go; served = serves-frames plan before (held ++ piece) result other (gone t.xs) after all; in_time = λ late. subst (λ r. ServesFrames plan before (stream mid).frames r (gone t.xs) after) late t.served; rest = λ ended. absurd (other ended) }
 
 -- once the frames at hand are handled, a piece that was not taken ends the connection
 stopped-at : (plan : Plan) (before : Broker) (held piece : List ℕ) → (stream held).frames ≡ [] → (fault : FrameFault) (mid : List ℕ) → Feeds held piece (Err fault) mid → (w : List ℕ) (after : Broker) → served plan before (stream mid).frames ≡ record { written = w; broker = after; ending = None } → Serves plan before (held ++ piece) (Err (of_frame fault)) w after
@@ -109,24 +110,40 @@ in_frame frame_fault.TooLarge is = absurd cc
 in_frame frame_fault.OutOfMemory is = absurd cc
 in_frame frame_fault.Mismatch is = absurd cc
 
-pub piece-stopped : (plan : Plan) (before : Broker) (held piece : List ℕ) → (stream held).frames ≡ [] → (fault : FrameFault) (mid : List ℕ) → Feeds held piece (Err fault) mid → (out out' : Option (List ℕ)) (left left' : List ℕ) (after : Broker) → TakesFrames plan before mid out out' (Ok End) left after → (result : Result Served BrokerFault) → IsErrAnd result (λ e. e ≡ of_frame fault) → TakesPiece plan before held piece out out' result left' after
-piece-stopped plan before held piece none fault mid feeds out out' left left' after t result is =
-    let refused = err-is result (of_frame fault) is in
-    record {
-      written = t.written;
-      appended = t.appended;
-      served = subst (λ r. Serves plan before (held ++ piece) r t.written after) (sym refused) (stopped-at plan before held piece none fault mid feeds t.written after t.served);
-      in_time = λ late. in_frame fault (sym refused ∙ late);
-      rest = λ ended. let no = sym refused ∙ ended in absurd cc;
-    }
+module _ {C : Type 0} (answers : Told C) (plan : Plan) (before : Broker) (held piece : List ℕ) where
+  pub piece-stopped : (stream held).frames ≡ [] → (fault : FrameFault) (mid : List ℕ) → Feeds held piece (Err fault) mid → (old new : C) (left left' : List ℕ) (after : Broker) → TakesFrames answers plan before mid old (Ok End) left new after
+      → (result : Result Served BrokerFault) → IsErrAnd result (λ e. e ≡ of_frame fault) → TakesPiece answers plan before held piece old result left' new after
+  piece-stopped none fault mid feeds old new left left' after t result is =
+      let refused = err-is result (of_frame fault) is in
+      record {
+        xs = t.xs;
+        told = t.told;
+        no_reads = t.no_reads;
+        go = subst (λ r. GoBy r t.xs) (sym refused) (good-at fault t.xs t.go);
+        served = subst (λ r. Serves plan before (held ++ piece) r (gone t.xs) after) (sym refused) (stopped-at plan before held piece none fault mid feeds (gone t.xs) after t.served);
+        in_time = λ late. in_frame fault (sym refused ∙ late);
+        rest = λ ended. let no = sym refused ∙ ended in absurd cc;
+      }
+    where
+      good-at : (fault : FrameFault) (xs : List Answer) → AreGood xs → GoBy (Err (of_frame fault)) xs
+      good-at frame_fault.Short xs good = good
+      good-at frame_fault.Trailing xs good = good
+      good-at frame_fault.UnknownApi xs good = good
+      good-at frame_fault.UnknownVersion xs good = good
+      good-at (frame_fault.Wire w) xs good = good
+      good-at frame_fault.TooLarge xs good = good
+      good-at frame_fault.OutOfMemory xs good = good
+      good-at frame_fault.Mismatch xs good = good
 
-pub piece-taken : (plan : Plan) (before : Broker) (held piece : List ℕ) (done : Unit {0}) (mid : List ℕ) → Feeds held piece (Ok done) mid → (out out' : Option (List ℕ)) (left : List ℕ) (after : Broker) → TakesFrames plan before mid out out' (Ok End) left after → TakesPiece plan before held piece out out' (Ok End) left after
-piece-taken plan before held piece done mid feeds out out' left after t =
-    let same : mid ≡ held ++ piece = feeds.1 ∙ kept_open (held ++ piece) feeds.0 in
-    record {
-      written = t.written;
-      appended = t.appended;
-      served = heard-open plan before (held ++ piece) t.written after (ap (λ (u : List ℕ). served plan before (stream u).frames) (sym same) ∙ t.served) feeds.0;
-      in_time = λ late. absurd cc;
-      rest = λ e. t.rest e ∙ ap (λ (u : List ℕ). (stream u).rest) same;
-    }
+  pub piece-taken : (done : Unit {0}) (mid : List ℕ) → Feeds held piece (Ok done) mid → (old new : C) (left : List ℕ) (after : Broker) → TakesFrames answers plan before mid old (Ok End) left new after → TakesPiece answers plan before held piece old (Ok End) left new after
+  piece-taken done mid feeds old new left after t =
+      let same : mid ≡ held ++ piece = feeds.1 ∙ kept_open (held ++ piece) feeds.0 in
+      record {
+        xs = t.xs;
+        told = t.told;
+        no_reads = t.no_reads;
+        go = t.go;
+        served = heard-open plan before (held ++ piece) (gone t.xs) after (ap (λ (u : List ℕ). served plan before (stream u).frames) (sym same) ∙ t.served) feeds.0;
+        in_time = λ late. absurd cc;
+        rest = λ e. t.rest e ∙ ap (λ (u : List ℕ). (stream u).rest) same;
+      }

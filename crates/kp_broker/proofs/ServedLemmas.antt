@@ -1,7 +1,5 @@
 -- A connection, read by pieces.
-use Rattle.std.proofs.Common.{◌≡◌, ◌≢◌, ℕ, ◌+◌, ◌*◌, ◌<◌, ◌≤◌, Bool, true, false, List, [], ◌++◌, length, take, drop, Option, Some, None, Result, Ok, Err, IsErrAnd, refl, sym, ap, subst, ◌∙◌, append-nil, arith}
-use Rattle.std.specs.Io.KnownBytes.{Appends, Consumes, IsAtEnd, Keeps}
-use Rattle.std.proofs.KnownBytes.{Appends-nil, Appends-trans, Consumes-nil, Consumes-trans, Consumes-kept}
+use Rattle.std.proofs.Common.{◌≡◌, ◌≢◌, ℕ, ◌+◌, ◌*◌, ◌<◌, ◌≤◌, Bool, true, false, List, [], ◌∷◌, ◌++◌, length, take, drop, Option, Some, None, Result, Ok, Err, IsErrAnd, refl, sym, ap, subst, ◌∙◌, append_assoc, append-nil, arith}
 use Rattle.std.proofs.lemmas.List.{length-append}
 use Rattle.std.proofs.Math.Seq.{take-append_seam}
 use Rattle.kp_frames.specs.Stream.{Split, at_most, stream, is_faulty}
@@ -14,9 +12,12 @@ use Rattle.kp_broker.specs.declared.serving.Served.TheVariants.{End, HungUp}
 use Rattle.kp_broker.specs.declared.serving.TheConstants.{READ_LIMIT}
 use Rattle.kp_broker.specs.declared.serving.streams.TheConstants.{PIECE_LIMIT}
 use Rattle.kp_broker.specs.Broker.{Broker}
+use Rattle.kp_broker.specs.Calls.{Answer, Told, came, gone, reads, AreGood, EndsWith, HasFailed, MetEnd}
+use Rattle.kp_broker.specs.Calls.Answer.{Came, Read_failed}
 use Rattle.kp_broker.specs.Plan.{Plan}
-use Rattle.kp_broker.specs.Serving.{Course, Ending, Refuses, HangsUp, and_then, served, heard, behind_frames, Breaks, LosesAnswer, LosesMemory, Serves, IsServed}
-use Rattle.kp_broker.specs.Taking.{TakesPiece}
+use Rattle.kp_broker.specs.Serving.{Course, Ending, Refuses, HangsUp, and_then, served, heard, behind_frames, Breaks, LosesAnswer, LosesMemory, Serves, EndBy, IsServed}
+use Rattle.kp_broker.specs.Taking.{GoBy, TakesPiece}
+use Rattle.kp_broker.proofs.CallLemmas.{came_behind, gone_behind, reads_behind, good_behind, goes_behind, none_came}
 use Rattle.kp_broker.proofs.ReplyLemmas.{and_then-open}
 use Rattle.kp_broker.proofs.CourseLemmas.{Opens, opens, and_then-assoc, served-append, still-breaks, breaks-behind}
 use Rattle.kp_broker.proofs.ConnectionLemmas.{err-is}
@@ -61,17 +62,16 @@ module _ (plan : Plan) (before : Broker) (read : List ℕ) (w : List ℕ) (mid :
 
 -- ---- some pieces were taken
 
-pub record HasServed (plan : Plan) (before : Broker) (unread unread' held held' : Option (List ℕ)) (left : List ℕ) (count : ℕ) (after : Broker) : Type 0 where
-  pub read : List ℕ
-  pub written : List ℕ
-  pub consumed : Consumes unread unread' read
-  pub appended : Appends held held' written
-  pub course : served plan before (stream read).frames ≡ record { written = written; broker = after; ending = None }
-  pub whole : is_faulty read ≡ false
-  pub rest : left ≡ (stream read).rest
+pub record HasServed {C : Type 0} (answers : Told C) (plan : Plan) (before : Broker) (old new : C) (left : List ℕ) (count : ℕ) (after : Broker) : Type 0 where
+  pub xs : List Answer
+  pub told : answers old xs new
+  pub good : AreGood xs
+  pub counted : reads xs ≡ count
+  pub course : served plan before (stream (came xs)).frames ≡ record { written = gone xs; broker = after; ending = None }
+  pub whole : is_faulty (came xs) ≡ false
+  pub rest : left ≡ (stream (came xs)).rest
   pub none : (stream left).frames ≡ []
-  pub at_least : count ≤ length read
-  pub at_most : length read ≤ count * PIECE_LIMIT
+  pub at_most : length (came xs) ≤ count * PIECE_LIMIT
 
 -- ---- what was heard, and did not end the connection
 
@@ -94,111 +94,154 @@ rest-split bytes = ap (λ (s : Split). s.frames) (stays (stream bytes).rest (par
 
 -- ---- before anything was read
 
-pub not-begun : (plan : Plan) (before : Broker) (unread held : Option (List ℕ)) (r : Result Served BrokerFault) → IsErrAnd r (λ e. e ≡ OutOfMemory) → IsServed plan before unread unread held held r before
-not-begun plan before unread held r is =
-    let refused = err-is r OutOfMemory is in
-    record {
-      read = [];
-      written = [];
-      consumed = Consumes-nil unread;
-      appended = Appends-nil held;
-      served = subst (λ r. Serves plan before [] r [] before) (sym refused) (still-breaks (LosesMemory plan) plan before (stream []).frames);
-      at_end = λ ended. let no = sym refused ∙ ended in absurd cc;
-      too_long = λ late. let no = sym refused ∙ late in absurd cc;
-      pieces = omega arith;
-    }
+module _ {C : Type 0} (answers : Told C) (nothing : (s : C) → answers s [] s) (plan : Plan) (before : Broker) (old : C) where
+  pub not-begun : (r : Result Served BrokerFault) → IsErrAnd r (λ e. e ≡ OutOfMemory) → IsServed answers plan before old r old before
+  not-begun r is =
+      let refused = err-is r OutOfMemory is in
+      record {
+        xs = [];
+        told = nothing old;
+        end = subst (λ r. EndBy r []) (sym refused) tt;
+        served = subst (λ r. Serves plan before [] r [] before) (sym refused) (still-breaks (LosesMemory plan) plan before (stream []).frames);
+        in_time = omega arith;
+        too_long = λ late. let no = sym refused ∙ late in absurd cc;
+        pieces = omega arith;
+      }
 
-pub begun : (plan : Plan) (before : Broker) (unread held : Option (List ℕ)) (left : List ℕ) → left ≡ [] → HasServed plan before unread unread held held left 0 before
-begun plan before unread held left new = record {
-  read = [];
-  written = [];
-  consumed = Consumes-nil unread;
-  appended = Appends-nil held;
-  course = ap (λ (s : Split). served plan before s.frames) nothing-split;
-  whole = none_faulty;
-  rest = new ∙ sym (ap (λ (s : Split). s.rest) nothing-split);
-  none = ap (λ (t : List ℕ). (stream t).frames) new ∙ ap (λ (s : Split). s.frames) nothing-split;
-  at_least = omega arith;
-  at_most = omega arith;
-}
+  pub begun : (left : List ℕ) → left ≡ [] → HasServed answers plan before old old left 0 before
+  begun left new = record {
+    xs = [];
+    told = nothing old;
+    good = tt;
+    counted = refl;
+    course = ap (λ (s : Split). served plan before s.frames) nothing-split;
+    whole = none_faulty;
+    rest = new ∙ sym (ap (λ (s : Split). s.rest) nothing-split);
+    none = ap (λ (t : List ℕ). (stream t).frames) new ∙ ap (λ (s : Split). s.frames) nothing-split;
+    at_most = omega arith;
+  }
 
 -- ---- the next read
 
-module _ (plan : Plan) (before : Broker) (unread unread' held held' : Option (List ℕ)) (left : List ℕ) (count : ℕ) (mid : Broker) (has : HasServed plan before unread unread' held held' left count mid) where
-  few : count ≤ READ_LIMIT → length has.read ≤ READ_LIMIT * PIECE_LIMIT
+module _ {C : Type 0} (answers : Told C) (in_order : (a : C) (xs : List Answer) (b : C) (ys : List Answer) (c : C) → answers a xs b → answers b ys c → answers a (xs ++ ys) c)
+    (plan : Plan) (before : Broker) (old now : C) (left : List ℕ) (count : ℕ) (mid : Broker) (has : HasServed answers plan before old now left count mid) where
+  few : count ≤ READ_LIMIT → length (came has.xs) ≤ READ_LIMIT * PIECE_LIMIT
   few in_time = omega (arith, has.at_most)
 
-  pub read-failed : count < READ_LIMIT → (unread'' : Option (List ℕ)) → Keeps unread' unread'' → (r : Result Served BrokerFault) → r ≡ Err Io → IsServed plan before unread unread'' held held' r mid
-  read-failed in_time unread'' keeps r failed = record {
-    read = has.read;
-    written = has.written;
-    consumed = Consumes-kept unread unread' unread'' has.read has.consumed keeps;
-    appended = has.appended;
-    served = subst (λ r. Serves plan before has.read r has.written mid) (sym failed)
-        (subst (λ fs. Breaks (LosesAnswer plan) plan before fs has.written mid) (append-nil (stream has.read).frames) (breaks-after (LosesAnswer plan) plan before (stream has.read).frames [] has.written mid has.course));
-    at_end = λ ended. let no = sym failed ∙ ended in absurd cc;
-    too_long = λ late. let no = sym failed ∙ late in absurd cc;
-    pieces = few (omega arith);
-  }
+  -- one read more that brought nothing
+  module _ (last : Answer) (one : reads (last ∷ []) ≡ 1) (brought : came (last ∷ []) ≡ []) (wrote : gone (last ∷ []) ≡ []) (new : C) (read : answers now (last ∷ []) new) (in_time : count < READ_LIMIT) where
+    extended : List Answer
+    extended = has.xs ++ last ∷ []
 
-  pub input-ended : count < READ_LIMIT → (unread'' : Option (List ℕ)) → Consumes unread' unread'' [] → IsAtEnd unread'' → IsServed plan before unread unread'' held held' (Ok End) mid
-  input-ended in_time unread'' none end = record {
-    read = has.read;
-    written = has.written;
-    consumed = subst (Consumes unread unread'') (append-nil has.read) (Consumes-trans unread unread' unread'' has.read [] has.consumed none);
-    appended = has.appended;
-    served = heard-open plan before has.read has.written mid has.course has.whole;
-    at_end = λ _. end;
-    too_long = λ late. absurd cc;
-    pieces = few (omega arith);
-  }
+    same-came : came extended ≡ came has.xs
+    unfolding extended
+    same-came = came_behind has.xs (last ∷ []) ∙ ap (λ (b : List ℕ). came has.xs ++ b) brought ∙ append-nil (came has.xs)
 
-  pub reads-spent : count ≡ READ_LIMIT → IsServed plan before unread unread' held held' (Err TooLong) mid
-  reads-spent all = record {
-    read = has.read;
-    written = has.written;
-    consumed = has.consumed;
-    appended = has.appended;
-    served = heard-open plan before has.read has.written mid has.course has.whole;
-    at_end = λ ended. absurd cc;
-    too_long = λ _. omega (arith, has.at_least);
-    pieces = few (omega arith);
-  }
+    same-gone : gone extended ≡ gone has.xs
+    unfolding extended
+    same-gone = gone_behind has.xs (last ∷ []) ∙ ap (λ (b : List ℕ). gone has.xs ++ b) wrote ∙ append-nil (gone has.xs)
 
-  module _ (unread'' : Option (List ℕ)) (piece : List ℕ) (consumed : Consumes unread' unread'' piece) (some : 1 ≤ length piece) (room : length piece ≤ PIECE_LIMIT) (in_time : count < READ_LIMIT) (held'' : Option (List ℕ)) (left' : List ℕ) (after : Broker) where
-    consumed' : Consumes unread unread'' (has.read ++ piece)
-    consumed' = Consumes-trans unread unread' unread'' has.read piece has.consumed consumed
-
-    serves' : (r : Result Served BrokerFault) (t : TakesPiece plan mid left piece held' held'' r left' after) → Serves plan before (has.read ++ piece) r (has.written ++ t.written) after
-    serves' r t = serves-behind plan before has.read has.written mid has.course piece r t.written after (subst (λ u. Serves plan mid (u ++ piece) r t.written after) has.rest t.served)
-
-    pub connection-ended : (r : Result Served BrokerFault) → r ≢ Ok End → TakesPiece plan mid left piece held' held'' r left' after → IsServed plan before unread unread'' held held'' r after
-    connection-ended r other t = record {
-      read = has.read ++ piece;
-      written = has.written ++ t.written;
-      consumed = consumed';
-      appended = Appends-trans held held' held'' has.written t.written has.appended t.appended;
-      served = serves' r t;
-      at_end = λ ended. absurd (other ended);
-      too_long = λ late. absurd (t.in_time late);
-      pieces = omega (arith, length-append has.read piece, has.at_most);
+    unfoldable read-last : (Holds : Answer → Type 0) → Holds last → (r : Result Served BrokerFault) → (EndsWith Holds extended → EndBy r extended) → r ≢ Err TooLong → Serves plan before (came has.xs) r (gone has.xs) mid → IsServed answers plan before old r new mid
+    unfolding extended
+    read-last Holds holds r ends other served = record {
+      xs = extended;
+      told = in_order old has.xs now (last ∷ []) new has.told read;
+      end = ends (record { before = has.xs; last = last; are = refl; good = has.good; holds = holds });
+      served = subst (λ (b : List ℕ). Serves plan before b r (gone extended) mid) (sym same-came) (subst (λ (w : List ℕ). Serves plan before (came has.xs) r w mid) (sym same-gone) served);
+      in_time = omega (arith, reads_behind has.xs (last ∷ []), has.counted);
+      too_long = λ late. absurd (other late);
+      pieces = subst (λ (b : List ℕ). length b ≤ READ_LIMIT * PIECE_LIMIT) (sym same-came) (few (omega arith));
     }
 
-    pub next-piece : TakesPiece plan mid left piece held' held'' (Ok End) left' after → HasServed plan before unread unread'' held held'' left' (count + 1) after
+  pub read-failed : count < READ_LIMIT → (new : C) → answers now (Read_failed ∷ []) new → (r : Result Served BrokerFault) → r ≡ Err Io → IsServed answers plan before old r new mid
+  read-failed in_time new read r failed =
+      subst (λ r. IsServed answers plan before old r new mid) (sym failed)
+      (read-last Read_failed refl refl refl new read in_time HasFailed tt (Err Io) (λ e. e) (λ late. absurd cc)
+      (subst (λ fs. Breaks (LosesAnswer plan) plan before fs (gone has.xs) mid) (append-nil (stream (came has.xs)).frames) (breaks-after (LosesAnswer plan) plan before (stream (came has.xs)).frames [] (gone has.xs) mid has.course)))
+
+  pub input-ended : count < READ_LIMIT → (new : C) → answers now (Came [] ∷ []) new → IsServed answers plan before old (Ok End) new mid
+  input-ended in_time new read =
+      read-last (Came []) refl refl refl new read in_time MetEnd refl (Ok End) (λ e. e) (λ late. absurd cc) (heard-open plan before (came has.xs) (gone has.xs) mid has.course has.whole)
+
+  pub reads-spent : count ≡ READ_LIMIT → IsServed answers plan before old (Err TooLong) now mid
+  reads-spent all = record {
+    xs = has.xs;
+    told = has.told;
+    end = has.good;
+    served = heard-open plan before (came has.xs) (gone has.xs) mid has.course has.whole;
+    in_time = omega (arith, has.counted);
+    too_long = λ _. has.counted ∙ all;
+    pieces = few (omega arith);
+  }
+
+  module _ (piece : List ℕ) (between : C) (read : answers now (Came piece ∷ []) between) (some : 1 ≤ length piece) (room : length piece ≤ PIECE_LIMIT) (in_time : count < READ_LIMIT) (new : C) (left' : List ℕ) (after : Broker) where
+    -- the read, and the writes behind it
+    behind : List Answer → List Answer
+    behind ys = has.xs ++ Came piece ∷ ys
+
+    came-all : (ys : List Answer) → reads ys ≡ 0 → came (behind ys) ≡ came has.xs ++ piece
+    unfolding behind
+    came-all ys none =
+        came_behind has.xs (Came piece ∷ ys) ∙ ap (λ (b : List ℕ). came has.xs ++ (piece ++ b)) (none_came ys none) ∙ ap (λ (b : List ℕ). came has.xs ++ b) (append-nil piece)
+
+    gone-all : (ys : List Answer) → gone (behind ys) ≡ gone has.xs ++ gone ys
+    unfolding behind
+    gone-all ys = gone_behind has.xs (Came piece ∷ ys)
+
+    told-all : (ys : List Answer) → answers between ys new → answers old (behind ys) new
+    unfolding behind
+    told-all ys t = in_order old has.xs now (Came piece ∷ ys) new has.told (in_order now (Came piece ∷ []) between ys new read t)
+
+    reads-all : (ys : List Answer) → reads ys ≡ 0 → reads (behind ys) ≡ count + 1
+    unfolding behind
+    reads-all ys none = omega (arith, reads_behind has.xs (Came piece ∷ ys), reads_behind (Came piece ∷ []) ys, has.counted)
+
+    good-read : AreGood (has.xs ++ Came piece ∷ [])
+    good-read = good_behind has.xs (Came piece ∷ []) has.good (omega arith, tt)
+
+    goes-all : (r : Result Served BrokerFault) (ys : List Answer) → GoBy r ys → GoBy r (behind ys)
+    unfolding behind
+    goes-all r ys go = subst (GoBy r) (append_assoc has.xs (Came piece ∷ []) ys) (goes_behind r (has.xs ++ Came piece ∷ []) ys good-read go)
+
+    -- an answer that ends the connection, but not at the end of the input
+    ends-so : (r : Result Served BrokerFault) → r ≢ Ok End → (ys : List Answer) → GoBy r ys → EndBy r ys
+    ends-so (Ok End) other ys go = absurd (other refl)
+    ends-so (Ok HungUp) other ys go = go
+    ends-so (Err (Frame fault)) other ys go = go
+    ends-so (Err Io) other ys go = go
+    ends-so (Err OutOfMemory) other ys go = go
+    ends-so (Err TooLong) other ys go = go
+
+    serves' : (r : Result Served BrokerFault) (t : TakesPiece answers plan mid left piece between r left' new after) → Serves plan before (came has.xs ++ piece) r (gone has.xs ++ gone t.xs) after
+    serves' r t = serves-behind plan before (came has.xs) (gone has.xs) mid has.course piece r (gone t.xs) after (subst (λ u. Serves plan mid (u ++ piece) r (gone t.xs) after) has.rest t.served)
+
+    pub connection-ended : (r : Result Served BrokerFault) → r ≢ Ok End → TakesPiece answers plan mid left piece between r left' new after → IsServed answers plan before old r new after
+    connection-ended r other t = record {
+      xs = behind t.xs;
+      told = told-all t.xs t.told;
+      end = ends-so r other (behind t.xs) (goes-all r t.xs t.go);
+      served = subst (λ (b : List ℕ). Serves plan before b r (gone (behind t.xs)) after) (sym (came-all t.xs t.no_reads))
+          (subst (λ (w : List ℕ). Serves plan before (came has.xs ++ piece) r w after) (sym (gone-all t.xs)) (serves' r t));
+      in_time = omega (arith, reads-all t.xs t.no_reads);
+      too_long = λ late. absurd (t.in_time late);
+      pieces = omega (arith, ap length (came-all t.xs t.no_reads), length-append (came has.xs) piece, has.at_most);
+    }
+
+    pub next-piece : TakesPiece answers plan mid left piece between (Ok End) left' new after → HasServed answers plan before old new left' (count + 1) after
     next-piece t =
-        let both = heard-parts plan before (has.read ++ piece) (has.written ++ t.written) after (serves' (Ok End) t) in
-        let rest = t.rest refl ∙ ap (λ (u : List ℕ). (stream (u ++ piece)).rest) has.rest ∙ sym (ap (λ (s : Split). s.rest) (stream_more has.read piece)) in
+        let both = heard-parts plan before (came has.xs ++ piece) (gone has.xs ++ gone t.xs) after (serves' (Ok End) t) in
+        let rest = t.rest refl ∙ ap (λ (u : List ℕ). (stream (u ++ piece)).rest) has.rest ∙ sym (ap (λ (s : Split). s.rest) (stream_more (came has.xs) piece)) in
+        let all = came-all t.xs t.no_reads in
         record {
-          read = has.read ++ piece;
-          written = has.written ++ t.written;
-          consumed = consumed';
-          appended = Appends-trans held held' held'' has.written t.written has.appended t.appended;
-          course = both.0;
-          whole = both.1;
-          rest = rest;
-          none = ap (λ (u : List ℕ). (stream u).frames) rest ∙ rest-split (has.read ++ piece);
-          at_least = omega (arith, length-append has.read piece, has.at_least);
-          at_most = omega (arith, length-append has.read piece, has.at_most);
+          xs = behind t.xs;
+          told = told-all t.xs t.told;
+          good = goes-all (Ok End) t.xs t.go;
+          counted = reads-all t.xs t.no_reads;
+          course = ap (λ (b : List ℕ). served plan before (stream b).frames) all ∙ both.0 ∙ (λ i. record { written = sym (gone-all t.xs) i; broker = after; ending = None });
+          whole = ap is_faulty all ∙ both.1;
+          rest = rest ∙ ap (λ (b : List ℕ). (stream b).rest) (sym all);
+          none = ap (λ (u : List ℕ). (stream u).frames) rest ∙ rest-split (came has.xs ++ piece);
+          at_most = omega (arith, ap length all, length-append (came has.xs) piece, has.at_most);
         }
 
 -- ---- the piece that was read

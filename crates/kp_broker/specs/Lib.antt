@@ -2,7 +2,9 @@ pub mod Again
 pub mod Answering
 pub mod Answers
 pub mod Broker
+pub mod Calls
 pub mod Fault
+pub mod Plain
 pub mod Plan
 pub mod Replies
 pub mod Sending

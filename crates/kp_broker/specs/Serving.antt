@@ -1,6 +1,5 @@
 -- What comes of the frames of a connection, by a plan.
 use Rattle.std.specs.Prelude.{◌≡◌, ◌⊎◌, ℕ, ◌*◌, ◌≤◌, List, [], ◌∷◌, ◌++◌, length, Bool, true, false, Option, Some, None, is_some, Result, Ok, Err, nat_le, if◌then◌else◌}
-use Rattle.std.specs.Io.KnownBytes.{Appends, Consumes, IsAtEnd}
 use Rattle.kp_frames.specs.declared.fault.FrameFault.{FrameFault}
 use Rattle.kp_frames.specs.declared.fault.FrameFault.TheVariants.{TooLarge}
 use Rattle.kp_frames.specs.declared.frame.TheConstants.{CONTENT_LIMIT}
@@ -23,6 +22,7 @@ use Rattle.kp_broker.specs.declared.serving.streams.TheConstants.{PIECE_LIMIT}
 use Rattle.kp_broker.specs.Answering.{StopsWithin, after_unanswered}
 use Rattle.kp_broker.specs.Answers.{answer_to, after_answer}
 use Rattle.kp_broker.specs.Broker.{Broker, counted}
+use Rattle.kp_broker.specs.Calls.{Answer, Told, came, gone, reads, AreGood, EndsWith, HasFailed, MetEnd}
 use Rattle.kp_broker.specs.Plan.{Plan, planned}
 
 -- ---- what comes of frames
@@ -182,16 +182,24 @@ Serves plan b bytes (Err OutOfMemory) written after = Breaks (LosesMemory plan) 
 Serves plan b bytes (Err TooLong) written after =
     heard plan b bytes ≡ record { written = written; broker = after; ending = None }
 
--- ---- its reader and its writer, where they tell their bytes
+-- ---- the calls on a connection
 
--- What was read was taken from the reader, and what was written was put behind what the writer held. Each read gave a
--- byte at least, but one that found the end.
-pub record IsServed (plan : Plan) (before : Broker) (unread unread' held held' : Option (List ℕ)) (result : Result Served BrokerFault) (after : Broker) : Type 0 where
-  pub read : List ℕ
-  pub written : List ℕ
-  pub consumed : Consumes unread unread' read
-  pub appended : Appends held held' written
-  pub served : Serves plan before read result written after
-  pub at_end : result ≡ Ok End → IsAtEnd unread'
-  pub too_long : result ≡ Err TooLong → READ_LIMIT ≤ length read
-  pub pieces : length read ≤ READ_LIMIT * PIECE_LIMIT
+-- The answers were good, but the last where the input ended or the connection failed.
+abbrev pub EndBy : Result Served BrokerFault → List Answer → Type 0
+EndBy (Ok End) xs = EndsWith MetEnd xs
+EndBy (Ok HungUp) xs = AreGood xs
+EndBy (Err (Frame fault)) xs = AreGood xs
+EndBy (Err Io) xs = EndsWith HasFailed xs
+EndBy (Err OutOfMemory) xs = AreGood xs
+EndBy (Err TooLong) xs = AreGood xs
+
+-- What came of the bytes that were read, by at most so many reads of at most so many bytes: by all of them, where there
+-- were too many.
+pub record IsServed {C : Type 0} (answers : Told C) (plan : Plan) (before : Broker) (old : C) (result : Result Served BrokerFault) (new : C) (after : Broker) : Type 0 where
+  pub xs : List Answer
+  pub told : answers old xs new
+  pub end : EndBy result xs
+  pub served : Serves plan before (came xs) result (gone xs) after
+  pub in_time : reads xs ≤ READ_LIMIT
+  pub too_long : result ≡ Err TooLong → reads xs ≡ READ_LIMIT
+  pub pieces : length (came xs) ≤ READ_LIMIT * PIECE_LIMIT

@@ -10,4 +10,4 @@ mod serving;
 pub use broker::Broker;
 pub use fault::BrokerFault;
 pub use plan::{Action, FaultPlan, PlanFault};
-pub use serving::Served;
+pub use serving::{Connection, Plain, Served};

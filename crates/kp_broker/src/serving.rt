@@ -5,16 +5,17 @@ ghost use Rattle.kp_frames.specs.Stream.{stream};
 ghost use Rattle.kp_broker.specs.Serving.{IsServed};
 ghost use Rattle.kp_broker.specs.Taking.{TakesFrame, TakesFrames, TakesPiece};
 
+mod connection;
 mod replying;
 mod streams;
 
+pub use self::connection::{Connection, Plain};
 use self::replying::Reply;
 use self::streams::{empty_piece, read_piece, send};
 use crate::broker::Broker;
 use crate::fault::BrokerFault;
 use crate::plan::FaultPlan;
 use kp_frames::Splitter;
-use std::io::{Read, Write};
 
 /// The most reads on one connection.
 const READ_LIMIT: u32 = 1_000_000;
@@ -29,25 +30,28 @@ pub enum Served {
 }
 
 impl Broker {
-    /// Answers the requests that a connection's reader gives, and writes the answers to its writer, each by itself. Of
-    /// a connection that breaks, the requests that came before stay answered.
-    pub fn serve<R: Read, W: Write>(
+    /// Answers the requests that come on a connection, and writes the answers, each by itself. Of a connection that
+    /// breaks, the requests that came before stay answered.
+    pub fn serve<C: Connection>(
         &mut self,
-        reader: &mut R,
-        writer: &mut W,
+        connection: &mut C,
         plan: &FaultPlan,
     ) -> Result<Served, BrokerFault>
-        ensures { IsServed plan.now self.old (R.remaining reader.old) (R.remaining reader.new)
-            (W.contents writer.old) (W.contents writer.new) result self.new }
+        ensures { IsServed C.answers plan.now self.old connection.old result connection.new self.new }
     {
         let mut splitter = Splitter::new(self.alloc());
         let mut piece = empty_piece(self.alloc())?;
         for _ in 0..READ_LIMIT {
-            let len = read_piece(reader, piece.as_mut_slice())?;
+            let len = read_piece(connection, piece.as_mut_slice())?;
             if len == 0 {
                 return Ok(Served::End);
             }
-            if let Served::HungUp = self.take_piece(&mut splitter, &piece[..len], writer, plan)? {
+            if let Served::HungUp = self.take_piece(
+                &mut splitter,
+                &piece[..len],
+                connection,
+                plan,
+            )? {
                 return Ok(Served::HungUp);
             }
         }
@@ -55,19 +59,19 @@ impl Broker {
     }
 
     /// Takes a piece of the stream, where no frame is at hand, and handles the frames that are whole with it.
-    fn take_piece<W: Write>(
+    fn take_piece<C: Connection>(
         &mut self,
         splitter: &mut Splitter,
         piece: &[u8],
-        writer: &mut W,
+        connection: &mut C,
         plan: &FaultPlan,
     ) -> Result<Served, BrokerFault>
         requires { (stream splitter.old).frames ≡ [] }
-        ensures { TakesPiece plan.now self.old splitter.old piece.now (W.contents writer.old)
-            (W.contents writer.new) result splitter.new self.new }
+        ensures { TakesPiece C.answers plan.now self.old splitter.old piece.now connection.old result splitter.new
+            connection.new self.new }
     {
         let fed = splitter.feed(piece);
-        if let Served::HungUp = self.take_frames(splitter, writer, plan)? {
+        if let Served::HungUp = self.take_frames(splitter, connection, plan)? {
             return Ok(Served::HungUp);
         }
         fed?;
@@ -75,17 +79,17 @@ impl Broker {
     }
 
     /// Handles the frames at hand.
-    fn take_frames<W: Write>(
+    fn take_frames<C: Connection>(
         &mut self,
         splitter: &mut Splitter,
-        writer: &mut W,
+        connection: &mut C,
         plan: &FaultPlan,
     ) -> Result<Served, BrokerFault>
-        ensures { TakesFrames plan.now self.old splitter.old (W.contents writer.old)
-            (W.contents writer.new) result splitter.new self.new }
+        ensures { TakesFrames C.answers plan.now self.old splitter.old connection.old result splitter.new
+            connection.new self.new }
     {
         while let Some(content) = splitter.next_frame()? {
-            if let Served::HungUp = self.take_frame(content.as_slice(), writer, plan)? {
+            if let Served::HungUp = self.take_frame(content.as_slice(), connection, plan)? {
                 return Ok(Served::HungUp);
             }
         }
@@ -93,17 +97,16 @@ impl Broker {
     }
 
     /// Handles a frame's content, and sends what is sent back.
-    fn take_frame<W: Write>(
+    fn take_frame<C: Connection>(
         &mut self,
         content: &[u8],
-        writer: &mut W,
+        connection: &mut C,
         plan: &FaultPlan,
     ) -> Result<Served, BrokerFault>
-        ensures { TakesFrame plan.now self.old content.now (W.contents writer.old)
-            (W.contents writer.new) result self.new }
+        ensures { TakesFrame C.answers plan.now self.old content.now connection.old result connection.new self.new }
     {
         match self.handle(content, plan)? {
-            Reply::Frame(frame) => send(writer, frame.as_slice())?,
+            Reply::Frame(frame) => send(connection, frame.as_slice())?,
             Reply::Nothing => {}
             Reply::HangUp => return Ok(Served::HungUp),
         }

@@ -1,6 +1,6 @@
 //! A connection over memory.
 
-use kp_broker::{Broker, BrokerFault, FaultPlan, Served};
+use kp_broker::{Broker, BrokerFault, FaultPlan, Plain, Served};
 use kp_cases::{StepFault, Words};
 use std::alloc::Global;
 use std::io::{self, ErrorKind, Read, Write};
@@ -118,21 +118,22 @@ impl Connection {
         plan: &FaultPlan,
         input: &[u8],
     ) -> (Result<Served, BrokerFault>, Vec<u8>) {
-        let mut source = Source {
-            rest: input,
-            steps: &self.reads,
-            calls: 0,
+        let mut connection = Plain {
+            reader: Source {
+                rest: input,
+                steps: &self.reads,
+                calls: 0,
+            },
+            writer: Sink {
+                held: Vec::new(self.alloc),
+                steps: &self.writes,
+                calls: 0,
+                flush_fails: self.flush_fails,
+            },
         };
-        let mut sink = Sink {
-            held: Vec::new(self.alloc),
-            steps: &self.writes,
-            calls: 0,
-            flush_fails: self.flush_fails,
-        };
-        let ended = broker.serve(&mut source, &mut sink, plan);
-        let Source { calls, .. } = source;
-        let Sink { held, .. } = sink;
-        self.read_calls = calls;
-        (ended, held)
+        let ended = broker.serve(&mut connection, plan);
+        let Plain { reader, writer } = connection;
+        self.read_calls = reader.calls;
+        (ended, writer.held)
     }
 }

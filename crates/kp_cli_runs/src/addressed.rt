@@ -3,7 +3,7 @@
 ghost use Rattle.std.specs.Prelude.{◌≤◌};
 
 use crate::calling::{Ended, call};
-use kp_broker::{Broker, FaultPlan};
+use kp_broker::{Broker, FaultPlan, Plain};
 use std::alloc::{AllocError, Global};
 use std::io::{self, ErrorKind, Write};
 use std::net::{Ipv4Addr, Net, SocketAddr, TcpListener, TcpStream};
@@ -19,7 +19,7 @@ fn serve(alloc: Global, listener: &TcpListener, broker: &mut Broker, connections
     let plan = FaultPlan::none(alloc);
     for _ in 0..connections {
         if let Ok((stream, _)) = listener.accept() {
-            let _ = broker.serve(&mut &stream, &mut &stream, &plan);
+            let _ = broker.serve(&mut Plain::new(&stream, &stream), &plan);
         }
     }
 }

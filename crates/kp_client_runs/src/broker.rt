@@ -3,7 +3,7 @@
 use crate::run::Run;
 use crate::telling::tell;
 use crate::wrong::Wrong;
-use kp_broker::{Broker, FaultPlan};
+use kp_broker::{Broker, FaultPlan, Plain};
 use std::alloc::AllocGlobal;
 use std::io;
 use std::net::{Ipv4Addr, Net, SocketAddr, TcpListener, TcpStream};
@@ -27,7 +27,7 @@ fn serve_all(
             return Ok(());
         }
         stream.set_nodelay(true)?;
-        let _ = broker.serve(&mut &stream, &mut &stream, plan);
+        let _ = broker.serve(&mut Plain::new(&stream, &stream), plan);
     }
     Ok(())
 }

@@ -1,6 +1,6 @@
 //! One connection after the other.
 
-use kp_broker::{Broker, FaultPlan};
+use kp_broker::{Broker, FaultPlan, Plain};
 use std::io;
 use std::net::{Net, SocketAddr, TcpListener, TcpStream};
 use std::sync::atomic::{AtomicBool, Ordering};
@@ -19,7 +19,7 @@ pub(crate) fn serve_all(
             return Ok(());
         }
         stream.set_nodelay(true)?;
-        let _ = broker.serve(&mut &stream, &mut &stream, plan);
+        let _ = broker.serve(&mut Plain::new(&stream, &stream), plan);
     }
     Ok(())
 }

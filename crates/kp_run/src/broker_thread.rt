@@ -2,7 +2,7 @@
 
 ghost use Rattle.kp_run.specs.Served.{ServesAll, ServesOne};
 
-use kp_broker::{Broker, FaultPlan};
+use kp_broker::{Broker, FaultPlan, Plain};
 use std::net::{Net, SocketAddr, TcpListener, TcpStream};
 use std::snapshot::Snapshot;
 use std::sync::atomic::{AtomicBool, Ordering};
@@ -50,9 +50,7 @@ pub(crate) fn serve_all(
 fn serve_one(broker: &mut Broker, stream: &TcpStream, plan: &FaultPlan)
     ensures { ServesOne plan.now broker.old broker.new }
 {
-    let mut reader = stream;
-    let mut writer = stream;
-    let _ = broker.serve(&mut reader, &mut writer, plan);
+    let _ = broker.serve(&mut Plain::new(stream, stream), plan);
 }
 
 /// Says that it is over, and makes one empty connection, so that who waits for the next one sees it.

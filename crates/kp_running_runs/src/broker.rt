@@ -1,7 +1,7 @@
 //! The loopback broker's thread.
 
 use crate::wrong::Wrong;
-use kp_broker::{Broker, FaultPlan};
+use kp_broker::{Broker, FaultPlan, Plain};
 use std::alloc::AllocGlobal;
 use std::net::{Net, SocketAddr, TcpListener, TcpStream};
 use std::sync::atomic::{AtomicBool, Ordering};
@@ -20,7 +20,7 @@ pub(crate) fn serve_all<R: AllocGlobal>(
             return Ok(());
         }
         stream.set_nodelay(true)?;
-        let _ = broker.serve(&mut &stream, &mut &stream, &plan);
+        let _ = broker.serve(&mut Plain::new(&stream, &stream), &plan);
     }
     Ok(())
 }

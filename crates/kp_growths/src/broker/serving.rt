@@ -4,7 +4,7 @@ use crate::broker::answering::{has_both, has_first};
 use crate::broker::frames::{APPENDED, DESCRIBED, FIRST_ID, INIT_PRODUCER_ID, METADATA, PRODUCE};
 use crate::broker::opening::made_broker;
 use crate::outcome::Outcome;
-use kp_broker::{Broker, BrokerFault, FaultPlan, Served};
+use kp_broker::{Broker, BrokerFault, FaultPlan, Plain, Served};
 use std::alloc::Global;
 use std::io::{self, Read};
 
@@ -80,11 +80,10 @@ fn serve(
     broker: &mut Broker,
     room: &mut [u8],
 ) -> (Result<Served, BrokerFault>, usize) {
-    let mut reader = Requests { number: 0, read: 0 };
     let len = room.len();
-    let mut writer = room;
-    let ended = broker.serve(&mut reader, &mut writer, &FaultPlan::none(alloc));
-    (ended, len.saturating_sub(writer.len()))
+    let mut connection = Plain::new(Requests { number: 0, read: 0 }, room);
+    let ended = broker.serve(&mut connection, &FaultPlan::none(alloc));
+    (ended, len.saturating_sub(connection.writer.len()))
 }
 
 /// How a connection ended, whether all answers were written, and whether the first of them were.

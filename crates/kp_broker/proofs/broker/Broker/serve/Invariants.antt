@@ -6,5 +6,5 @@ use Rattle.kp_broker.proofs.broker.Broker.serve.Given as goal
 abbrev pub invariant-loop : goal.invariant-loop
 invariant-loop g l = record {
   room : vec_len l.piece ≡ PIECE_LIMIT;
-  has : HasServed l.plan l.initial.self (g.R.Read.remaining l.initial.reader) (g.R.Read.remaining l.reader) (g.W.Write.contents l.initial.writer) (g.W.Write.contents l.writer) l.splitter l.counter l.self;
+  has : HasServed g.C.Connection.answers l.plan l.initial.self l.initial.connection l.connection l.splitter l.counter l.self;
 }
