@@ -1,6 +1,7 @@
 //! The timestamps of a sender's records.
 
-ghost use Rattle.std.specs.Prelude.{◌≡◌, ◌-◌, ◌^◌, min};
+ghost use Rattle.std.specs.Prelude.{◌≡◌, ◌-◌, ◌/◌, ◌^◌, min};
+ghost use Rattle.std.specs.Time.{system_time_nanos};
 
 use kp_batch::Timestamp;
 use kp_running::Passed;
@@ -43,13 +44,20 @@ fn stamp(millis: u64) -> Timestamp
     Timestamp::from_millis(within as i64).unwrap()
 }
 
-/// The milliseconds since the beginning of 1970.
+/// The milliseconds from the beginning of 1970 to what the clock on the wall shows, or 0, where it can't be read.
 fn wall_millis<R: Clock>(rt: &R) -> u64 {
-    let Ok(now) = SystemTime::now(rt) else {
-        return 0;
-    };
-    match now.duration_since(UNIX_EPOCH) {
-        Ok(passed) => u64::try_from(passed.as_millis()).unwrap_or(0),
+    match SystemTime::now(rt) {
+        Ok(now) => millis_of(now),
+        Err(_) => 0,
+    }
+}
+
+/// The milliseconds from the beginning of 1970 to this time.
+fn millis_of(time: SystemTime) -> u64
+    ensures { result ≡ min (system_time_nanos time / 1_000_000) (2 ^ 64 - 1) }
+{
+    match time.duration_since(UNIX_EPOCH) {
+        Ok(passed) => u64::try_from(passed.as_millis()).unwrap_or(u64::MAX),
         Err(_) => 0,
     }
 }
