@@ -93,6 +93,22 @@ fn send_each<R: Wait + Clock + AllocGlobal>(
     Ok(())
 }
 
+/// Does the job.
+pub(crate) fn talk<R: Wait + Clock + AllocGlobal>(
+    rt: &R,
+    producer: Producer,
+    job: Job,
+) -> Result<Heard, AllocError> {
+    let mut producer = producer;
+    let mut heard = Heard {
+        reports: Vec::new(rt.alloc()),
+        micros: Vec::new(rt.alloc()),
+        counted: Statistics::default(),
+    };
+    send_each(rt, &mut producer, job, &mut heard)?;
+    Ok(heard)
+}
+
 /// Does the job, and closes the producer.
 pub(crate) fn work<R: Wait + Clock + AllocGlobal>(
     rt: &R,

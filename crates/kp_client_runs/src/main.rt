@@ -6,6 +6,7 @@
 //! that has nothing to send: these are for measuring.
 #![tactic(auto)]
 
+mod both;
 mod broker;
 mod example;
 mod job;

@@ -19,6 +19,14 @@ pub(crate) enum Run {
     Closes,
     /// A record, and how long new connections are waited for.
     Again,
+    /// Two senders, one after the other, and whether each is woken for its reports.
+    Bells,
+    /// Two senders side by side, and what they are told and what is counted.
+    Both,
+    /// The same, where a record is given up after half a second.
+    BothHasty,
+    /// The same, where the service begins only after a second.
+    BothLate,
     /// So many records, so many milliseconds apart, and how long it took until each was told of.
     Latency { records: u32, apart: u64 },
     /// A producer that has nothing to send for so many milliseconds.
@@ -47,6 +55,10 @@ impl<'a> Line<'a> {
             "waits" => planned(Run::Waits),
             "closes" => planned(Run::Closes),
             "again" => planned(Run::Again),
+            "bells" => planned(Run::Bells),
+            "both" => planned(Run::Both),
+            "both-hasty" => planned(Run::BothHasty),
+            "both-late" => planned(Run::BothLate),
             "latency" => {
                 let (records, apart) = rest.split_once(' ')?;
                 let (records, apart) = (records.parse().ok()?, apart.parse().ok()?);

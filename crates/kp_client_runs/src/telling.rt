@@ -1,5 +1,6 @@
 //! What is printed of a run.
 
+use crate::both::{tell_bells, tell_both};
 use crate::broker::nobody;
 use crate::example::publish;
 use crate::job::{Heard, Job, record};
@@ -19,6 +20,9 @@ use std::time::Clock;
 
 /// How long a broker that says nothing is waited for, in milliseconds.
 const PATIENCE: u64 = 50;
+
+/// After how long a hasty producer gives up a record, in milliseconds.
+const HASTE: u64 = 500;
 
 pub(crate) fn settings(alloc: Global) -> Result<Settings, AllocError> {
     Settings::new(alloc, "t", "kp")
@@ -77,6 +81,21 @@ where
     Ok(())
 }
 
+/// Settings of a producer with two senders.
+fn of_two(alloc: Global) -> Result<Settings, AllocError> {
+    let mut two = settings(alloc)?;
+    two.senders = 2;
+    Ok(two)
+}
+
+/// The same, and each record is given up after half a second.
+fn of_two_hasty(alloc: Global) -> Result<Settings, AllocError> {
+    let mut two = of_two(alloc)?;
+    two.config.request_timeout_ms = HASTE;
+    two.config.delivery_timeout_ms = HASTE;
+    Ok(two)
+}
+
 /// Prints why a producer is not opened.
 fn tell_fault<R>(rt: &R, address: SocketAddr, settings: Settings) -> Result<(), Wrong>
 where
@@ -128,13 +147,14 @@ where
         apart: 0,
         rest: 0,
     };
+    let three = Job { records: 3, ..one };
     match run {
         Run::Example => {
             let report = publish(rt, address, record(rt.alloc())?)?;
             tell_outcome(rt, report.map(|report| report.outcome))?;
             Ok(())
         }
-        Run::Counted => tell_job(rt, address, Policy::InARow(10), Job { records: 3, ..one }),
+        Run::Counted => tell_job(rt, address, Policy::InARow(10), three),
         Run::GivesUp => tell_job(rt, address, Policy::InAll(0), Job { records: 2, ..one }),
         Run::Twice => {
             tell_job(rt, address, Policy::InARow(10), one)?;
@@ -144,6 +164,10 @@ where
         Run::Waits => tell_waits(rt, address),
         Run::Closes => tell_closes(rt, address),
         Run::Again => tell_again(rt, address, one),
+        Run::Bells => tell_bells(rt, address, of_two(rt.alloc())?, Job { records: 21, ..one }),
+        Run::Both => tell_both(rt, address, of_two(rt.alloc())?, three, 0),
+        Run::BothHasty => tell_both(rt, address, of_two_hasty(rt.alloc())?, three, 0),
+        Run::BothLate => tell_both(rt, address, of_two_hasty(rt.alloc())?, three, 2 * HASTE),
         Run::Latency { records, apart } => tell_latency(
             rt,
             address,
