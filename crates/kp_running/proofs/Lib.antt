@@ -1,3 +1,4 @@
+mod MillisLemmas
 mod EngineLemmas
 mod ReachesLemmas
 mod NumberedLemmas

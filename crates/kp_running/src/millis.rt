@@ -1,6 +1,7 @@
 //! The runtime's clock as an engine's.
 
-ghost use Rattle.std.specs.Prelude.{◌≡◌, ◌≤◌, [], map, IfOk};
+ghost use Rattle.std.specs.Prelude.{◌≡◌, ◌≤◌, [], map, Some, IfOk};
+ghost use Rattle.std.specs.List.{last_or};
 
 use http_server::Log;
 use std::io;
@@ -42,6 +43,9 @@ pub struct Millis<'a, R> {
     rt: &'a R,
     passed: Passed,
     told: Log<u64, ()>,
+
+    // What it told last is what it shows.
+    ghost last: { last_or (Some passed.shown) (map (λ x. x.0) told.items) ≡ Some passed.shown },
 }
 
 impl<'a, R: Clock> Millis<'a, R> {
