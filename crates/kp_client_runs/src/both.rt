@@ -1,6 +1,7 @@
 //! Two senders of one producer.
 
 use crate::job::{Heard, Job, talk};
+use crate::waiting::LONGEST;
 use crate::wrong::Wrong;
 use kp_client::{Opened, Settings, Statistics, open};
 use kp_core::{Outcome, Reason};
@@ -10,7 +11,7 @@ use std::net::{Net, SocketAddr, TcpListener, TcpStream};
 use std::random::RandomSource;
 use std::sync::Wait;
 use std::thread::{self, Threads};
-use std::time::{Clock, Duration};
+use std::time::{Clock, Duration, Instant};
 
 /// How long the report of a record may be under way, in microseconds, to a sender that is woken for it: one that is not looks
 /// for it each 20 ms.
@@ -114,6 +115,7 @@ where
         return Ok(());
     };
     let monitor = one.monitor()?;
+    let begun = Instant::now(rt)?;
     let ((one, other), ended) = thread::join(
         rt,
         move || {
@@ -126,7 +128,8 @@ where
             service.run(rt)
         },
     );
-    println!(rt; "{:?}", ended?.ending())?;
+    let early = begun.elapsed(rt)? < Duration::from_millis(LONGEST);
+    println!(rt; "{:?}, before its time: {early}", ended?.ending())?;
     tell_tally(rt, &one?, &other?, &monitor.read())?;
     Ok(())
 }
