@@ -128,6 +128,7 @@ impl<'a, R: RandomSource + AllocGlobal> Engines<'a, R> {
 
 impl<R: RandomSource + AllocGlobal> Player for Engines<'_, R> {
     fn begin(&mut self) {
+        self.setting = Setting::new();
         self.scene = None;
         self.core.clear();
     }
