@@ -17,11 +17,12 @@ use Rattle.kp_rules.specs.Closing.{close_step, end_step}
 use Rattle.kp_rules.specs.Dropping.{disconnect_step}
 use Rattle.kp_rules.specs.Fetched.{with_fetched, after_fetched}
 use Rattle.kp_rules.specs.Flush.{flush_step}
+use Rattle.kp_rules.specs.Leading.{lead_step}
 use Rattle.kp_rules.specs.Records.{Core, Called, quietly}
 use Rattle.kp_rules.specs.Reports.{fetch_step}
 use Rattle.kp_rules.specs.Requesting.{Packet, Requested, request_step}
 use Rattle.kp_rules.specs.Tick.{tick_step}
-use Rattle.kp_rules.proofs.FetchedLemmas.{append_behind, request_behind, tick_behind, end_behind, disconnect_behind, close_behind, flush_behind}
+use Rattle.kp_rules.proofs.FetchedLemmas.{append_behind, request_behind, tick_behind, end_behind, disconnect_behind, lead_behind, close_behind, flush_behind}
 use Rattle.kp_world.specs.Accepting.{accepted_by, taken_by, with_taken, taking_of, taking}
 use Rattle.kp_world.specs.Client.{only_if, handed_with, with_packet, sending, ticking, ending, closing, flush_line, client}
 use Rattle.kp_world.specs.Events as event
@@ -36,7 +37,7 @@ use Rattle.kp_headline.specs.Moves.{Calling, with_packets, with_report, after}
 use Rattle.kp_headline.specs.Outside.{State}
 use Rattle.kp_headline.proofs.EventLemmas.{at_moment, run_at, stepped, facts_noted, facts_kept, facts_at}
 use Rattle.kp_headline.proofs.FetchingLemmas.{report_fetched, none_fetched}
-use Rattle.kp_headline.proofs.InFlightLemmas.{AfterRequest, after_request, remembers_one_more, shrinks_appended, shrinks_ticked, shrinks_ended, shrinks_disconnected, shrinks_closed, shrinks_flushed}
+use Rattle.kp_headline.proofs.InFlightLemmas.{AfterRequest, after_request, remembers_one_more, shrinks_appended, shrinks_ticked, shrinks_ended, shrinks_disconnected, shrinks_led, shrinks_closed, shrinks_flushed}
 use Rattle.kp_headline.proofs.MatchLemmas.{core_is, same_by, in_flight_still, parts_still, given_still, contained_front, got_front, untold, stays, stays_so}
 
 -- ---- calls that change nothing outside
@@ -44,42 +45,60 @@ use Rattle.kp_headline.proofs.MatchLemmas.{core_is, same_by, in_flight_still, pa
 abbrev pub Leads : State → World → call.Call → Core → Type 0
 Leads a w c t = CanFollow w (after (Calling c t) a)
 
-pub tick_moved : (a : State) (w : World) (t : Core) (now : ℕ) (answer : Ticked) → Matches a w → Step a.core (call.Tick now answer) t → Leads a w (call.Tick now answer) t
+pub tick_moved : (a : State) (w : World) (t : Core) (node now : ℕ) (answer : Ticked) → Matches a w → Step a.core (call.Tick node now answer) t → Leads a w (call.Tick node now answer) t
 unfolding Steps client noted
-tick_moved a w t now answer m step = record {
-  events = event.Now now ∷ event.Tick ∷ [];
-  world = ticking (at_moment now w);
-  run = run_at w now event.Tick (ticking (at_moment now w)) refl;
+tick_moved a w t node now answer m step = record {
+  events = event.Now now ∷ event.Tick node ∷ [];
+  world = ticking node (at_moment now w);
+  run = run_at w now (event.Tick node) (ticking node (at_moment now w)) refl;
   matches = record {
-    same = same_by (λ f. f) a w (ticking (at_moment now w)) (tick_step now w.core) (tick_step now a.core) t m
-        (facts_at now (tick_step now w.core).after _ (tick_step now w.core).told w)
-        (ap (tick_step now) (core_is a w m) ∙ tick_behind a.outside.fetched now a.core) step.1;
+    same = same_by (λ f. f) a w (ticking node (at_moment now w)) (tick_step node now w.core) (tick_step node now a.core) t m
+        (facts_at now (tick_step node now w.core).after _ (tick_step node now w.core).told w)
+        (ap (tick_step node now) (core_is a w m) ∙ tick_behind a.outside.fetched node now a.core) step.1;
     shut = m.shut;
     said = m.said;
     answered = m.answered;
     again = m.again;
-    in_flight = in_flight_still a w (tick_step now a.core).after t m (shrinks_ticked now a.core) step.1;
+    in_flight = in_flight_still a w (tick_step node now a.core).after t m (shrinks_ticked node now a.core) step.1;
   };
 }
 
 abbrev quiet : Core → Called (Unit {0})
 quiet s = quietly s tt
 
-pub disconnect_moved : (a : State) (w : World) (t : Core) (now : ℕ) → Matches a w → Step a.core (call.Disconnect now) t → Leads a w (call.Disconnect now) t
+pub disconnect_moved : (a : State) (w : World) (t : Core) (node now : ℕ) → Matches a w → Step a.core (call.Disconnect node now) t → Leads a w (call.Disconnect node now) t
 unfolding Steps client noted
-disconnect_moved a w t now m step = record {
-  events = event.Now now ∷ event.Drop ∷ [];
-  world = noted (disconnect_step now w.core) [] [] (at_moment now w);
-  run = run_at w now event.Drop (noted (disconnect_step now w.core) [] [] (at_moment now w)) refl;
+disconnect_moved a w t node now m step = record {
+  events = event.Now now ∷ event.Drop node ∷ [];
+  world = noted (disconnect_step node now w.core) [] [] (at_moment now w);
+  run = run_at w now (event.Drop node) (noted (disconnect_step node now w.core) [] [] (at_moment now w)) refl;
   matches = record {
-    same = same_by (λ f. f) a w (noted (disconnect_step now w.core) [] [] (at_moment now w)) (quiet (disconnect_step now w.core)) (quiet (disconnect_step now a.core)) t m
-        (facts_at now (disconnect_step now w.core) [] [] w)
-        (ap quiet (ap (disconnect_step now) (core_is a w m) ∙ disconnect_behind a.outside.fetched now a.core)) step;
+    same = same_by (λ f. f) a w (noted (disconnect_step node now w.core) [] [] (at_moment now w)) (quiet (disconnect_step node now w.core)) (quiet (disconnect_step node now a.core)) t m
+        (facts_at now (disconnect_step node now w.core) [] [] w)
+        (ap quiet (ap (disconnect_step node now) (core_is a w m) ∙ disconnect_behind a.outside.fetched node now a.core)) step;
     shut = m.shut;
     said = m.said;
     answered = m.answered;
     again = m.again;
-    in_flight = in_flight_still a w (disconnect_step now a.core) t m (shrinks_disconnected now a.core) step;
+    in_flight = in_flight_still a w (disconnect_step node now a.core) t m (shrinks_disconnected node now a.core) step;
+  };
+}
+
+pub lead_moved : (a : State) (w : World) (t : Core) (p leader now : ℕ) → Matches a w → Step a.core (call.Lead p leader now) t → Leads a w (call.Lead p leader now) t
+unfolding Steps client noted
+lead_moved a w t p leader now m step = record {
+  events = event.Now now ∷ event.Lead p leader ∷ [];
+  world = noted (lead_step p leader now w.core) [] [] (at_moment now w);
+  run = run_at w now (event.Lead p leader) (noted (lead_step p leader now w.core) [] [] (at_moment now w)) refl;
+  matches = record {
+    same = same_by (λ f. f) a w (noted (lead_step p leader now w.core) [] [] (at_moment now w)) (quiet (lead_step p leader now w.core)) (quiet (lead_step p leader now a.core)) t m
+        (facts_at now (lead_step p leader now w.core) [] [] w)
+        (ap quiet (ap (lead_step p leader now) (core_is a w m) ∙ lead_behind a.outside.fetched p leader now a.core)) step;
+    shut = m.shut;
+    said = m.said;
+    answered = m.answered;
+    again = m.again;
+    in_flight = in_flight_still a w (lead_step p leader now a.core) t m (shrinks_led p leader now a.core) step;
   };
 }
 
@@ -155,11 +174,11 @@ fetch_moved a w t sender (Some r) m step =
 
 -- ---- a request
 
-sent : (w : World) (now : ℕ) (x : Result (Option Packet) CoreFault) → (request_step now w.core).answer ≡ x → Run w (event.Now now ∷ event.Send ∷ []) (sending (at_moment now w) (request_step now w.core).after x)
+sent : (w : World) (node now : ℕ) (x : Result (Option Packet) CoreFault) → (request_step node now w.core).answer ≡ x → Run w (event.Now now ∷ event.Send node ∷ []) (sending (at_moment now w) (request_step node now w.core).after x)
 unfolding Steps client noted
-sent w now x e =
-    run_at w now event.Send (sending (at_moment now w) (request_step now w.core).after x)
-    (ap (λ (y : Result (Option Packet) CoreFault). Some (sending (at_moment now w) (request_step now w.core).after y)) e)
+sent w node now x e =
+    run_at w now (event.Send node) (sending (at_moment now w) (request_step node now w.core).after x)
+    (ap (λ (y : Result (Option Packet) CoreFault). Some (sending (at_moment now w) (request_step node now w.core).after y)) e)
 
 abbrev out_with : Packet → Facts → Facts
 out_with o f = record f { packets = f.packets ++ o ∷ []; handed = handed_with o.demand f.handed }
@@ -167,47 +186,47 @@ out_with o f = record f { packets = f.packets ++ o ∷ []; handed = handed_with 
 abbrev with_answer : State → Core → Result (Option Packet) CoreFault → State
 with_answer a t y = record { core = t; outside = record (with_packets (packet_in y) a.outside) { told = a.outside.told ++ [] } }
 
-out_moved : (a : State) (w : World) (t : Core) (now : ℕ) (o : Packet) → Matches a w → (request_step now a.core).answer ≡ Ok (Some o) → t ≡ (request_step now a.core).after → CanFollow w (with_answer a t (Ok (Some o)))
+out_moved : (a : State) (w : World) (t : Core) (node now : ℕ) (o : Packet) → Matches a w → (request_step node now a.core).answer ≡ Ok (Some o) → t ≡ (request_step node now a.core).after → CanFollow w (with_answer a t (Ok (Some o)))
 unfolding noted
-out_moved a w t now o m is leaves =
-    let behind : request_step now w.core ≡ after_fetched a.outside.fetched (request_step now a.core) = ap (request_step now) (core_is a w m) ∙ request_behind a.outside.fetched now a.core in
-    let out : AfterRequest now a.core (Ok (Some o)) (request_step now a.core).after = subst (λ (y : Result (Option Packet) CoreFault). AfterRequest now a.core y (request_step now a.core).after) is (after_request now a.core) in
+out_moved a w t node now o m is leaves =
+    let behind : request_step node now w.core ≡ after_fetched a.outside.fetched (request_step node now a.core) = ap (request_step node now) (core_is a w m) ∙ request_behind a.outside.fetched node now a.core in
+    let out : AfterRequest node now a.core (Ok (Some o)) (request_step node now a.core).after = subst (λ (y : Result (Option Packet) CoreFault). AfterRequest node now a.core y (request_step node now a.core).after) is (after_request node now a.core) in
     record {
-      events = event.Now now ∷ event.Send ∷ [];
-      world = sending (at_moment now w) (request_step now w.core).after (Ok (Some o));
-      run = sent w now (Ok (Some o)) (ap (λ (z : Requested). z.answer) behind ∙ is);
+      events = event.Now now ∷ event.Send node ∷ [];
+      world = sending (at_moment now w) (request_step node now w.core).after (Ok (Some o));
+      run = sent w node now (Ok (Some o)) (ap (λ (z : Requested). z.answer) behind ∙ is);
       matches = record {
-        same = same_by (out_with o) a w (sending (at_moment now w) (request_step now w.core).after (Ok (Some o))) (quiet (request_step now w.core).after) (quiet (request_step now a.core).after) t m
-            (facts_noted (request_step now w.core).after _ [] (with_packet o (at_moment now w)) ∙ ap (λ (f : Facts). stepped (request_step now w.core).after [] (out_with o f)) (facts_kept [] (record w { moment = now })))
+        same = same_by (out_with o) a w (sending (at_moment now w) (request_step node now w.core).after (Ok (Some o))) (quiet (request_step node now w.core).after) (quiet (request_step node now a.core).after) t m
+            (facts_noted (request_step node now w.core).after _ [] (with_packet o (at_moment now w)) ∙ ap (λ (f : Facts). stepped (request_step node now w.core).after [] (out_with o f)) (facts_kept [] (record w { moment = now })))
             (ap (λ (z : Requested). quiet z.after) behind) leaves;
         shut = m.shut;
         said = parts_still a.outside.packets (a.outside.packets ++ o ∷ []) w.replies w.replies a.outside.said (got_front a.outside.packets (o ∷ [])) (λ r i. i) m.said;
         answered = given_still a.outside.packets (a.outside.packets ++ o ∷ []) w.replies w.replies a.outside.answered (contained_front a.outside.packets (o ∷ [])) (λ r i. i) m.answered;
         again = m.again;
-        in_flight = subst (λ (s : Core). Remembers s (a.outside.packets ++ o ∷ [])) (sym (leaves ∙ out.1)) (remembers_one_more now a.core a.outside.packets o out.0 m.in_flight);
+        in_flight = subst (λ (s : Core). Remembers s (a.outside.packets ++ o ∷ [])) (sym (leaves ∙ out.1)) (remembers_one_more node now a.core a.outside.packets o out.0 m.in_flight);
       };
     }
 
 -- where nothing goes out, the core is as it was
-unsent : (now : ℕ) (s t : Core) (y : Result (Option Packet) CoreFault) (f : CoreFault) → AfterRequest now s y t → answered_as s y ≡ Err f → t ≡ s
-unsent now s t (Ok (Some o)) f h e = absurd cc
-unsent now s t (Ok None) f h e = h
-unsent now s t (Err g) f h e = h
+unsent : (node now : ℕ) (s t : Core) (y : Result (Option Packet) CoreFault) (f : CoreFault) → AfterRequest node now s y t → answered_as s y ≡ Err f → t ≡ s
+unsent node now s t (Ok (Some o)) f h e = absurd cc
+unsent node now s t (Ok None) f h e = h
+unsent node now s t (Err g) f h e = h
 
-refused : (a : State) (w : World) (t : Core) (now : ℕ) (f : CoreFault) → Matches a w → answered_as a.core (request_step now a.core).answer ≡ Err f → t ≡ (request_step now a.core).after → CanFollow w (untold a a.outside.fetched t)
-refused a w t now f m is leaves = stays_so a w t m (leaves ∙ unsent now a.core (request_step now a.core).after (request_step now a.core).answer f (after_request now a.core) is)
+refused : (a : State) (w : World) (t : Core) (node now : ℕ) (f : CoreFault) → Matches a w → answered_as a.core (request_step node now a.core).answer ≡ Err f → t ≡ (request_step node now a.core).after → CanFollow w (untold a a.outside.fetched t)
+refused a w t node now f m is leaves = stays_so a w t m (leaves ∙ unsent node now a.core (request_step node now a.core).after (request_step node now a.core).answer f (after_request node now a.core) is)
 
-pub request_moved : (a : State) (w : World) (t : Core) (now : ℕ) (answer : Result (Option Outgoing) CoreFault) → Matches a w → Step a.core (call.Request now answer) t → Leads a w (call.Request now answer) t
-request_moved a w t now (Ok out) m step = at_answer (request_step now a.core).answer refl step.0
+pub request_moved : (a : State) (w : World) (t : Core) (node now : ℕ) (answer : Result (Option Outgoing) CoreFault) → Matches a w → Step a.core (call.Request node now answer) t → Leads a w (call.Request node now answer) t
+request_moved a w t node now (Ok out) m step = at_answer (request_step node now a.core).answer refl step.0
   where
-    at_answer : (y : Result (Option Packet) CoreFault) → (request_step now a.core).answer ≡ y → answered_as a.core y ≡ Ok out → CanFollow w (with_answer a t y)
-    at_answer (Ok (Some o)) is e = out_moved a w t now o m is step.1
-    at_answer (Ok None) is e = stays_so a w t m (step.1 ∙ subst (λ (y : Result (Option Packet) CoreFault). AfterRequest now a.core y (request_step now a.core).after) is (after_request now a.core))
+    at_answer : (y : Result (Option Packet) CoreFault) → (request_step node now a.core).answer ≡ y → answered_as a.core y ≡ Ok out → CanFollow w (with_answer a t y)
+    at_answer (Ok (Some o)) is e = out_moved a w t node now o m is step.1
+    at_answer (Ok None) is e = stays_so a w t m (step.1 ∙ subst (λ (y : Result (Option Packet) CoreFault). AfterRequest node now a.core y (request_step node now a.core).after) is (after_request node now a.core))
     at_answer (Err f) is e = absurd cc
-request_moved a w t now (Err fault.OutOfMemory) m step = stays_so a w t m step.1
-request_moved a w t now (Err fault.Ended) m step = refused a w t now fault.Ended m step.0 step.1
-request_moved a w t now (Err fault.CorrelationSpent) m step = refused a w t now fault.CorrelationSpent m step.0 step.1
-request_moved a w t now (Err (fault.ReplyFault f)) m step = refused a w t now (fault.ReplyFault f) m step.0 step.1
+request_moved a w t node now (Err fault.OutOfMemory) m step = stays_so a w t m step.1
+request_moved a w t node now (Err fault.Ended) m step = refused a w t node now fault.Ended m step.0 step.1
+request_moved a w t node now (Err fault.CorrelationSpent) m step = refused a w t node now fault.CorrelationSpent m step.0 step.1
+request_moved a w t node now (Err (fault.ReplyFault f)) m step = refused a w t node now (fault.ReplyFault f) m step.0 step.1
 
 -- ---- an append
 

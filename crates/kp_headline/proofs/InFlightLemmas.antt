@@ -16,6 +16,7 @@ use Rattle.kp_rules.specs.Closing.{close_step, end_step}
 use Rattle.kp_rules.specs.Dropping.{drop_requests, disconnect_step}
 use Rattle.kp_rules.specs.Flush.{flush_step}
 use Rattle.kp_rules.specs.Next.{Sending}
+use Rattle.kp_rules.specs.Leading.{lead_step}
 use Rattle.kp_rules.specs.Records.{Demand, Produce, InitProducerId, Request, Core, Called}
 use Rattle.kp_rules.specs.Replies.{Replies, api_of, awaited, response_step, reply_step, IsReadAs}
 use Rattle.kp_rules.specs.Requesting.{Packet, Requested, request_of, sent_out, request_step}
@@ -50,15 +51,15 @@ shrinks_appended i s = at_append (λ (x : Appends). Shrinks s x.after) i s (reco
   room = λ m e f r. record { correlation = refl; requests = λ P h. h };
 })
 
-shrinks_dropped : (now : ℕ) (s : Core) → Shrinks s (drop_requests now s)
+shrinks_dropped : (node now : ℕ) (s : Core) → Shrinks s (drop_requests node now s)
 unfolding drop_requests
-shrinks_dropped now s = record { correlation = refl; requests = λ P h. tt }
+shrinks_dropped node now s = record { correlation = refl; requests = λ P h. all_filter P _ s.requests h }
 
-pub shrinks_ticked : (now : ℕ) (s : Core) → Shrinks s (tick_step now s).after
+pub shrinks_ticked : (node now : ℕ) (s : Core) → Shrinks s (tick_step node now s).after
 unfolding at_each with_partitions drop_requests
-shrinks_ticked now s = at_tick (λ (x : Ticks). Shrinks s x.after) now s (record {
+shrinks_ticked node now s = at_tick (λ (x : Ticks). Shrinks s x.after) node now s (record {
   ended = shrinks_not s;
-  timed_out = record { correlation = refl; requests = λ P h. tt };
+  timed_out = record { correlation = refl; requests = λ P h. all_filter P _ _ (all_filter P _ s.requests h) };
   on_time = record { correlation = refl; requests = λ P h. all_filter P _ s.requests h };
 })
 
@@ -81,8 +82,12 @@ pub shrinks_ended : (s : Core) → Shrinks s (end_step s).after
 unfolding at_each with_partitions
 shrinks_ended s = at_end_step (λ (x : Called ℕ). Shrinks s x.after) s (shrinks_not s) (record { correlation = refl; requests = λ P h. tt })
 
-pub shrinks_disconnected : (now : ℕ) (s : Core) → Shrinks s (disconnect_step now s)
-shrinks_disconnected now s = at_disconnect (Shrinks s) now s (shrinks_not s) (shrinks_dropped now s)
+pub shrinks_disconnected : (node now : ℕ) (s : Core) → Shrinks s (disconnect_step node now s)
+shrinks_disconnected node now s = at_disconnect (Shrinks s) node now s (shrinks_not s) (shrinks_dropped node now s)
+
+pub shrinks_led : (p leader now : ℕ) (s : Core) → Shrinks s (lead_step p leader now s)
+unfolding lead_step
+shrinks_led p leader now s = record { correlation = refl; requests = λ P h. all_filter P _ s.requests h }
 
 pub shrinks_closed : (s : Core) → Shrinks s (close_step s)
 shrinks_closed s = at_close (Shrinks s) s (shrinks_not s) (record { correlation = refl; requests = λ P h. h })
@@ -93,19 +98,19 @@ shrinks_flushed s = record { correlation = refl; requests = λ P h. h }
 
 -- ---- a request goes out
 
-abbrev pub AfterRequest : ℕ → Core → Result (Option Packet) CoreFault → Core → Type 0
-AfterRequest now s (Ok (Some x)) t = (x.correlation ≡ s.correlation) × (t ≡ sent_out now s x.demand)
-AfterRequest now s (Ok None) t = t ≡ s
-AfterRequest now s (Err f) t = t ≡ s
+abbrev pub AfterRequest : ℕ → ℕ → Core → Result (Option Packet) CoreFault → Core → Type 0
+AfterRequest node now s (Ok (Some x)) t = (x.correlation ≡ s.correlation) × (t ≡ sent_out node now s x.demand)
+AfterRequest node now s (Ok None) t = t ≡ s
+AfterRequest node now s (Err f) t = t ≡ s
 
-pub after_request : (now : ℕ) (s : Core) → AfterRequest now s (request_step now s).answer (request_step now s).after
-after_request now s = at_request (λ (x : Requested). AfterRequest now s x.answer x.after) now s (record { ended = refl; idle = refl; spent = refl; out = λ e d is going. (refl, refl) })
+pub after_request : (node now : ℕ) (s : Core) → AfterRequest node now s (request_step node now s).answer (request_step node now s).after
+after_request node now s = at_request (λ (x : Requested). AfterRequest node now s x.answer x.after) node now s (record { ended = refl; idle = refl; spent = refl; out = λ e d is going. (refl, refl) })
 
 cases : (packets : List Packet) (o x : Packet) → Contains (packets ++ o ∷ []) x → Contains packets x ⊎ (x ≡ o)
 cases packets o x i = ⊎_elim (λ (j : In x packets). inl (contains_from_In packets x j)) (λ (e : x ≡ o). inr e) (one_more packets o x (In-from_contains (packets ++ o ∷ []) x i))
 
-pub remembers_one_more : (now : ℕ) (s : Core) (packets : List Packet) (o : Packet) → o.correlation ≡ s.correlation → Remembers s packets → Remembers (sent_out now s o.demand) (packets ++ o ∷ [])
-remembers_one_more now s packets o named k = at_demand o.demand refl
+pub remembers_one_more : (node now : ℕ) (s : Core) (packets : List Packet) (o : Packet) → o.correlation ≡ s.correlation → Remembers s packets → Remembers (sent_out node now s o.demand) (packets ++ o ∷ [])
+remembers_one_more node now s packets o named k = at_demand o.demand refl
   where
     used : AllByRecursion (λ (x : Packet). x.correlation < s.correlation + 1) (packets ++ o ∷ [])
     used = all_append (λ (x : Packet). x.correlation < s.correlation + 1) packets (o ∷ [])
@@ -118,7 +123,7 @@ remembers_one_more now s packets o named k = at_demand o.demand refl
       same = λ x i e. ⊎_elim (λ (j : Contains packets x). h.same x j e) (λ (is : x ≡ o). let n : x.correlation ≡ o.correlation = ap (λ (y : Packet). y.correlation) is in let below = h.used in absurd (omega (arith, n, named, below, e))) (cases packets o x i);
     }
 
-    newest : IsOfPackets (s.correlation + 1) (packets ++ o ∷ []) (request_of now s (remembered o.demand))
+    newest : IsOfPackets (s.correlation + 1) (packets ++ o ∷ []) (request_of node now s (remembered o.demand))
     newest = record {
       used = omega arith;
       same = λ x i e. ⊎_elim
@@ -126,18 +131,18 @@ remembers_one_more now s packets o named k = at_demand o.demand refl
           (λ (is : x ≡ o). ap (λ (y : Packet). remembered y.demand) (sym is)) (cases packets o x i);
     }
 
-    requests : AllByRecursion (IsOfPackets (s.correlation + 1) (packets ++ o ∷ [])) (s.requests ++ request_of now s (remembered o.demand) ∷ [])
-    requests = all_append (IsOfPackets (s.correlation + 1) (packets ++ o ∷ [])) s.requests (request_of now s (remembered o.demand) ∷ [])
+    requests : AllByRecursion (IsOfPackets (s.correlation + 1) (packets ++ o ∷ [])) (s.requests ++ request_of node now s (remembered o.demand) ∷ [])
+    requests = all_append (IsOfPackets (s.correlation + 1) (packets ++ o ∷ [])) s.requests (request_of node now s (remembered o.demand) ∷ [])
         (all_weaker (IsOfPackets s.correlation packets) (IsOfPackets (s.correlation + 1) (packets ++ o ∷ [])) older s.requests k.requests) (newest, tt)
 
-    at_demand : (d : Demand Sending) → o.demand ≡ d → Remembers (sent_out now s d) (packets ++ o ∷ [])
+    at_demand : (d : Demand Sending) → o.demand ≡ d → Remembers (sent_out node now s d) (packets ++ o ∷ [])
     at_demand (Produce xs) is = record {
       used = used;
-      requests = subst (λ (d : Demand Sending). AllByRecursion (IsOfPackets (s.correlation + 1) (packets ++ o ∷ [])) (s.requests ++ request_of now s (remembered d) ∷ [])) is requests;
+      requests = subst (λ (d : Demand Sending). AllByRecursion (IsOfPackets (s.correlation + 1) (packets ++ o ∷ [])) (s.requests ++ request_of node now s (remembered d) ∷ [])) is requests;
     }
     at_demand (InitProducerId p) is = record {
       used = used;
-      requests = subst (λ (d : Demand Sending). AllByRecursion (IsOfPackets (s.correlation + 1) (packets ++ o ∷ [])) (s.requests ++ request_of now s (remembered d) ∷ [])) is requests;
+      requests = subst (λ (d : Demand Sending). AllByRecursion (IsOfPackets (s.correlation + 1) (packets ++ o ∷ [])) (s.requests ++ request_of node now s (remembered d) ∷ [])) is requests;
     }
 
 -- ---- which request a reply names

@@ -9,6 +9,7 @@ pub mod AnsweringLemmas
 pub mod HearingLemmas
 pub mod MoveLemmas
 pub mod SomeMoves
+pub mod LeaderMoves
 pub mod LawLemmas
 pub mod ReportLemmas
 pub mod LifeLemmas

@@ -27,7 +27,7 @@ use Rattle.kp_headline.specs.Matching.{IsOfPackets, Matches, CanFollow, IsMatche
 use Rattle.kp_headline.specs.Moves.{Move, Accepting, Calling, Meeting, Drawing, Others, IsAccepted, IsMove, AreMoves, after, led}
 use Rattle.kp_headline.specs.Outside.{State, new_state, known}
 use Rattle.kp_headline.proofs.AgainLemmas.{others_grow, grown_at, all_again_later}
-use Rattle.kp_headline.proofs.CallingLemmas.{tick_moved, disconnect_moved, close_moved, flush_moved, end_moved, fetch_moved, request_moved, append_moved}
+use Rattle.kp_headline.proofs.CallingLemmas.{tick_moved, disconnect_moved, lead_moved, close_moved, flush_moved, end_moved, fetch_moved, request_moved, append_moved}
 use Rattle.kp_headline.proofs.EventLemmas.{run_none, facts_kept}
 use Rattle.kp_headline.proofs.FetchingLemmas.{nothing_fetched}
 use Rattle.kp_headline.proofs.HearingLemmas.{reply_moved}
@@ -37,10 +37,11 @@ use Rattle.kp_headline.proofs.MeetingLemmas.{met, drawn}
 
 called : (a : State) (w : World) (c : Call) (t : Core) → Matches a w → Step a.core c t → IsNotMadeUp a (Calling c t) → IsInTurn a (Calling c t) → CanFollow w (after (Calling c t) a)
 called a w (call.Append i x) t m step fair fed = append_moved a w t i x m fed step
-called a w (call.Request now x) t m step fair fed = request_moved a w t now x m step
+called a w (call.Request node now x) t m step fair fed = request_moved a w t node now x m step
 called a w (call.Reply now content x) t m step fair fed = reply_moved a w t now content x m fair step
-called a w (call.Tick now x) t m step fair fed = tick_moved a w t now x m step
-called a w (call.Disconnect now) t m step fair fed = disconnect_moved a w t now m step
+called a w (call.Tick node now x) t m step fair fed = tick_moved a w t node now x m step
+called a w (call.Disconnect node now) t m step fair fed = disconnect_moved a w t node now m step
+called a w (call.Lead p leader now) t m step fair fed = lead_moved a w t p leader now m step
 called a w call.Close t m step fair fed = close_moved a w t m step
 called a w call.Flush t m step fair fed = flush_moved a w t m step
 called a w (call.End reports) t m step fair fed = end_moved a w t reports m step

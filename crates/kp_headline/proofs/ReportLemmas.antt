@@ -14,6 +14,7 @@ use Rattle.kp_rules.specs.Dropping.{drop_requests, disconnect_step}
 use Rattle.kp_rules.specs.Flush.{flush_step}
 use Rattle.kp_rules.specs.Next.{Sending}
 use Rattle.kp_rules.specs.Opening.{new_core}
+use Rattle.kp_rules.specs.Leading.{lead_step}
 use Rattle.kp_rules.specs.Records.{Demand, Produce, InitProducerId, Core, Told, Called}
 use Rattle.kp_rules.specs.Replies.{Replies, settle_id, response_step}
 use Rattle.kp_rules.specs.Reports.{reports_to, with_reports}
@@ -81,12 +82,12 @@ appends i s = at_append (λ (x : Appends). Adds s x.after x.told) i s (record {
   room = λ m e f r. sym (with_none s.reports);
 })
 
-sends_out : (now : ℕ) (s : Core) (d : Demand Sending) → (sent_out now s d).reports ≡ s.reports
-sends_out now s (Produce xs) = refl
-sends_out now s (InitProducerId p) = refl
+sends_out : (node now : ℕ) (s : Core) (d : Demand Sending) → (sent_out node now s d).reports ≡ s.reports
+sends_out node now s (Produce xs) = refl
+sends_out node now s (InitProducerId p) = refl
 
-requests : (now : ℕ) (s : Core) → (request_step now s).after.reports ≡ s.reports
-requests now s = at_request (λ (x : Requested). x.after.reports ≡ s.reports) now s (record { ended = refl; idle = refl; spent = refl; out = λ e d is going. sends_out now s d })
+requests : (node now : ℕ) (s : Core) → (request_step node now s).after.reports ≡ s.reports
+requests node now s = at_request (λ (x : Requested). x.after.reports ≡ s.reports) node now s (record { ended = refl; idle = refl; spent = refl; out = λ e d is going. sends_out node now s d })
 
 responds : (now : ℕ) (response : Response) (s : Core) → Adds s (response_step now response s).after (response_step now response s).told
 unfolding at_these with_partitions
@@ -96,17 +97,21 @@ responds now response s = at_response (λ (x : Replies). Adds s x.after x.told) 
   id = λ r p x is demand has fits. quiet s (settle_id now p x s) (at_id (λ (t : Core). t.reports ≡ s.reports) now p x s (record { wanted = λ given. refl; unwanted = refl; refused = refl }));
 })
 
-ticks : (now : ℕ) (s : Core) → Adds s (tick_step now s).after (tick_step now s).told
+ticks : (node now : ℕ) (s : Core) → Adds s (tick_step node now s).after (tick_step node now s).told
 unfolding at_each with_partitions drop_requests
-ticks now s = at_tick (λ (x : Ticks). Adds s x.after x.told) now s (record { ended = quiet s s refl; timed_out = refl; on_time = refl })
+ticks node now s = at_tick (λ (x : Ticks). Adds s x.after x.told) node now s (record { ended = quiet s s refl; timed_out = refl; on_time = refl })
 
 ends : (s : Core) → Adds s (end_step s).after (end_step s).told
 unfolding at_each with_partitions
 ends s = at_end_step (λ (x : Called ℕ). Adds s x.after x.told) s (quiet s s refl) refl
 
-disconnects : (now : ℕ) (s : Core) → Adds s (disconnect_step now s) []
+disconnects : (node now : ℕ) (s : Core) → Adds s (disconnect_step node now s) []
 unfolding drop_requests
-disconnects now s = quiet s (disconnect_step now s) (at_disconnect (λ (t : Core). t.reports ≡ s.reports) now s refl refl)
+disconnects node now s = quiet s (disconnect_step node now s) (at_disconnect (λ (t : Core). t.reports ≡ s.reports) node now s refl refl)
+
+leads_on : (p leader now : ℕ) (s : Core) → Adds s (lead_step p leader now s) []
+unfolding lead_step
+leads_on p leader now s = quiet s (lead_step p leader now s) refl
 
 closes : (s : Core) → Adds s (close_step s) []
 closes s = quiet s (close_step s) (at_close (λ (t : Core). t.reports ≡ s.reports) s refl refl)
@@ -140,12 +145,13 @@ of_event n w h = record {
       (stays_so n (with_taken s w) (append_step i w.core).after [] (append_step i w.core).told h (appends i w.core))
       (stays_so n w (append_step i w.core).after _ (append_step i w.core).told h (appends i w.core));
   now = λ moment. same_so n (record w { moment = moment }) [] h;
-  tick = stays_so n w (tick_step w.moment w.core).after _ (tick_step w.moment w.core).told h (ticks w.moment w.core);
-  send = at_sent (λ (v : World). Reports n (facts v)) w (request_step w.moment w.core).after (request_step w.moment w.core).answer
-      (λ line. stays_so n w (request_step w.moment w.core).after (line ∷ []) [] h (quiet w.core (request_step w.moment w.core).after (requests w.moment w.core)))
-      (λ o line. stays_so n (with_packet o w) (request_step w.moment w.core).after (line ∷ []) [] h (quiet w.core (request_step w.moment w.core).after (requests w.moment w.core)));
+  tick = λ node. stays_so n w (tick_step node w.moment w.core).after _ (tick_step node w.moment w.core).told h (ticks node w.moment w.core);
+  send = λ node. at_sent (λ (v : World). Reports n (facts v)) w (request_step node w.moment w.core).after (request_step node w.moment w.core).answer
+      (λ line. stays_so n w (request_step node w.moment w.core).after (line ∷ []) [] h (quiet w.core (request_step node w.moment w.core).after (requests node w.moment w.core)))
+      (λ o line. stays_so n (with_packet o w) (request_step node w.moment w.core).after (line ∷ []) [] h (quiet w.core (request_step node w.moment w.core).after (requests node w.moment w.core)));
   reply = λ j r is. stays_so n w (response_step w.moment r.response w.core).after _ (response_step w.moment r.response w.core).told h (responds w.moment r.response w.core);
-  lost = stays_so n w (disconnect_step w.moment w.core) [] [] h (disconnects w.moment w.core);
+  lost = λ node. stays_so n w (disconnect_step node w.moment w.core) [] [] h (disconnects node w.moment w.core);
+  led = λ p node. stays_so n w (lead_step p node w.moment w.core) [] [] h (leads_on p node w.moment w.core);
   close = stays_so n (record w { is_shut = true }) (close_step w.core) [] [] h (closes w.core);
   end = stays_so n w (end_step w.core).after [] (end_step w.core).told h (ends w.core);
   flush = stays_so n w (flush_step w.core) _ [] h (flushes w.core);

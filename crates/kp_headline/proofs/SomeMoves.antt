@@ -37,32 +37,32 @@ use Rattle.kp_headline.specs.Outside.{known}
 abbrev entry_at : ℕ → PartitionProduceResponse
 entry_at offset = record { partition = pos 0; error_code = pos 0; base_offset = pos offset; log_append_time_ms = negsuc 0 }
 
-abbrev produce_at : ℕ → ProduceResponse
+abbrev pub produce_at : ℕ → ProduceResponse
 produce_at offset = record { topics = (record { topic = names.topic; partitions = entry_at offset ∷ [] }) ∷ []; throttle_time_ms = pos 0 }
 
-abbrev response_to : ℕ → ℕ → Response
+abbrev pub response_to : ℕ → ℕ → Response
 response_to k offset = record { correlation = pos k; body = body.Produce (produce_at offset) }
 
-bytes_by : (bs : List ℕ) → list_all (λ b. nat_lt b 256) bs ≡ true → IsBytes bs
+pub bytes_by : (bs : List ℕ) → list_all (λ b. nat_lt b 256) bs ≡ true → IsBytes bs
 bytes_by [] e i = omega arith
 bytes_by (b ∷ bs) e zero = ltb-true b 256 (and_parts (nat_lt b 256) (list_all (λ b. nat_lt b 256) bs) e).0
 bytes_by (b ∷ bs) e (suc i) = bytes_by bs (and_parts (nat_lt b 256) (list_all (λ b. nat_lt b 256) bs) e).1 i
 
-spells : Spells api.Produce (reply_bytes 3 0) (response_to 3 0)
+pub spells : Spells api.Produce (reply_bytes 3 0) (response_to 3 0)
 unfolding evaluated response_at answer body_codec produce_response read_array by_length read_many topic_response is_utf8 chars encode partition_response
 spells = response_found api.Produce (reply_bytes 3 0) (response_to 3 0) (bytes_by (reply_bytes 3 0) refl) refl
 
 -- ---- each is a move
 
-accepts : IsMove begun (Accepting first)
+pub accepts : IsMove begun (Accepting first)
 unfolding evaluated
 accepts = record { going = refl; sender = omega arith; partition = omega arith; number = refl; fits_request = omega arith; fits_memory = omega arith }
 
-appends : IsMove accepted_state (append first accepted_state)
+pub appends : IsMove accepted_state (append first accepted_state)
 unfolding evaluated
 appends = (refl, refl)
 
-sends : IsMove appended_state (request 0 appended_state)
+pub sends : IsMove appended_state (request 0 appended_state)
 unfolding evaluated
 sends = (refl, refl)
 
@@ -74,7 +74,7 @@ sends_again : IsMove lost_state (request 105 lost_state)
 unfolding evaluated
 sends_again = (refl, refl)
 
-abbrev packet_of : ℕ → Packet
+abbrev pub packet_of : ℕ → Packet
 packet_of k = record { correlation = k; demand = Produce (sent_first ∷ []) }
 
 comes_second : IsMove again_state (meets 1)
@@ -106,7 +106,7 @@ stores : IsHonest again_state (meets 1)
 unfolding evaluated
 stores = record { change = inr (inl refl, refl); stands = λ e. record { before = []; after = []; split = refl; offset = refl; place = refl }; is_old = λ e. absurd (let apart : pos 0 ≡ pos 46 = e in cc) }
 
-repeats : BrokerStep log_of_first (sent_of sent_first.batch) at_zero log_of_first
+pub repeats : BrokerStep log_of_first (sent_of sent_first.batch) at_zero log_of_first
 unfolding evaluated
 repeats = record { change = inl refl; stands = λ e. record { before = []; after = []; split = refl; offset = refl; place = refl }; is_old = λ e. absurd (let apart : pos 0 ≡ pos 46 = e in cc) }
 
@@ -130,7 +130,7 @@ is_given = λ e. inl (record {
   spells = spells;
 })
 
-fed : IsInTurn accepted_state (append first accepted_state)
+pub fed : IsInTurn accepted_state (append first accepted_state)
 unfolding evaluated
 fed = record { sender = omega arith; oldest = refl }
 
@@ -143,7 +143,7 @@ is_assumed = record {
   ids_once = (tt, (tt, (tt, (tt, (tt, (tt, (tt, (tt, (tt, (tt, tt))))))))));
 }
 
-abbrev told_first : ℤ → List Told
+abbrev pub told_first : ℤ → List Told
 told_first offset = (record { item = first; outcome = Delivered offset }) ∷ []
 
 pub shown : Shows lost_and_repeated (told_first (pos 0)) (((record { sender = 0; partition = 0; number = 0; outcome = Delivered (pos 0) }) ∷ []) ∷ [])

@@ -1,5 +1,5 @@
 -- Moves that are exhibited: what is said of any moves is said of some.
-use Rattle.std.specs.Prelude.{◌≡◌, ℕ, pos, List, [], ◌∷◌}
+use Rattle.std.specs.Prelude.{◌≡◌, ℕ, pos, negsuc, List, [], ◌∷◌}
 use Rattle.kp_accum.specs.Config.{default_config}
 use Rattle.kp_accum.specs.declared.item.Item.{Item}
 use Rattle.kp_log.specs.BrokerStep.{Answered}
@@ -10,6 +10,7 @@ use Rattle.kp_rules.specs.Appending.{append_step}
 use Rattle.kp_rules.specs.Calls.{answered_as}
 use Rattle.kp_rules.specs.Calls as call
 use Rattle.kp_rules.specs.Dropping.{disconnect_step}
+use Rattle.kp_rules.specs.Leading.{lead_step}
 use Rattle.kp_rules.specs.Next.{Sending}
 use Rattle.kp_rules.specs.Records.{Told}
 use Rattle.kp_rules.specs.Replies.{reply_step}
@@ -24,18 +25,24 @@ use Rattle.kp_headline.specs.Assumptions.{IsHonest, IsNotMadeUp, IsInTurn, Keeps
 use Rattle.kp_headline.specs.Moves.{Move, Accepting, Calling, Meeting, Others, AreMoves, Throughout, after, led}
 use Rattle.kp_headline.specs.Outside.{State, new_state, known}
 
--- ---- calls, with the answers and the cores that their steps give
+-- ---- calls, with the answers and the cores that their steps give; what names no node is of node 0
 
 abbrev pub append : Item → State → Move
 append i a = Calling (call.Append i (append_step i a.core).answer) (append_step i a.core).after
 
+abbrev pub request_to : (node now : ℕ) → State → Move
+request_to node now a = Calling
+    (call.Request node now (answered_as a.core (request_step node now a.core).answer))
+    (request_step node now a.core).after
+
 abbrev pub request : ℕ → State → Move
-request now a = Calling
-    (call.Request now (answered_as a.core (request_step now a.core).answer))
-    (request_step now a.core).after
+request now a = request_to 0 now a
+
+abbrev pub lead : (partition leader now : ℕ) → State → Move
+lead p leader now a = Calling (call.Lead p leader now) (lead_step p leader now a.core)
 
 abbrev pub disconnect : ℕ → State → Move
-disconnect now a = Calling (call.Disconnect now) (disconnect_step now a.core)
+disconnect now a = Calling (call.Disconnect 0 now) (disconnect_step 0 now a.core)
 
 abbrev pub reply : ℕ → List ℕ → State → Move
 reply now content a =
@@ -117,6 +124,30 @@ lost_and_repeated =
     ∷ meets 1 ∷ meets 0 ∷ meets 0
     ∷ reply 110 (reply_bytes 3 0) twice_state ∷ fetch 0 heard_state ∷ []
 
+-- ---- it is stored, and before the reply comes node 1 leads the partition: it is sent there, comes to its log once more,
+-- and the reply to that is heard
+
+abbrev pub led_state : State
+led_state = after (meets 0) sent_state
+
+abbrev pub moved_state : State
+moved_state = after (lead 0 1 5 led_state) led_state
+
+abbrev pub sent_there_state : State
+sent_there_state = after (request_to 1 105 moved_state) moved_state
+
+abbrev pub repeated_state : State
+repeated_state = after (meets 1) sent_there_state
+
+abbrev pub told_there_state : State
+told_there_state = after (reply 110 (reply_bytes 3 0) repeated_state) repeated_state
+
+abbrev pub stored_and_moved : List Move
+stored_and_moved =
+    Accepting first ∷ append first accepted_state ∷ request 0 appended_state
+    ∷ meets 0 ∷ lead 0 1 5 led_state ∷ request_to 1 105 moved_state
+    ∷ meets 1 ∷ reply 110 (reply_bytes 3 0) repeated_state ∷ fetch 0 told_there_state ∷ []
+
 -- ---- a reply that nobody gave, under a correlation id that fits
 
 abbrev pub made_up : List Move
@@ -173,6 +204,18 @@ abbrev pub stored_by_word : List Move
 stored_by_word =
     Accepting first ∷ append first accepted_state ∷ request 0 appended_state
     ∷ lying ∷ reply 7 (reply_bytes 2 7) lied_state ∷ []
+
+-- It is stored, and its item told so; then a node is elected that never had it, and to which the packet comes late.
+abbrev pub heard_once_state : State
+heard_once_state = after (reply 7 (reply_bytes 2 0) led_state) led_state
+
+abbrev pub forgets : Move
+forgets = Meeting 0 sent_first (record { code = pos 6; base = negsuc 0 }) empty_history
+
+abbrev pub stored_and_forgotten : List Move
+stored_and_forgotten =
+    Accepting first ∷ append first accepted_state ∷ request 0 appended_state
+    ∷ meets 0 ∷ reply 7 (reply_bytes 2 0) led_state ∷ forgets ∷ []
 
 -- An item is appended that its sender had not accepted.
 abbrev pub unasked_state : State

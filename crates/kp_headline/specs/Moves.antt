@@ -47,7 +47,7 @@ with_taken s o = record o { taken = slice_set o.taken s (slice_index o.taken s +
 
 abbrev pub changed : Core → Call → Outside → Outside
 changed s (call.Append i (Ok done)) o = with_taken i.sender o
-changed s (call.Request now (Ok answer)) o = with_packets (packets_by s (call.Request now (Ok answer))) o
+changed s (call.Request node now (Ok answer)) o = with_packets (packets_by s (call.Request node now (Ok answer))) o
 changed s call.Close o = record o { is_shut = true }
 changed s (call.Fetch sender (Some report)) o = record o { fetched = with_report sender report o.fetched }
 changed s c o = o

@@ -10,6 +10,7 @@ mod due;
 mod expiring;
 mod fencing;
 mod handing;
+mod leading;
 mod marking;
 mod queueing;
 mod sending;
@@ -28,6 +29,8 @@ pub const OPEN_LIMIT: usize = 5;
 #[derive(Debug, Drop)]
 pub struct Partition {
     alloc: Global,
+    /// The node that its batches go to.
+    leader: u32,
     queue: Queue,
     /// There is room for `OPEN_LIMIT` from the beginning.
     open_batches: Vec<Open>,
@@ -51,6 +54,7 @@ impl Model for Partition {
     ghost Value = { seen.Partition };
 
     ghost view = { λ t. record {
+      leader = t.leader;
       queue = t.queue;
       open_batches = t.open_batches.items;
       ids = t.ids.items;
@@ -66,7 +70,7 @@ impl Model for Partition {
 }
 
 impl Partition {
-    /// A partition of which nothing was sent, with its first producer id, and whether it keeps an audit.
+    /// A partition of which nothing was sent, with its first producer id, and whether it keeps an audit. Node 0 leads it.
     pub fn new(alloc: Global, id: u64, audited: bool) -> Result<Partition, AllocError>
         ensures { IfOk result (λ t. t ≡ (if audited then new_partition id else unaudited (new_partition id))) }
     {
@@ -75,6 +79,7 @@ impl Partition {
         ids.push(id)?;
         Ok(Partition {
             alloc,
+            leader: 0,
             queue: Queue::new(alloc),
             open_batches,
             ids,

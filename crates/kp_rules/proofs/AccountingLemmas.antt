@@ -15,9 +15,9 @@ use Rattle.kp_rules.specs.declared.fault.CoreFault.TheVariants as fault
 use Rattle.kp_rules.specs.declared.outcome.Reason.TheVariants as reason
 use Rattle.kp_rules.specs.Appending.{turn_away, enqueue, with_queued, may_append, append_step}
 use Rattle.kp_rules.specs.Attempts.{partitions_of}
-use Rattle.kp_rules.specs.Calls.{Call, Append, Request, Reply, Tick, Disconnect, Close, Flush, End, Fetch, Step, told_by, appended_by}
+use Rattle.kp_rules.specs.Calls.{Call, Append, Request, Reply, Tick, Disconnect, Lead, Close, Flush, End, Fetch, Step, told_by, appended_by}
 use Rattle.kp_rules.specs.Closing.{close_step, end_step}
-use Rattle.kp_rules.specs.Dropping.{drop_attempts, drop_requests, disconnect_step}
+use Rattle.kp_rules.specs.Dropping.{drop_led, drop_requests, disconnect_step}
 use Rattle.kp_rules.specs.Fence.{give_up}
 use Rattle.kp_rules.specs.Flush.{mark, flush_step}
 use Rattle.kp_rules.specs.HandingOver.{send_in}
@@ -28,6 +28,7 @@ use Rattle.kp_rules.specs.Partitions.{new_partition, untold, partition_at, chang
 use Rattle.kp_rules.specs.Records.{Partition, Demand, Produce, InitProducerId, Core, Told, Effect, Called}
 use Rattle.kp_rules.specs.Replies.{settle_batches, go_on_under, settle_id, response_step, reply_step}
 use Rattle.kp_rules.specs.Reports.{fetch_step}
+use Rattle.kp_rules.specs.Leading.{led_by, lead_step}
 use Rattle.kp_rules.specs.Requesting.{Requested, partitions_in, sent_out, request_step}
 use Rattle.kp_rules.specs.Telling.{with_partitions, at_each, at_these}
 use Rattle.kp_rules.specs.Tick.{heed_deadlines, tick_step}
@@ -36,7 +37,7 @@ use Rattle.kp_rules.proofs.ListLemmas.{at_contained, at_put, flat_map_alike, fla
 use Rattle.kp_rules.proofs.OrderedCallLemmas.{is_there, places}
 use Rattle.kp_rules.proofs.OutcomeLemmas.{in_flight}
 use Rattle.kp_rules.proofs.PartitionLemmas.{at-changed_at, at_changed, changed_more, changed_none, length-changed_at}
-use Rattle.kp_rules.proofs.RuleLemmas.{items_told, Keeps, RuleKeeps, told-append, drop_keeps, mark_keeps, enqueue_keeps, send_keeps, give_up_keeps, heed_keeps, entries_keep}
+use Rattle.kp_rules.proofs.RuleLemmas.{items_told, Keeps, RuleKeeps, told-append, led_keeps, lead_keeps, mark_keeps, enqueue_keeps, send_keeps, give_up_keeps, heed_keeps, entries_keep}
 
 -- ---- partitions weighed
 
@@ -122,9 +123,9 @@ nothing_told f s = omega arith
 same_untold : (f : Item → ℕ) (s t : Core) → all_untold t ≡ all_untold s → Keeps f (all_untold s) [] (all_untold t)
 same_untold f s t e = let same = ap (sum_by f) e in omega (arith, same)
 
-pub sent_same : (now : ℕ) (s : Core) (d : Demand Sending) → all_untold (sent_out now s d) ≡ all_untold s
-sent_same now s (InitProducerId p) = refl
-sent_same now s (Produce xs) = flat_map_alike untold (changed_at (partitions_in xs) send s.partitions) s.partitions (new_partition 0)
+pub sent_same : (node now : ℕ) (s : Core) (d : Demand Sending) → all_untold (sent_out node now s d) ≡ all_untold s
+sent_same node now s (InitProducerId p) = refl
+sent_same node now s (Produce xs) = flat_map_alike untold (changed_at (partitions_in xs) send s.partitions) s.partitions (new_partition 0)
     (length-changed_at (partitions_in xs) send s.partitions)
     (λ p. at_changed (λ u. untold u ≡ untold (partition_at p s.partitions)) (partitions_in xs) send s.partitions p
     (λ l is. send_keeps s.correlation (partition_at p s.partitions)) (λ beside. refl))
@@ -132,26 +133,35 @@ sent_same now s (Produce xs) = flat_map_alike untold (changed_at (partitions_in 
     send : ℕ → Partition → Partition
     send p t = send_in s.correlation t
 
-request_same : (now : ℕ) (s : Core) → all_untold (request_step now s).after ≡ all_untold s
-request_same now s = at_request (λ (x : Requested). all_untold x.after ≡ all_untold s) now s (record {
+request_same : (node now : ℕ) (s : Core) → all_untold (request_step node now s).after ≡ all_untold s
+request_same node now s = at_request (λ (x : Requested). all_untold x.after ≡ all_untold s) node now s (record {
   ended = refl;
   idle = refl;
   spent = refl;
-  out = λ going d next unspent. sent_same now s d;
+  out = λ going d next unspent. sent_same node now s d;
 })
 
-pub dropped_same : (now : ℕ) (s : Core) → all_untold (drop_requests now s) ≡ all_untold s
+pub dropped_same : (node now : ℕ) (s : Core) → all_untold (drop_requests node now s) ≡ all_untold s
 unfolding drop_requests
-dropped_same now s = flat_map_mapped untold (drop_attempts now) untold (drop_keeps now) s.partitions
+dropped_same node now s = flat_map_mapped untold (drop_led node now) untold (led_keeps node now) s.partitions
 
-tick_keeps : (f : Item → ℕ) (now : ℕ) (s : Core) → CallKeeps f s (tick_step now s)
+pub led_same : (p leader now : ℕ) (s : Core) → all_untold (lead_step p leader now s) ≡ all_untold s
+unfolding lead_step
+led_same p leader now s = flat_map_alike untold (slice_set s.partitions p (led p)) s.partitions (new_partition 0) (length-set s.partitions p (led p))
+    (λ q. at_put (λ u. untold u ≡ untold (partition_at q s.partitions)) s.partitions p q (led p) (new_partition 0)
+    (λ e. subst (λ (n : ℕ). untold (led p) ≡ untold (partition_at n s.partitions)) (sym e) (lead_keeps leader now (partition_at p s.partitions))) refl)
+  where
+    led : ℕ → Partition
+    led q = led_by leader now (partition_at q s.partitions)
+
+tick_keeps : (f : Item → ℕ) (node now : ℕ) (s : Core) → CallKeeps f s (tick_step node now s)
 unfolding at_each with_partitions drop_requests
-tick_keeps f now s = at_tick (CallKeeps f s) now s (record {
+tick_keeps f node now s = at_tick (CallKeeps f s) node now s (record {
   ended = nothing_told f s;
   timed_out = omega (
     arith,
-    ap (sum_by f) (dropped_same now s),
-    keeps_each f (heed_deadlines s.config now) (heed_keeps f s.config now) (map (drop_attempts now) s.partitions),
+    ap (sum_by f) (dropped_same node now s),
+    keeps_each f (heed_deadlines s.config now) (heed_keeps f s.config now) (map (drop_led node now) s.partitions),
   );
   on_time = keeps_each f (heed_deadlines s.config now) (heed_keeps f s.config now) s.partitions;
 })
@@ -218,15 +228,16 @@ unfolding flush_step
 told_was_untold s t (Append i (Err append.OutOfMemory)) o step f = kept f s t s [] step.1 (nothing_told f s)
 told_was_untold s t (Append i answer) o step f =
     led_to f (appended_by (Append i answer)) s t (append_step i s).after (append_step i s).told step.1 (append_accounted f i s answer step.0)
-told_was_untold s t (Request now (Err fault.OutOfMemory)) o step f = kept f s t s [] step.1 (nothing_told f s)
-told_was_untold s t (Request now answer) o step f =
-    kept f s t (request_step now s).after [] step.1 (same_untold f s (request_step now s).after (request_same now s))
+told_was_untold s t (Request node now (Err fault.OutOfMemory)) o step f = kept f s t s [] step.1 (nothing_told f s)
+told_was_untold s t (Request node now answer) o step f =
+    kept f s t (request_step node now s).after [] step.1 (same_untold f s (request_step node now s).after (request_same node now s))
 told_was_untold s t (Reply now content (Err fault.OutOfMemory)) o step f = kept f s t s [] step.1 (nothing_told f s)
 told_was_untold s t (Reply now content answer) o step f =
     kept f s t (reply_step now content s).after (reply_step now content s).told step.1 (reply_keeps f now content s o)
-told_was_untold s t (Tick now answer) o step f = kept f s t (tick_step now s).after (tick_step now s).told step.1 (tick_keeps f now s)
-told_was_untold s t (Disconnect now) o step f = kept f s t (disconnect_step now s) [] step (same_untold f s (disconnect_step now s)
-    (at_disconnect (λ (u : Core). all_untold u ≡ all_untold s) now s refl (dropped_same now s)))
+told_was_untold s t (Tick node now answer) o step f = kept f s t (tick_step node now s).after (tick_step node now s).told step.1 (tick_keeps f node now s)
+told_was_untold s t (Disconnect node now) o step f = kept f s t (disconnect_step node now s) [] step (same_untold f s (disconnect_step node now s)
+    (at_disconnect (λ (u : Core). all_untold u ≡ all_untold s) node now s refl (dropped_same node now s)))
+told_was_untold s t (Lead p leader now) o step f = kept f s t (lead_step p leader now s) [] step (same_untold f s (lead_step p leader now s) (led_same p leader now s))
 told_was_untold s t Close o step f = kept f s t (close_step s) [] step (same_untold f s (close_step s)
     (at_close (λ (u : Core). all_untold u ≡ all_untold s) s refl refl))
 told_was_untold s t Flush o step f = kept f s t (flush_step s) [] step (same_untold f s (flush_step s) (flat_map_mapped untold mark untold mark_keeps s.partitions))

@@ -27,15 +27,16 @@ use Rattle.kp_rules.specs.Appending.{enqueue, turn_away, with_queued, may_append
 use Rattle.kp_rules.specs.Attempts.{awaiting, has_window, is_id_asked, is_live, lowest_waiting}
 use Rattle.kp_rules.specs.Auditing.{unaudited, without_audits, effect_unaudited, called_unaudited}
 use Rattle.kp_rules.specs.Closing.{close_step, end_all, end_step}
-use Rattle.kp_rules.specs.Dropping.{drop_attempts, drop_requests, disconnect_step}
+use Rattle.kp_rules.specs.Dropping.{drop_attempts, drop_led, drop_requests, disconnect_step}
 use Rattle.kp_rules.specs.Fence.{give_up, fence}
 use Rattle.kp_rules.specs.Flush.{has_marks, is_flushed, mark, flush_step}
 use Rattle.kp_rules.specs.HandingOver.{hand_over_in, sent_again, send_in}
+use Rattle.kp_rules.specs.Leading.{moved_to, led_by, with_live, lead_step}
 use Rattle.kp_rules.specs.MaySend.{is_confirmed, is_within_limit, sends, wants_id}
 use Rattle.kp_rules.specs.Mismatch.{answers_batches, entries_for, entries_of, has_offsets, is_given, is_one_topic, answers_id}
 use Rattle.kp_accum.specs.Ready.{is_over}
-use Rattle.kp_rules.specs.Next.{Sending, demand_with, fitting, in_turn, next_asking, next_batches, next_demand, sending_by, used_up_to}
-use Rattle.kp_rules.specs.Partitions.{is_in, partition_at, with_partition, changed_at, untold, all_untold, used}
+use Rattle.kp_rules.specs.Next.{Sending, demand_with, fitting, in_turn, next_asking, next_batches, next_demand, sends_to, sending_by, used_up_to}
+use Rattle.kp_rules.specs.Partitions.{is_in, leads, partition_at, with_partition, changed_at, untold, all_untold, used}
 use Rattle.kp_rules.specs.Records.{Open, Partition, Demand, Produce, InitProducerId, Request, Core, Told, Effect, Called, quietly}
 use Rattle.kp_rules.specs.Replies.{awaited, settle_batches, go_on_under, give_id, settle_id, refuse_as, known, settle, response_step, api_of, reply_step}
 use Rattle.kp_rules.specs.Reports.{fetch_step}
@@ -247,80 +248,83 @@ same_wish : (c : Config) (t : Partition) → wants_id c (unaudited t) ≡ wants_
 unfolding wants_id is_within_limit
 same_wish c t = refl
 
-found_mapped : (c : Config) (xs : List (ℕ × Partition))
-    → option_map (λ x. x.0) (find (λ x. wants_id c x.1) (map unaudited_at xs)) ≡ option_map (λ x. x.0) (find (λ x. wants_id c x.1) xs)
+abbrev asks : ℕ → Config → ℕ × Partition → Bool
+asks node c x = leads node x.1 && wants_id c x.1
+
+found_mapped : (node : ℕ) (c : Config) (xs : List (ℕ × Partition))
+    → option_map (λ x. x.0) (find (asks node c) (map unaudited_at xs)) ≡ option_map (λ x. x.0) (find (asks node c) xs)
 unfolding wants_id is_within_limit
-found_mapped c [] = refl
-found_mapped c (x ∷ xs) = by_wish (wants_id c x.1) (found_mapped c xs)
+found_mapped node c [] = refl
+found_mapped node c (x ∷ xs) = by_wish (asks node c x) (found_mapped node c xs)
   where
     by_wish : (b : Bool)
-        → option_map (λ x. x.0) (find (λ x. wants_id c x.1) (map unaudited_at xs)) ≡ option_map (λ x. x.0) (find (λ x. wants_id c x.1) xs)
-        → option_map (λ x. x.0) (if b then Some (unaudited_at x) else find (λ x. wants_id c x.1) (map unaudited_at xs))
-        ≡ option_map (λ x. x.0) (if b then Some x else find (λ x. wants_id c x.1) xs)
+        → option_map (λ x. x.0) (find (asks node c) (map unaudited_at xs)) ≡ option_map (λ x. x.0) (find (asks node c) xs)
+        → option_map (λ x. x.0) (if b then Some (unaudited_at x) else find (asks node c) (map unaudited_at xs))
+        ≡ option_map (λ x. x.0) (if b then Some x else find (asks node c) xs)
     by_wish true rest = refl
     by_wish false rest = rest
 
-same_asking : (now : ℕ) (s : Core) → next_asking now (without_audits s) ≡ next_asking now s
+same_asking : (node now : ℕ) (s : Core) → next_asking node now (without_audits s) ≡ next_asking node now s
 unfolding without_audits
-same_asking now s =
+same_asking node now s =
     ap (λ (found : Option ℕ). if not (is_id_asked s) && elim s.id_waits [ None ↦ true | Some since ↦ is_over since s.config.retry_backoff_ms now ] then found else None)
-    (ap (λ (xs : List (ℕ × Partition)). option_map (λ x. x.0) (find (λ x. wants_id s.config x.1) xs)) (enumerated 0 s.partitions)
-    ∙ found_mapped s.config (enumerate_from 0 s.partitions))
+    (ap (λ (xs : List (ℕ × Partition)). option_map (λ x. x.0) (find (asks node s.config) xs)) (enumerated 0 s.partitions)
+    ∙ found_mapped node s.config (enumerate_from 0 s.partitions))
 
-same_turn : (s : Core) → in_turn (without_audits s) ≡ map unaudited_at (in_turn s)
+same_turn : (node : ℕ) (s : Core) → in_turn node (without_audits s) ≡ map unaudited_at (in_turn node s)
 unfolding without_audits
-same_turn s =
-    let n = used_up_to s.last_used in
+same_turn node s =
+    let n = used_up_to node s.turns in
     let all = enumerate_from 0 s.partitions in
     ap (λ (xs : List (ℕ × Partition)). drop n xs ++ take n xs) (enumerated 0 s.partitions)
     ∙ ap (λ (xs : List (ℕ × Partition)). xs ++ take n (map unaudited_at all)) (drop-map unaudited_at n all)
     ∙ ap (λ (xs : List (ℕ × Partition)). map unaudited_at (drop n all) ++ xs) (take-map unaudited_at n all)
     ∙ sym (map-append unaudited_at (drop n all) (take n all))
 
-same_batches : (now : ℕ) (s : Core) → next_batches now (without_audits s) ≡ next_batches now s
+same_batches : (node now : ℕ) (s : Core) → next_batches node now (without_audits s) ≡ next_batches node now s
 unfolding next_batches without_audits sends is_confirmed is_within_limit
-same_batches now s =
-    ap (λ (xs : List (ℕ × Partition)). fitting s.config.max_request_size (filter_map (sending_by sends (without_audits s) now) xs)) (same_turn s)
-    ∙ ap (λ (xs : List Sending). fitting s.config.max_request_size xs) (filter_mapped (sending_by sends (without_audits s) now) (λ x. refl) (in_turn s))
-    ∙ ap (λ (flushed : Bool). fitting s.config.max_request_size (filter_map (sending_under flushed) (in_turn s))) (same_flushed s)
+same_batches node now s =
+    ap (λ (xs : List (ℕ × Partition)). fitting s.config.max_request_size (filter_map (sending_by sends node (without_audits s) now) xs)) (same_turn node s)
+    ∙ ap (λ (xs : List Sending). fitting s.config.max_request_size xs) (filter_mapped (sending_by sends node (without_audits s) now) (λ x. refl) (in_turn node s))
+    ∙ ap (λ (flushed : Bool). fitting s.config.max_request_size (filter_map (sending_under flushed) (in_turn node s))) (same_flushed s)
   where
     sending_under : Bool → ℕ × Partition → Option Sending
     sending_under flushed x =
         option_map (λ b. let y : Sending = record { partition = x.0; batch = b } in y)
-        (sends s.config (record { exhausted = s.exhausted; closing = s.closing; flushing = not flushed }) now x.1)
+        (sends_to node sends s.config (record { exhausted = s.exhausted; closing = s.closing; flushing = not flushed }) now x.1)
 
-same_demand : (now : ℕ) (s : Core) → next_demand now (without_audits s) ≡ next_demand now s
+same_demand : (node now : ℕ) (s : Core) → next_demand node now (without_audits s) ≡ next_demand node now s
 unfolding next_demand has_window without_audits
-same_demand now s =
-    ap (λ (batches : List Sending). demand_with batches now (without_audits s)) (same_batches now s)
-    ∙ ap (λ (asking : Option ℕ). by_window (has_window s) asking) (same_asking now s)
+same_demand node now s =
+    ap (λ (batches : List Sending). demand_with batches node now (without_audits s)) (same_batches node now s)
+    ∙ ap (λ (asking : Option ℕ). by_window (has_window node s) asking) (same_asking node now s)
   where
     by_window : Bool → Option ℕ → Option (Demand Sending)
     by_window window asking =
         if not window then None
-        else elim asking [ Some p ↦ Some (InitProducerId p) | None ↦ elim (next_batches now s) [ [] ↦ None | x ∷ xs ↦ Some (Produce (x ∷ xs)) ] ]
+        else elim asking [ Some p ↦ Some (InitProducerId p) | None ↦ elim (next_batches node now s) [ [] ↦ None | x ∷ xs ↦ Some (Produce (x ∷ xs)) ] ]
 
 -- ---- a request
 
-same_out : (now : ℕ) (s : Core) (d : Demand Sending) → go_out now (without_audits s) d ≡ called_unaudited (go_out now s d)
+same_out : (node now : ℕ) (s : Core) (d : Demand Sending) → go_out node now (without_audits s) d ≡ called_unaudited (go_out node now s d)
 unfolding without_audits
-same_out now s (Produce xs) =
-    ap (λ (ts : List Partition). let x : Requested = record (go_out now s (Produce xs)) { after = record (go_out now s (Produce xs)).after { partitions = ts } } in x)
+same_out node now s (Produce xs) =
+    ap (λ (ts : List Partition). let x : Requested = record (go_out node now s (Produce xs)) { after = record (go_out node now s (Produce xs)).after { partitions = ts } } in x)
     (some_changed (partitions_in xs) (λ p t. send_in s.correlation t) (λ p t. same_send s.correlation t) s.partitions)
-same_out now s (InitProducerId p) = refl
+same_out node now s (InitProducerId p) = refl
 
-request_by_cases : (now : ℕ) (s : Core) (ended : Bool) (wanted : Option (Demand Sending)) (spent : Bool)
-    → request_by now (without_audits s) ended wanted spent ≡ called_unaudited (request_by now s ended wanted spent)
-request_by_cases now s true wanted spent = refl
-request_by_cases now s false None spent = refl
-request_by_cases now s false (Some d) true = refl
-request_by_cases now s false (Some d) false = same_out now s d
+request_by_cases : (node now : ℕ) (s : Core) (ended : Bool) (wanted : Option (Demand Sending)) (spent : Bool)
+    → request_by node now (without_audits s) ended wanted spent ≡ called_unaudited (request_by node now s ended wanted spent)
+request_by_cases node now s true wanted spent = refl
+request_by_cases node now s false None spent = refl
+request_by_cases node now s false (Some d) true = refl
+request_by_cases node now s false (Some d) false = same_out node now s d
 
-pub request_blind : (now : ℕ) (s : Core) → request_step now (without_audits s) ≡ called_unaudited (request_step now s)
+pub request_blind : (node now : ℕ) (s : Core) → request_step node now (without_audits s) ≡ called_unaudited (request_step node now s)
 unfolding request_step without_audits
-request_blind now s =
-    ap (λ (wanted : Option (Demand Sending)). request_by now (without_audits s) s.ended wanted (is_spent s)) (same_demand now s)
-    ∙ request_by_cases now s s.ended (next_demand now s) (is_spent s)
+request_blind node now s =
+    ap (λ (wanted : Option (Demand Sending)). request_by node now (without_audits s) s.ended wanted (is_spent s)) (same_demand node now s)
+    ∙ request_by_cases node now s s.ended (next_demand node now s) (is_spent s)
 
 -- ---- a response
 
@@ -427,10 +431,17 @@ reply_blind now content s = by_end s.ended
 
 -- ---- a tick
 
-same_dropped : (now : ℕ) (s : Core) → drop_requests now (without_audits s) ≡ without_audits (drop_requests now s)
+same_dropped : (node now : ℕ) (s : Core) → drop_requests node now (without_audits s) ≡ without_audits (drop_requests node now s)
 unfolding drop_requests without_audits
-same_dropped now s =
-    ap (λ (ts : List Partition). let u : Core = record (drop_requests now s) { partitions = ts } in u) (each_changed (drop_attempts now) (λ t. refl) s.partitions)
+same_dropped node now s =
+    ap (λ (ts : List Partition). let u : Core = record (drop_requests node now s) { partitions = ts } in u) (each_changed (drop_led node now) same_led s.partitions)
+  where
+    by_leader : (t : Partition) (b : Bool) → (if b then drop_attempts now (unaudited t) else unaudited t) ≡ unaudited (if b then drop_attempts now t else t)
+    by_leader t true = refl
+    by_leader t false = refl
+
+    same_led : (t : Partition) → drop_led node now (unaudited t) ≡ unaudited (drop_led node now t)
+    same_led t = by_leader t (leads node t)
 
 same_ticks : (now : ℕ) (reconnect : Bool) (s : Core)
     → tick_partitions heed_deadlines now reconnect (without_audits s) ≡ called_unaudited (tick_partitions heed_deadlines now reconnect s)
@@ -439,16 +450,16 @@ same_ticks now reconnect s =
     ap (λ (made : Called ℕ). let x : Ticks = record { after = made.after; told = made.told; answer = record { reports = made.answer; reconnect = reconnect } } in x)
     (same_each (heed_deadlines s.config now) (same_heed s.config now) s)
 
-same_tick_cases : (now : ℕ) (s : Core) (ended over : Bool)
-    → tick_by_cases now (without_audits s) ended over ≡ called_unaudited (tick_by_cases now s ended over)
-same_tick_cases now s true over = refl
-same_tick_cases now s false true =
-    ap (tick_partitions heed_deadlines now true) (same_dropped now s) ∙ same_ticks now true (drop_requests now s)
-same_tick_cases now s false false = same_ticks now false s
+same_tick_cases : (node now : ℕ) (s : Core) (ended over : Bool)
+    → tick_by_cases node now (without_audits s) ended over ≡ called_unaudited (tick_by_cases node now s ended over)
+same_tick_cases node now s true over = refl
+same_tick_cases node now s false true =
+    ap (tick_partitions heed_deadlines now true) (same_dropped node now s) ∙ same_ticks now true (drop_requests node now s)
+same_tick_cases node now s false false = same_ticks now false s
 
-pub tick_blind : (now : ℕ) (s : Core) → tick_step now (without_audits s) ≡ called_unaudited (tick_step now s)
+pub tick_blind : (node now : ℕ) (s : Core) → tick_step node now (without_audits s) ≡ called_unaudited (tick_step node now s)
 unfolding tick_step has_timed_out without_audits
-tick_blind now s = same_tick_cases now s s.ended (has_timed_out now s)
+tick_blind node now s = same_tick_cases node now s s.ended (has_timed_out node now s)
 
 -- ---- the other calls
 
@@ -462,14 +473,30 @@ end_blind s = by_end s.ended
     by_end false = ap (λ (made : Called ℕ). let x : Called ℕ = record made { after = record made.after { requests = []; ended = true } } in x)
         (same_each (give_up reason.Ended) (same_give_up reason.Ended) s)
 
-pub disconnect_blind : (now : ℕ) (s : Core) → disconnect_step now (without_audits s) ≡ without_audits (disconnect_step now s)
+pub disconnect_blind : (node now : ℕ) (s : Core) → disconnect_step node now (without_audits s) ≡ without_audits (disconnect_step node now s)
 unfolding disconnect_step without_audits
-disconnect_blind now s = by_end s.ended
+disconnect_blind node now s = by_end s.ended
   where
     by_end : (b : Bool)
-        → (if b then without_audits s else drop_requests now (without_audits s)) ≡ without_audits (if b then s else drop_requests now s)
+        → (if b then without_audits s else drop_requests node now (without_audits s)) ≡ without_audits (if b then s else drop_requests node now s)
     by_end true = refl
-    by_end false = same_dropped now s
+    by_end false = same_dropped node now s
+
+pub lead_blind : (p leader now : ℕ) (s : Core) → lead_step p leader now (without_audits s) ≡ without_audits (lead_step p leader now s)
+unfolding lead_step without_audits
+lead_blind p leader now s =
+    ap (λ (us : List Partition). let u : Core = with_live (record s { partitions = us }) in u) (put_at (led_by leader now) same_lead p s.partitions)
+    ∙ ap (λ (live : Request → Bool). let u : Core = record s { partitions = all_unaudited ts; requests = filter live s.requests } in u) (fun_ext (same_live ts))
+  where
+    ts : List Partition
+    ts = slice_set s.partitions p (led_by leader now (partition_at p s.partitions))
+
+    by_leader : (t : Partition) (b : Bool) → (if b then unaudited t else moved_to leader now (unaudited t)) ≡ unaudited (if b then t else moved_to leader now t)
+    by_leader t true = refl
+    by_leader t false = refl
+
+    same_lead : (t : Partition) → led_by leader now (unaudited t) ≡ unaudited (led_by leader now t)
+    same_lead t = by_leader t (leads leader t)
 
 pub close_blind : (s : Core) → close_step (without_audits s) ≡ without_audits (close_step s)
 unfolding close_step without_audits

@@ -22,12 +22,13 @@ use Rattle.kp_rules.specs.declared.fault.CoreFault.TheVariants as fault
 use Rattle.kp_rules.specs.declared.outcome.Reason.TheVariants as reason
 use Rattle.kp_rules.specs.declared.ticked.Replied.{Replied}
 use Rattle.kp_rules.specs.Records.{Open, Partition, Demand, Produce, InitProducerId, Request, Core, Effect, Called, quietly}
-use Rattle.kp_rules.specs.Partitions.{partition_at, with_partition}
+use Rattle.kp_rules.specs.Partitions.{partition_at, with_partition, leads}
 use Rattle.kp_rules.specs.Appending.{Appends, turn_away, with_queued, may_append, would_exhaust, append_step}
 use Rattle.kp_rules.specs.Closing.{close_step, end_all, end_step}
-use Rattle.kp_rules.specs.Dropping.{drop_requests, disconnect_step}
+use Rattle.kp_rules.specs.Dropping.{drop_attempts, drop_led, drop_requests, disconnect_step}
 use Rattle.kp_rules.specs.Attempts.{asks_for_id, awaiting}
 use Rattle.kp_rules.specs.Fence.{fence}
+use Rattle.kp_rules.specs.Leading.{moved_to, led_by}
 use Rattle.kp_rules.specs.MaySend.{wants_id}
 use Rattle.kp_rules.specs.Settling.{meaning_of, settle_by, left_alone, settle_batch}
 use Rattle.kp_rules.specs.Mismatch.{answers_batches, is_given, answers_id}
@@ -76,33 +77,33 @@ at_append P i s c = at_may (may_append i s) refl
 
 -- ---- a request
 
-pub record OfRequest {ℓ} (P : Requested → Type ℓ) (now : ℕ) (s : Core) : Type ℓ where
+pub record OfRequest {ℓ} (P : Requested → Type ℓ) (node now : ℕ) (s : Core) : Type ℓ where
   pub ended : P (quietly s (Err fault.Ended))
   pub idle : P (quietly s (Ok None))
   pub spent : P (quietly s (Err fault.CorrelationSpent))
-  pub out : s.ended ≡ false → (d : Demand Sending) → next_demand now s ≡ Some d → is_spent s ≡ false → P (go_out now s d)
+  pub out : s.ended ≡ false → (d : Demand Sending) → next_demand node now s ≡ Some d → is_spent s ≡ false → P (go_out node now s d)
 
-abbrev by_spent : ℕ → Core → Demand Sending → Bool → Requested
-by_spent now s d b = if b then quietly s (Err fault.CorrelationSpent) else go_out now s d
+abbrev by_spent : ℕ → ℕ → Core → Demand Sending → Bool → Requested
+by_spent node now s d b = if b then quietly s (Err fault.CorrelationSpent) else go_out node now s d
 
-abbrev by_demand : ℕ → Core → Option (Demand Sending) → Requested
-by_demand now s o = elim o [ None ↦ quietly s (Ok None) | Some d ↦ by_spent now s d (is_spent s) ]
+abbrev by_demand : ℕ → ℕ → Core → Option (Demand Sending) → Requested
+by_demand node now s o = elim o [ None ↦ quietly s (Ok None) | Some d ↦ by_spent node now s d (is_spent s) ]
 
-pub at_request {ℓ} : (P : Requested → Type ℓ) (now : ℕ) (s : Core) → OfRequest P now s → P (request_step now s)
+pub at_request {ℓ} : (P : Requested → Type ℓ) (node now : ℕ) (s : Core) → OfRequest P node now s → P (request_step node now s)
 unfolding request_step
-at_request P now s c = at_end s.ended refl
+at_request P node now s c = at_end s.ended refl
   where
-    at_spent : s.ended ≡ false → (d : Demand Sending) → next_demand now s ≡ Some d → (b : Bool) → is_spent s ≡ b → P (by_spent now s d b)
+    at_spent : s.ended ≡ false → (d : Demand Sending) → next_demand node now s ≡ Some d → (b : Bool) → is_spent s ≡ b → P (by_spent node now s d b)
     at_spent e d is true at = c.spent
     at_spent e d is false at = c.out e d is at
 
-    at_demand : s.ended ≡ false → (o : Option (Demand Sending)) → next_demand now s ≡ o → P (by_demand now s o)
+    at_demand : s.ended ≡ false → (o : Option (Demand Sending)) → next_demand node now s ≡ o → P (by_demand node now s o)
     at_demand e None is = c.idle
     at_demand e (Some d) is = at_spent e d is (is_spent s) refl
 
-    at_end : (b : Bool) → s.ended ≡ b → P (if b then quietly s (Err fault.Ended) else by_demand now s (next_demand now s))
+    at_end : (b : Bool) → s.ended ≡ b → P (if b then quietly s (Err fault.Ended) else by_demand node now s (next_demand node now s))
     at_end true is = c.ended
-    at_end false is = at_demand is (next_demand now s) refl
+    at_end false is = at_demand is (next_demand node now s) refl
 
 -- ---- a response's entries for a partition
 
@@ -243,25 +244,25 @@ at_reply P now content s same reads = at_end s.ended
 
 -- ---- a tick
 
-pub record OfTick {ℓ} (P : Ticks → Type ℓ) (now : ℕ) (s : Core) : Type ℓ where
+pub record OfTick {ℓ} (P : Ticks → Type ℓ) (node now : ℕ) (s : Core) : Type ℓ where
   pub ended : P (quietly s (record { reports = 0; reconnect = false }))
-  pub timed_out : P (tick_partitions heed_deadlines now true (drop_requests now s))
+  pub timed_out : P (tick_partitions heed_deadlines now true (drop_requests node now s))
   pub on_time : P (tick_partitions heed_deadlines now false s)
 
-abbrev by_time : ℕ → Core → Bool → Ticks
-by_time now s b = if b then tick_partitions heed_deadlines now true (drop_requests now s) else tick_partitions heed_deadlines now false s
+abbrev by_time : ℕ → ℕ → Core → Bool → Ticks
+by_time node now s b = if b then tick_partitions heed_deadlines now true (drop_requests node now s) else tick_partitions heed_deadlines now false s
 
-pub at_tick {ℓ} : (P : Ticks → Type ℓ) (now : ℕ) (s : Core) → OfTick P now s → P (tick_step now s)
+pub at_tick {ℓ} : (P : Ticks → Type ℓ) (node now : ℕ) (s : Core) → OfTick P node now s → P (tick_step node now s)
 unfolding tick_step
-at_tick P now s c = at_end s.ended
+at_tick P node now s c = at_end s.ended
   where
-    at_time : (b : Bool) → P (by_time now s b)
+    at_time : (b : Bool) → P (by_time node now s b)
     at_time true = c.timed_out
     at_time false = c.on_time
 
-    at_end : (b : Bool) → P (if b then quietly s (record { reports = 0; reconnect = false }) else by_time now s (has_timed_out now s))
+    at_end : (b : Bool) → P (if b then quietly s (record { reports = 0; reconnect = false }) else by_time node now s (has_timed_out node now s))
     at_end true = c.ended
-    at_end false = at_time (has_timed_out now s)
+    at_end false = at_time (has_timed_out node now s)
 
 -- a partition's deadlines
 pub at_heed {ℓ} : (P : Effect → Type ℓ) (c : Config) (now : ℕ) (t : Partition) → (list_any (is_open_late c now) t.open_batches ≡ true → P (fence t))
@@ -283,13 +284,29 @@ at_end_step P s same ends = at_end s.ended
     at_end true = same
     at_end false = ends
 
-pub at_disconnect {ℓ} : (P : Core → Type ℓ) (now : ℕ) (s : Core) → P s → P (drop_requests now s) → P (disconnect_step now s)
+pub at_disconnect {ℓ} : (P : Core → Type ℓ) (node now : ℕ) (s : Core) → P s → P (drop_requests node now s) → P (disconnect_step node now s)
 unfolding disconnect_step
-at_disconnect P now s same drops = at_end s.ended
+at_disconnect P node now s same drops = at_end s.ended
   where
-    at_end : (b : Bool) → P (if b then s else drop_requests now s)
+    at_end : (b : Bool) → P (if b then s else drop_requests node now s)
     at_end true = same
     at_end false = drops
+
+-- those of a partition that the node leads are dropped
+pub at_led {ℓ} : (P : Partition → Type ℓ) (node now : ℕ) (t : Partition) → P (drop_attempts now t) → P t → P (drop_led node now t)
+at_led P node now t drops same = at_test (leads node t)
+  where
+    at_test : (b : Bool) → P (if b then drop_attempts now t else t)
+    at_test true = drops
+    at_test false = same
+
+-- a partition that this node is to lead
+pub at_moved {ℓ} : (P : Partition → Type ℓ) (leader now : ℕ) (t : Partition) → P t → P (moved_to leader now t) → P (led_by leader now t)
+at_moved P leader now t same moves = at_test (leads leader t)
+  where
+    at_test : (b : Bool) → P (if b then t else moved_to leader now t)
+    at_test true = same
+    at_test false = moves
 
 pub at_close {ℓ} : (P : Core → Type ℓ) (s : Core) → P s → P (record s { closing = true }) → P (close_step s)
 unfolding close_step

@@ -30,6 +30,6 @@ each_call_tells s t (call.Append i (Err append.OutOfMemory)) held step = tt
 each_call_tells s t (call.Append i answer) held step = tells_as s (call.Append i answer) (Append i) refl
 each_call_tells s t (call.Reply now content (Err OutOfMemory)) bytes step = tt
 each_call_tells s t (call.Reply now content answer) bytes step = reply_tells s now content answer bytes
-each_call_tells s t (call.Tick now answer) held step = tells_as s (call.Tick now answer) (Tick now) refl
+each_call_tells s t (call.Tick node now answer) held step = tells_as s (call.Tick node now answer) (Tick node now) refl
 each_call_tells s t (call.End reports) held step = tells_as s (call.End reports) End refl
 each_call_tells s t c held step = tt

@@ -28,6 +28,6 @@ pub a_request_is_due_when_it_times_out : next_due both_sent ≡ Some 30000
 unfolding evaluated
 a_request_is_due_when_it_times_out = refl
 
-pub a_dropped_batch_is_due_after_its_backoff : next_due (disconnect_step 40 both_sent) ≡ Some 140
+pub a_dropped_batch_is_due_after_its_backoff : next_due (disconnect_step 0 40 both_sent) ≡ Some 140
 unfolding evaluated
 a_dropped_batch_is_due_after_its_backoff = refl

@@ -21,10 +21,11 @@ use Rattle.kp_rules.specs.Calls.{Call, Step}
 use Rattle.kp_rules.specs.Calls as call
 use Rattle.kp_rules.specs.Causes.{RejectsIn}
 use Rattle.kp_rules.specs.Closing.{close_step, end_step}
-use Rattle.kp_rules.specs.Dropping.{drop_attempt, drop_attempts, drop_requests, disconnect_step}
+use Rattle.kp_rules.specs.Dropping.{drop_attempt, drop_attempts, drop_led, drop_requests, disconnect_step}
 use Rattle.kp_rules.specs.Fence.{give_up}
 use Rattle.kp_rules.specs.Flush.{mark, flush_step}
 use Rattle.kp_rules.specs.HandingOver.{hand_over_in, send_in}
+use Rattle.kp_rules.specs.Leading.{lead_step}
 use Rattle.kp_rules.specs.Mismatch.{entries_for, answers_batches}
 use Rattle.kp_rules.specs.Next.{Sending}
 use Rattle.kp_rules.specs.OutcomeRule.{Tick, Reply, IsLate, IsFencedBy}
@@ -37,7 +38,7 @@ use Rattle.kp_rules.specs.Settling.{meaning_of, settle_by}
 use Rattle.kp_rules.specs.Telling.{with_partitions, at_each, at_these}
 use Rattle.kp_rules.specs.Tick.{Ticks, is_open_late, heed_deadlines, tick_step}
 use Rattle.kp_rules.specs.InOrder.{IsHeld}
-use Rattle.kp_rules.proofs.CallLemmas.{at_append, at_entries, at_heed, at_id, by_entries, at_request, at_response, at_tick, at_end_step, at_disconnect, at_close}
+use Rattle.kp_rules.proofs.CallLemmas.{at_append, at_entries, at_heed, at_id, at_led, by_entries, at_request, at_response, at_tick, at_end_step, at_disconnect, at_moved, at_close}
 use Rattle.kp_rules.proofs.HearingLemmas.{at_heard}
 use Rattle.kp_rules.proofs.ListLemmas.{at_mapped, at_put, list_any_mapped}
 use Rattle.kp_rules.proofs.OutcomeLemmas.{answered_so}
@@ -77,11 +78,11 @@ append_open C p i s old = at_append (λ (x : Appends). OnlyAt C p x.after) i s (
   room = λ m e f u. at_put (OnlyBy C) s.partitions i.partition p _ (new_partition 0) (λ same e'. absurd cc) old;
 })
 
-request_open : (C : Type 0) (p now : ℕ) (s : Core) → OnlyAt C p s → OnlyAt C p (request_step now s).after
-request_open C p now s old = at_request (λ (x : Requested). OnlyAt C p x.after) now s
+request_open : (C : Type 0) (p node now : ℕ) (s : Core) → OnlyAt C p s → OnlyAt C p (request_step node now s).after
+request_open C p node now s old = at_request (λ (x : Requested). OnlyAt C p x.after) node now s
     (record { ended = old; idle = old; spent = old; out = λ e d is left. goes_out d })
   where
-    goes_out : (d : Demand Sending) → OnlyAt C p (go_out now s d).after
+    goes_out : (d : Demand Sending) → OnlyAt C p (go_out node now s d).after
     goes_out (Produce xs) = at_changed (OnlyBy C) (partitions_in xs) (λ q t. send_in s.correlation t) s.partitions p
         (λ l is. sends_open C s.correlation (partition_at p s.partitions) old) (λ beside. old)
     goes_out (InitProducerId q) = old
@@ -91,10 +92,21 @@ unfolding at_each with_partitions give_up
 end_open C p s old =
     at_end_step (λ (x : Called ℕ). OnlyAt C p x.after) s old (mapped_open C (λ t. (give_up reason.Ended t).after) p s old old)
 
-disconnect_open : (C : Type 0) (p now : ℕ) (s : Core) → OnlyAt C p s → OnlyAt C p (disconnect_step now s)
+led_open : (C : Type 0) (node now : ℕ) (t : Partition) → OnlyBy C t → OnlyBy C (drop_led node now t)
+led_open C node now t old = at_led (OnlyBy C) node now t old old
+
+disconnect_open : (C : Type 0) (p node now : ℕ) (s : Core) → OnlyAt C p s → OnlyAt C p (disconnect_step node now s)
 unfolding drop_requests
-disconnect_open C p now s old =
-    at_disconnect (λ (t : Core). OnlyAt C p t) now s old (mapped_open C (drop_attempts now) p s old old)
+disconnect_open C p node now s old =
+    at_disconnect (λ (t : Core). OnlyAt C p t) node now s old (mapped_open C (drop_led node now) p s (led_open C node now (partition_at p s.partitions) old) old)
+
+lead_open : (C : Type 0) (p q leader now : ℕ) (s : Core) → OnlyAt C p s → OnlyAt C p (lead_step q leader now s)
+unfolding lead_step
+lead_open C p q leader now s old = at_put (OnlyBy C) s.partitions q p _ (new_partition 0)
+    (λ same. at_moved (OnlyBy C) leader now (partition_at q s.partitions) (here same) (here same)) old
+  where
+    here : p ≡ q → OnlyBy C (partition_at q s.partitions)
+    here same = subst (λ (n : ℕ). OnlyBy C (partition_at n s.partitions)) same old
 
 close_open : (C : Type 0) (p : ℕ) (s : Core) → OnlyAt C p s → OnlyAt C p (close_step s)
 close_open C p s old = at_close (λ (t : Core). OnlyAt C p t) s old old
@@ -109,13 +121,14 @@ heeds : (C : Type 0) (c : Config) (now : ℕ) (t : Partition) → (list_any (is_
     → OnlyBy C (heed_deadlines c now t).after
 heeds C c now t late old = at_heed (λ (x : Effect). OnlyBy C x.after) c now t (λ is e. late is) old
 
-tick_fences : (C : Type 0) (p now : ℕ) (s : Core) → (IsLate s now p → C) → OnlyAt C p s → OnlyAt C p (tick_step now s).after
+tick_fences : (C : Type 0) (p node now : ℕ) (s : Core) → (IsLate s now p → C) → OnlyAt C p s → OnlyAt C p (tick_step node now s).after
 unfolding at_each with_partitions drop_requests
-tick_fences C p now s late old = at_tick (λ (x : Ticks). OnlyAt C p x.after) now s (record {
+tick_fences C p node now s late old = at_tick (λ (x : Ticks). OnlyAt C p x.after) node now s (record {
   ended = old;
-  timed_out = mapped_open C heeded p (drop_requests now s)
-      (at_mapped (λ (t : Partition). OnlyBy C (heeded t)) (drop_attempts now) s.partitions p (new_partition 0) dropped passed)
-      (mapped_open C (drop_attempts now) p s old old);
+  timed_out = mapped_open C heeded p (drop_requests node now s)
+      (at_mapped (λ (t : Partition). OnlyBy C (heeded t)) (drop_led node now) s.partitions p (new_partition 0)
+      (at_led (λ (t : Partition). OnlyBy C (heeded t)) node now (partition_at p s.partitions) dropped passed) passed)
+      (mapped_open C (drop_led node now) p s (led_open C node now (partition_at p s.partitions) old) old);
   on_time = mapped_open C heeded p s passed old;
 })
   where
@@ -179,15 +192,16 @@ call_fences : (s t : Core) (c : Call) (p : ℕ) → IsHeld c → Step s c t → 
 unfolding flush_step
 call_fences s t (call.Append i (Err append.OutOfMemory)) p bytes step old = reached _ p t s step.1 old
 call_fences s t (call.Append i answer) p bytes step old = reached _ p t (append_step i s).after step.1 (append_open _ p i s old)
-call_fences s t (call.Request now (Err fault.OutOfMemory)) p bytes step old = reached _ p t s step.1 old
-call_fences s t (call.Request now answer) p bytes step old = reached _ p t (request_step now s).after step.1 (request_open _ p now s old)
+call_fences s t (call.Request node now (Err fault.OutOfMemory)) p bytes step old = reached _ p t s step.1 old
+call_fences s t (call.Request node now answer) p bytes step old = reached _ p t (request_step node now s).after step.1 (request_open _ p node now s old)
 call_fences s t (call.Reply now content (Err fault.OutOfMemory)) p bytes step old = reached _ p t s step.1 old
 call_fences s t (call.Reply now content answer) p bytes step old = reached _ p t (reply_step now content s).after step.1
     (reply_fences _ p now content s bytes
     (λ a response spells rejects. (Reply now response, (a, response, spells, refl), rejects)) old)
-call_fences s t (call.Tick now answer) p bytes step old = reached _ p t (tick_step now s).after step.1
-    (tick_fences _ p now s (λ late. (Tick now, refl, late)) old)
-call_fences s t (call.Disconnect now) p bytes step old = reached _ p t (disconnect_step now s) step (disconnect_open _ p now s old)
+call_fences s t (call.Tick node now answer) p bytes step old = reached _ p t (tick_step node now s).after step.1
+    (tick_fences _ p node now s (λ late. (Tick node now, refl, late)) old)
+call_fences s t (call.Disconnect node now) p bytes step old = reached _ p t (disconnect_step node now s) step (disconnect_open _ p node now s old)
+call_fences s t (call.Lead q leader now) p bytes step old = reached _ p t (lead_step q leader now s) step (lead_open _ p q leader now s old)
 call_fences s t call.Close p bytes step old = reached _ p t (close_step s) step (close_open _ p s old)
 call_fences s t call.Flush p bytes step old = reached _ p t (flush_step s) step (flush_open _ p s old)
 call_fences s t (call.End reports) p bytes step old = reached _ p t (end_step s).after step.1 (end_open _ p s old)

@@ -27,6 +27,7 @@ use Rattle.kp_rules.specs.Closing.{close_step, end_all, end_step}
 use Rattle.kp_rules.specs.Dropping.{drop_requests, disconnect_step}
 use Rattle.kp_rules.specs.Fetched.{before_each, with_fetched, after_fetched}
 use Rattle.kp_rules.specs.Flush.{is_flushed, flush_step}
+use Rattle.kp_rules.specs.Leading.{lead_step}
 use Rattle.kp_rules.specs.MaySend.{wants_id}
 use Rattle.kp_rules.specs.Mismatch.{answers_batches, is_given, answers_id}
 use Rattle.kp_rules.specs.Next.{Sending, next_batches, next_demand}
@@ -107,25 +108,25 @@ append_behind r i s =
 
 -- ---- a request
 
-out_behind : (r : List (List Report)) (now : ℕ) (s : Core) (d : Demand Sending) → go_out now (with_fetched r s) d ≡ after_fetched r (go_out now s d)
-out_behind r now s (Produce xs) = refl
-out_behind r now s (InitProducerId p) = refl
+out_behind : (r : List (List Report)) (node now : ℕ) (s : Core) (d : Demand Sending) → go_out node now (with_fetched r s) d ≡ after_fetched r (go_out node now s d)
+out_behind r node now s (Produce xs) = refl
+out_behind r node now s (InitProducerId p) = refl
 
-abbrev pub request_by : ℕ → Core → Bool → Option (Demand Sending) → Bool → Requested
-request_by now s ended wanted spent =
+abbrev pub request_by : ℕ → ℕ → Core → Bool → Option (Demand Sending) → Bool → Requested
+request_by node now s ended wanted spent =
     if ended then quietly s (Err fault.Ended)
-    else elim wanted [ None ↦ quietly s (Ok None) | Some d ↦ if spent then quietly s (Err fault.CorrelationSpent) else go_out now s d ]
+    else elim wanted [ None ↦ quietly s (Ok None) | Some d ↦ if spent then quietly s (Err fault.CorrelationSpent) else go_out node now s d ]
 
-request_by_behind : (r : List (List Report)) (now : ℕ) (s : Core) (ended : Bool) (wanted : Option (Demand Sending)) (spent : Bool)
-    → request_by now (with_fetched r s) ended wanted spent ≡ after_fetched r (request_by now s ended wanted spent)
-request_by_behind r now s true wanted spent = refl
-request_by_behind r now s false None spent = refl
-request_by_behind r now s false (Some d) true = refl
-request_by_behind r now s false (Some d) false = out_behind r now s d
+request_by_behind : (r : List (List Report)) (node now : ℕ) (s : Core) (ended : Bool) (wanted : Option (Demand Sending)) (spent : Bool)
+    → request_by node now (with_fetched r s) ended wanted spent ≡ after_fetched r (request_by node now s ended wanted spent)
+request_by_behind r node now s true wanted spent = refl
+request_by_behind r node now s false None spent = refl
+request_by_behind r node now s false (Some d) true = refl
+request_by_behind r node now s false (Some d) false = out_behind r node now s d
 
-pub request_behind : (r : List (List Report)) (now : ℕ) (s : Core) → request_step now (with_fetched r s) ≡ after_fetched r (request_step now s)
+pub request_behind : (r : List (List Report)) (node now : ℕ) (s : Core) → request_step node now (with_fetched r s) ≡ after_fetched r (request_step node now s)
 unfolding request_step next_demand next_batches has_window is_flushed
-request_behind r now s = request_by_behind r now s s.ended (next_demand now s) (is_spent s)
+request_behind r node now s = request_by_behind r node now s s.ended (next_demand node now s) (is_spent s)
 
 -- ---- a response
 
@@ -227,22 +228,22 @@ ticks_behind r now reconnect s =
     ap (λ (made : Called ℕ). let x : Ticks = record { after = made.after; told = made.told; answer = record { reports = made.answer; reconnect = reconnect } } in x)
     (partitions_behind r _ _ s)
 
-abbrev pub tick_by_cases : ℕ → Core → Bool → Bool → Ticks
-tick_by_cases now s ended over =
+abbrev pub tick_by_cases : ℕ → ℕ → Core → Bool → Bool → Ticks
+tick_by_cases node now s ended over =
     if ended then quietly s (record { reports = 0; reconnect = false })
-    else if over then tick_partitions heed_deadlines now true (drop_requests now s)
+    else if over then tick_partitions heed_deadlines now true (drop_requests node now s)
     else tick_partitions heed_deadlines now false s
 
-tick_cases_behind : (r : List (List Report)) (now : ℕ) (s : Core) (ended over : Bool)
-    → tick_by_cases now (with_fetched r s) ended over ≡ after_fetched r (tick_by_cases now s ended over)
+tick_cases_behind : (r : List (List Report)) (node now : ℕ) (s : Core) (ended over : Bool)
+    → tick_by_cases node now (with_fetched r s) ended over ≡ after_fetched r (tick_by_cases node now s ended over)
 unfolding drop_requests
-tick_cases_behind r now s true over = refl
-tick_cases_behind r now s false true = ticks_behind r now true (drop_requests now s)
-tick_cases_behind r now s false false = ticks_behind r now false s
+tick_cases_behind r node now s true over = refl
+tick_cases_behind r node now s false true = ticks_behind r now true (drop_requests node now s)
+tick_cases_behind r node now s false false = ticks_behind r now false s
 
-pub tick_behind : (r : List (List Report)) (now : ℕ) (s : Core) → tick_step now (with_fetched r s) ≡ after_fetched r (tick_step now s)
+pub tick_behind : (r : List (List Report)) (node now : ℕ) (s : Core) → tick_step node now (with_fetched r s) ≡ after_fetched r (tick_step node now s)
 unfolding tick_step has_timed_out
-tick_behind r now s = tick_cases_behind r now s s.ended (has_timed_out now s)
+tick_behind r node now s = tick_cases_behind r node now s s.ended (has_timed_out node now s)
 
 -- ---- the other calls
 
@@ -256,15 +257,20 @@ end_behind r s = by_end s.ended
     by_end false = ap (λ (made : Called ℕ). let x : Called ℕ = record made { after = record made.after { requests = []; ended = true } } in x)
         (partitions_behind r _ _ s)
 
-pub disconnect_behind : (r : List (List Report)) (now : ℕ) (s : Core)
-    → disconnect_step now (with_fetched r s) ≡ with_fetched r (disconnect_step now s)
+pub disconnect_behind : (r : List (List Report)) (node now : ℕ) (s : Core)
+    → disconnect_step node now (with_fetched r s) ≡ with_fetched r (disconnect_step node now s)
 unfolding disconnect_step drop_requests
-disconnect_behind r now s = by_end s.ended
+disconnect_behind r node now s = by_end s.ended
   where
     by_end : (b : Bool)
-        → (if b then with_fetched r s else drop_requests now (with_fetched r s)) ≡ with_fetched r (if b then s else drop_requests now s)
+        → (if b then with_fetched r s else drop_requests node now (with_fetched r s)) ≡ with_fetched r (if b then s else drop_requests node now s)
     by_end true = refl
     by_end false = refl
+
+pub lead_behind : (r : List (List Report)) (p leader now : ℕ) (s : Core)
+    → lead_step p leader now (with_fetched r s) ≡ with_fetched r (lead_step p leader now s)
+unfolding lead_step
+lead_behind r p leader now s = refl
 
 pub close_behind : (r : List (List Report)) (s : Core) → close_step (with_fetched r s) ≡ with_fetched r (close_step s)
 unfolding close_step

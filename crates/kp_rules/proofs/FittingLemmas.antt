@@ -104,25 +104,25 @@ length-fitting room (x ∷ xs) = at_test (nat_le (size_of x.batch.items) room) (
     at_test true rest = omega arith
     at_test false rest = omega arith
 
-few_batches : (now : ℕ) (s : Core) → length (next_batches now s) ≤ length s.partitions
+few_batches : (node now : ℕ) (s : Core) → length (next_batches node now s) ≤ length s.partitions
 unfolding next_batches
-few_batches now s =
-    let n = used_up_to s.last_used in
+few_batches node now s =
+    let n = used_up_to node s.turns in
     let all : List (ℕ × Partition) = enumerate_from 0 s.partitions in
     let whole = ap length (take-append-drop n all) in
     omega (
       arith,
-      length-fitting s.config.max_request_size (filter_map (sending_by sends s now) (in_turn s)),
-      length-filter_map (sending_by sends s now) (in_turn s),
+      length-fitting s.config.max_request_size (filter_map (sending_by sends node s now) (in_turn node s)),
+      length-filter_map (sending_by sends node s now) (in_turn node s),
       length-append (drop n all) (take n all),
       length-append (take n all) (drop n all),
       whole,
       length-enumerate_from 0 s.partitions,
     )
 
-small_batches : (now : ℕ) (s : Core) → sizes (next_batches now s) ≤ s.config.max_request_size
+small_batches : (node now : ℕ) (s : Core) → sizes (next_batches node now s) ≤ s.config.max_request_size
 unfolding next_batches
-small_batches now s = sizes_fitting s.config.max_request_size (filter_map (sending_by sends s now) (in_turn s))
+small_batches node now s = sizes_fitting s.config.max_request_size (filter_map (sending_by sends node s now) (in_turn node s))
 
 -- ---- their data
 
@@ -140,18 +140,18 @@ bytes_are (x ∷ xs) =
 
 -- ---- the request
 
-pub demand_fits : (now : ℕ) (s : Core) → IsInOrder s → (d : Demand Sending) → next_demand now s ≡ Some d → s.correlation < 2 ^ 31
+pub demand_fits : (node now : ℕ) (s : Core) → IsInOrder s → (d : Demand Sending) → next_demand node now s ≡ Some d → s.correlation < 2 ^ 31
     → FitsPacket s.config s.names (record { correlation = s.correlation; demand = d })
 unfolding message_of
-demand_fits now s order (InitProducerId p) e small =
+demand_fits node now s order (InitProducerId p) e small =
     let fits = id_request_fits s.correlation s.names.client small order.names.client order.names.client_is_text in
     record { message = fits.0; content = fits.1; batches = tt }
-demand_fits now s order (Produce xs) e small =
+demand_fits node now s order (Produce xs) e small =
     let most = has_bounds s.config order.config in
-    let all = demand_is_sent now s xs e in
-    let next = demand_is_next now s xs e in
-    let few : length xs ≤ length s.partitions = subst (λ (ys : List Sending). length ys ≤ length s.partitions) next (few_batches now s) in
-    let room : sizes xs ≤ s.config.max_request_size = subst (λ (ys : List Sending). sizes ys ≤ s.config.max_request_size) next (small_batches now s) in
+    let all = demand_is_sent node now s xs e in
+    let next = demand_is_next node now s xs e in
+    let few : length xs ≤ length s.partitions = subst (λ (ys : List Sending). length ys ≤ length s.partitions) next (few_batches node now s) in
+    let room : sizes xs ≤ s.config.max_request_size = subst (λ (ys : List Sending). sizes ys ≤ s.config.max_request_size) next (small_batches node now s) in
     let fits = produce_fits s.correlation s.config.request_timeout_ms s.names.client s.names.topic (map data_of xs) small (omega (arith, most.timeout))
     order.names.client order.names.client_is_text order.names.topic order.names.topic_is_text
     (omega (arith, few, order.partition_limit, length-map xs data_of))
@@ -165,16 +165,16 @@ demand_fits now s order (Produce xs) e small =
           (λ x is. fit_spelled s.config most x.batch (sending_fits now s order x is)) xs all;
     }
 
-pub request_fits : (now : ℕ) (s : Core) (packet : Packet) → IsInOrder s → (request_step now s).answer ≡ Ok (Some packet) → FitsPacket s.config s.names packet
-request_fits now s packet order = at_request (λ (x : Requested). x.answer ≡ Ok (Some packet) → FitsPacket s.config s.names packet) now s (record {
+pub request_fits : (node now : ℕ) (s : Core) (packet : Packet) → IsInOrder s → (request_step node now s).answer ≡ Ok (Some packet) → FitsPacket s.config s.names packet
+request_fits node now s packet order = at_request (λ (x : Requested). x.answer ≡ Ok (Some packet) → FitsPacket s.config s.names packet) node now s (record {
   ended = λ e. absurd cc;
   idle = λ e. absurd cc;
   spent = λ e. absurd cc;
   out = out;
 })
   where
-    out : s.ended ≡ false → (d : Demand Sending) → next_demand now s ≡ Some d → is_spent s ≡ false → (go_out now s d).answer ≡ Ok (Some packet)
+    out : s.ended ≡ false → (d : Demand Sending) → next_demand node now s ≡ Some d → is_spent s ≡ false → (go_out node now s d).answer ≡ Ok (Some packet)
         → FitsPacket s.config s.names packet
     out going d wanted left e =
         let same : (record { correlation = s.correlation; demand = d }) ≡ packet = cc in
-        subst (FitsPacket s.config s.names) same (demand_fits now s order d wanted (omega (arith, ltb-false _ _ left)))
+        subst (FitsPacket s.config s.names) same (demand_fits node now s order d wanted (omega (arith, ltb-false _ _ left)))

@@ -21,6 +21,7 @@ pub mod FencingLemmas
 pub mod UsedLemmas
 pub mod RuleLemmas
 pub mod OrderLemmas
+pub mod FlightLemmas
 pub mod OrderedCallLemmas
 pub mod FittingLemmas
 pub mod SameBatchLemmas

@@ -21,18 +21,19 @@ use Rattle.kp_rules.specs.declared.meaning.Meaning.TheVariants.{Stored, Duplicat
 use Rattle.kp_rules.specs.declared.outcome.Reason.{Reason}
 use Rattle.kp_rules.specs.Appending.{enqueue}
 use Rattle.kp_rules.specs.Attempts.{awaits, is_waiting}
-use Rattle.kp_rules.specs.Dropping.{drop_attempt, drop_attempts}
+use Rattle.kp_rules.specs.Dropping.{drop_attempt, drop_attempts, drop_led}
 use Rattle.kp_rules.specs.Fence.{give_up, fence}
 use Rattle.kp_rules.specs.Flush.{mark_open, mark}
 use Rattle.kp_rules.specs.HandingOver.{opened_in, hand_over_in, again_in, send_again_in, send_in}
 use Rattle.kp_rules.specs.InOrder.{IsItemOf, AreItemsOf, IsOpenOf, AreDistinct, AreRising, requests_awaited, IsEmptied, IsPartition}
+use Rattle.kp_rules.specs.Leading.{moved_to, led_by}
 use Rattle.kp_rules.specs.MaySend.{is_in_span, sends}
 use Rattle.kp_rules.specs.Partitions.{is_in, untold}
 use Rattle.kp_rules.specs.Records.{HandedBatch, Open, Partition, Effect}
 use Rattle.kp_rules.specs.Replies.{go_on_under}
 use Rattle.kp_rules.specs.Settling.{meaning_of, without_attempt, put_off, settle_by}
 use Rattle.kp_rules.specs.Tick.{behind_late, heed_deadlines}
-use Rattle.kp_rules.proofs.CallLemmas.{at_entries, at_heed, by_entries}
+use Rattle.kp_rules.proofs.CallLemmas.{at_entries, at_heed, at_led, at_moved, by_entries}
 use Rattle.kp_rules.proofs.ListLemmas.{IsOther, none_in, others, all_back, all_both, all_front, all_map, all_weaker, last_below}
 use Rattle.kp_rules.proofs.RuleLemmas.{awaited_at, enqueue_keeps, send_keeps}
 use Rattle.kp_rules.proofs.SendingLemmas.{at_sends, handed_over, sent_again}
@@ -102,6 +103,19 @@ left_none xs ys none e = refl
 left_none xs ys (gone l) e = absurd cc
 left_none xs ys (kept k l) e = absurd cc
 
+pub left_kept : {A : Type 0} (test : A → Bool) (xs ys : List A) → Left Same xs ys → Left Same (filter test xs) (filter test ys)
+left_kept test xs ys none = none
+left_kept test xs ys (gone {x} {xs = us} l) = at_test (test x) (left_kept test us ys l)
+  where
+    at_test : (b : Bool) → Left Same (filter test us) (filter test ys) → Left Same (cond b (x ∷ filter test us) (filter test us)) (filter test ys)
+    at_test true rest = gone rest
+    at_test false rest = rest
+left_kept test xs ys (kept {x} {y} {xs = us} {ys = vs} k l) = subst (λ (z : _). Left Same (filter test (x ∷ us)) (filter test (z ∷ vs))) (sym k) (at_test (test x) (left_kept test us vs l))
+  where
+    at_test : (b : Bool) → Left Same (filter test us) (filter test vs) → Left Same (cond b (x ∷ filter test us) (filter test us)) (cond b (x ∷ filter test vs) (filter test vs))
+    at_test true rest = kept refl rest
+    at_test false rest = rest
+
 pub left_length : {A : Type 0} {K : A → A → Type 0} (xs ys : List A) → Left K xs ys → length ys ≤ length xs
 left_length xs ys none = omega arith
 left_length xs ys (gone {xs = us} l) = omega (arith, left_length us ys l)
@@ -155,6 +169,7 @@ pub record Shrinks (t u : Partition) : Type 0 where
   pub queue : Left SameItems t.queue u.queue
   pub opens : Left SameBatch t.open_batches u.open_batches
   pub attempts : Left Same (requests_awaited t.open_batches) (requests_awaited u.open_batches)
+  pub leader : (u.leader ≡ t.leader) ⊎ (requests_awaited u.open_batches ≡ [])
   pub ids : u.ids ≡ t.ids
   pub next_number : u.next_number ≡ t.next_number
   pub next_sequence : u.next_sequence ≡ t.next_sequence
@@ -221,7 +236,7 @@ lighter {t} {u} k = left_sum charge_of (untold t) (untold u) (untold_left t u k.
 
 -- ---- each rule that hands nothing over
 
-abbrev awaited_of : Open → List ℕ
+abbrev pub awaited_of : Open → List ℕ
 awaited_of o = awaited_at o.attempt
 
 abbrev dropped_at : ℕ → Attempt → Attempt
@@ -247,6 +262,7 @@ shrinks_to t q os acknowledged l m = record {
   queue = l;
   opens = left_weaker SameBatch (λ x y k. k.batch) m;
   attempts = left_flat_map awaited_of (λ x y k. k.attempt) m;
+  leader = inl refl;
   ids = refl;
   next_number = refl;
   next_sequence = refl;
@@ -271,6 +287,35 @@ shrinks_dropped now t = shrinks_to t t.queue (map (drop_attempt now) t.open_batc
     at_attempt (InFlight k) = left_nothing Same (k ∷ [])
     at_attempt (Waiting since) = none
 
+pub shrinks_led : (node now : ℕ) (t : Partition) → Shrinks t (drop_led node now t)
+shrinks_led node now t = at_led (Shrinks t) node now t (shrinks_dropped now t) (shrinks_same t)
+
+pub none_in_flight : (now : ℕ) (os : List Open) → requests_awaited (map (drop_attempt now) os) ≡ []
+none_in_flight now [] = refl
+none_in_flight now (o ∷ os) = at_attempt o.attempt (none_in_flight now os)
+  where
+    at_attempt : (a : Attempt) → requests_awaited (map (drop_attempt now) os) ≡ [] → awaited_at (dropped_at now a) ++ requests_awaited (map (drop_attempt now) os) ≡ []
+    at_attempt (InFlight k) rest = rest
+    at_attempt (Waiting since) rest = rest
+
+shrinks_moved : (leader now : ℕ) (t : Partition) → Shrinks t (moved_to leader now t)
+shrinks_moved leader now t =
+    let dropped = shrinks_dropped now t in
+    record {
+      queue = dropped.queue;
+      opens = dropped.opens;
+      attempts = dropped.attempts;
+      leader = inr (none_in_flight now t.open_batches);
+      ids = refl;
+      next_number = refl;
+      next_sequence = refl;
+      attempts_sent = refl;
+      fenced = λ e. inl e;
+    }
+
+pub shrinks_lead : (leader now : ℕ) (t : Partition) → Shrinks t (led_by leader now t)
+shrinks_lead leader now t = at_moved (Shrinks t) leader now t (shrinks_same t) (shrinks_moved leader now t)
+
 pub shrinks_marked : (t : Partition) → Shrinks t (mark t)
 shrinks_marked t = shrinks_to t (map marked_by_flush t.queue) (map mark_open t.open_batches) t.acknowledged
     (left_map SameItems marked_by_flush (λ b. refl) t.queue)
@@ -283,6 +328,7 @@ shrinks_unaudited t =
       queue = same.queue;
       opens = same.opens;
       attempts = same.attempts;
+      leader = inl refl;
       ids = refl;
       next_number = refl;
       next_sequence = refl;
@@ -304,6 +350,7 @@ shrinks_fenced t = record {
   queue = left_nothing SameItems t.queue;
   opens = left_nothing SameBatch t.open_batches;
   attempts = left_nothing Same (requests_awaited t.open_batches);
+  leader = inl refl;
   ids = refl;
   next_number = refl;
   next_sequence = refl;
@@ -438,7 +485,7 @@ left_again k (o ∷ os) = at_test (is_waiting o) (left_again k os)
     at_test true rest = kept refl (left_same SameBatch (λ q. refl) os)
     at_test false rest = kept refl rest
 
-all_awaited : (P : ℕ → Type 0) (k : ℕ) → P k → (os : List Open) → AllByRecursion P (requests_awaited os) → AllByRecursion P (requests_awaited (send_again_in k os))
+pub all_awaited : (P : ℕ → Type 0) (k : ℕ) → P k → (os : List Open) → AllByRecursion P (requests_awaited os) → AllByRecursion P (requests_awaited (send_again_in k os))
 unfolding send_again_in
 all_awaited P k it [] h = tt
 all_awaited P k it (o ∷ os) h = at_test (is_waiting o) (all_awaited P k it os (all_back P (awaited_of o) (requests_awaited os) h))

@@ -27,7 +27,7 @@ use Rattle.kp_rules.specs.Appending.{Appends, append_step}
 use Rattle.kp_rules.specs.Attempts.{awaits, awaiting}
 use Rattle.kp_rules.specs.Causes.{IsAtLateFront, IsOpenIn, IsQueuedIn, IsAnswered, Settles}
 use Rattle.kp_rules.specs.Closing.{end_step}
-use Rattle.kp_rules.specs.Dropping.{drop_attempt, drop_attempts, drop_requests}
+use Rattle.kp_rules.specs.Dropping.{drop_attempt, drop_attempts, drop_led, drop_requests}
 use Rattle.kp_rules.specs.Fence.{give_up, fence}
 use Rattle.kp_rules.specs.Mismatch.{is_one_topic, is_for, entries_of, entries_for, has_offsets, answers_batches}
 use Rattle.kp_rules.specs.OutcomeRule.{Telling, Append, Tick, Reply, End, IsOpenBeside, told_in, MayTell}
@@ -37,7 +37,7 @@ use Rattle.kp_rules.specs.Replies.{Replies, awaited, settle_batches, response_st
 use Rattle.kp_rules.specs.Settling.{meaning_of, without_attempt, settle_by}
 use Rattle.kp_rules.specs.Telling.{told_all, with_partitions, at_each, at_these}
 use Rattle.kp_rules.specs.Tick.{Ticks, is_open_late, late_front, expire_front, heed_deadlines, tick_step}
-use Rattle.kp_rules.proofs.CallLemmas.{at_append, at_end_step, at_entries, at_heed, at_response, at_tick}
+use Rattle.kp_rules.proofs.CallLemmas.{at_append, at_end_step, at_entries, at_heed, at_led, at_response, at_tick}
 -- passed on to the crate above
 pub use Rattle.kp_rules.proofs.CallLemmas.{by_attempt, by_entries}
 use Rattle.kp_rules.proofs.ListLemmas.{contains_head, all_contained, all_flat_map, filtered, flat_map_mapped, found, list_any_mapped}
@@ -170,34 +170,37 @@ late_contained c now (x ∷ q) b h = at_test (is_late c now x) refl h
     at_test true is h' later = at_place is h'.0 h'.1 h'.2 later
     at_test false is h' later = absurd (omega (arith, h'.1))
 
-passed_all : (s : Core) (now p : ℕ)
-    → AllByRecursion (MayBeTold s (Tick now))
+passed_all : (s : Core) (node now p : ℕ)
+    → AllByRecursion (MayBeTold s (Tick node now))
     (heed_deadlines s.config now (partition_at p s.partitions)).told
 unfolding MayTell fence
-passed_all s now p = at_heed (λ (x : Effect). AllByRecursion (MayBeTold s (Tick now)) x.told) s.config now t
-    (λ is. all_given_up (MayBeTold s (Tick now)) reason.Fenced t (λ i h. (p, is, h)) (λ i h. (p, is, h)))
-    (all_told (MayBeTold s (Tick now)) (Unsent reason.Expired) (items_queued (late_front s.config now t.queue))
-    (all_flat_map (λ (i : Item). MayBeTold s (Tick now) (record { item = i; outcome = Unsent reason.Expired })) (λ b. b.items)
+passed_all s node now p = at_heed (λ (x : Effect). AllByRecursion (MayBeTold s (Tick node now)) x.told) s.config now t
+    (λ is. all_given_up (MayBeTold s (Tick node now)) reason.Fenced t (λ i h. (p, is, h)) (λ i h. (p, is, h)))
+    (all_told (MayBeTold s (Tick node now)) (Unsent reason.Expired) (items_queued (late_front s.config now t.queue))
+    (all_flat_map (λ (i : Item). MayBeTold s (Tick node now) (record { item = i; outcome = Unsent reason.Expired })) (λ b. b.items)
     (late_front s.config now t.queue)
-    (λ b c. all_contained (λ (i : Item). MayBeTold s (Tick now) (record { item = i; outcome = Unsent reason.Expired })) b.items
+    (λ b c. all_contained (λ (i : Item). MayBeTold s (Tick node now) (record { item = i; outcome = Unsent reason.Expired })) b.items
     (λ i h. (p, record { batch = b; front = late_contained s.config now t.queue b c; has = h })))))
   where
     t : Partition
     t = partition_at p s.partitions
 
-tells_tick : (now : ℕ) (s : Core) → AllByRecursion (MayBeTold s (Tick now)) (tick_step now s).told
+tells_tick : (node now : ℕ) (s : Core) → AllByRecursion (MayBeTold s (Tick node now)) (tick_step node now s).told
 unfolding at_each with_partitions drop_requests
-tells_tick now s = at_tick (λ (x : Ticks). AllByRecursion (MayBeTold s (Tick now)) x.told) now s (record {
+tells_tick node now s = at_tick (λ (x : Ticks). AllByRecursion (MayBeTold s (Tick node now)) x.told) node now s (record {
   ended = tt;
-  timed_out = subst (AllByRecursion (MayBeTold s (Tick now))) (sym (flat_map_mapped heeded (drop_attempts now) heeded (dropped_tells s.config now now) s.partitions)) all;
+  timed_out = subst (AllByRecursion (MayBeTold s (Tick node now))) (sym (flat_map_mapped heeded (drop_led node now) heeded led_tells s.partitions)) all;
   on_time = all;
 })
   where
     heeded : Partition → List Told
     heeded t = (heed_deadlines s.config now t).told
 
-    all : AllByRecursion (MayBeTold s (Tick now)) (flat_map heeded s.partitions)
-    all = all_places (MayBeTold s (Tick now)) heeded s.partitions (passed_all s now)
+    led_tells : (t : Partition) → heeded (drop_led node now t) ≡ heeded t
+    led_tells t = at_led (λ (u : Partition). heeded u ≡ heeded t) node now t (dropped_tells s.config now now t) refl
+
+    all : AllByRecursion (MayBeTold s (Tick node now)) (flat_map heeded s.partitions)
+    all = all_places (MayBeTold s (Tick node now)) heeded s.partitions (passed_all s node now)
 
 -- ---- a reply
 
@@ -332,6 +335,6 @@ tells_reply now response s = at_response (λ (x : Replies). AllByRecursion (MayB
 
 pub each_outcome : (s : Core) (call : Telling) → AllByRecursion (λ t. MayTell s call t.item t.outcome) (told_in s call)
 each_outcome s (Append i) = tells_append i s
-each_outcome s (Tick now) = tells_tick now s
+each_outcome s (Tick node now) = tells_tick node now s
 each_outcome s (Reply now response) = tells_reply now response s
 each_outcome s End = tells_end s

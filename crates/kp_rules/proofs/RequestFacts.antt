@@ -25,13 +25,13 @@ first_batch = record {
 }
 
 pub the_last_id_is_used :
-    (request_step 0 last_id).answer
+    (request_step 0 0 last_id).answer
     ≡ Ok (Some (record { correlation = 2147483647; demand = Produce (first_batch ∷ []) }))
 unfolding evaluated
 the_last_id_is_used = refl
 
 -- while nothing could be sent, no id is wanting
-pub nothing_is_to_be_sent : (request_step 0 (sent_at 0 last_id)).answer ≡ Ok None
+pub nothing_is_to_be_sent : (request_step 0 0 (sent_at 0 last_id)).answer ≡ Ok None
 unfolding evaluated
 nothing_is_to_be_sent = refl
 
@@ -41,11 +41,11 @@ stored = topic (codes "t") (part 0 (pos 0) (pos 0) ∷ []) ∷ []
 abbrev answered : Core
 answered = (response_step 0 (reply 2147483647 stored) (sent_at 0 last_id)).after
 
-pub no_id_is_left : request_step 0 answered ≡ quietly answered (Err CorrelationSpent)
+pub no_id_is_left : request_step 0 0 answered ≡ quietly answered (Err CorrelationSpent)
 unfolding evaluated
 no_id_is_left = refl
 
-pub after_the_end_nothing_goes_out : (request_step 0 (end_step last_id).after).answer ≡ Err Ended
+pub after_the_end_nothing_goes_out : (request_step 0 0 (end_step last_id).after).answer ≡ Err Ended
 unfolding evaluated
 after_the_end_nothing_goes_out = refl
 

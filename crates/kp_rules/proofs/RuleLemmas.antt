@@ -21,7 +21,7 @@ use Rattle.kp_rules.specs.declared.outcome.Reason.{Reason}
 use Rattle.kp_rules.specs.declared.outcome.Reason.TheVariants as reason
 use Rattle.kp_rules.specs.Appending.{enqueue}
 use Rattle.kp_rules.specs.Attempts.{awaits, awaiting, is_waiting}
-use Rattle.kp_rules.specs.Dropping.{drop_attempt, drop_attempts}
+use Rattle.kp_rules.specs.Dropping.{drop_attempt, drop_attempts, drop_led}
 use Rattle.kp_rules.specs.Fence.{give_up, fence}
 use Rattle.kp_rules.specs.Flush.{mark_open, mark}
 use Rattle.kp_rules.specs.HandingOver.{again_in, opened_in, hand_over_in, send_again_in, send_in}
@@ -30,8 +30,9 @@ use Rattle.kp_rules.specs.Partitions.{is_in, items_open, items_queued, untold}
 use Rattle.kp_rules.specs.Records.{HandedBatch, Open, Partition, Told, Effect}
 use Rattle.kp_rules.specs.Settling.{meaning_of, without_attempt, put_off, retry_later, settle_by}
 use Rattle.kp_rules.specs.Telling.{told_all}
+use Rattle.kp_rules.specs.Leading.{led_by}
 use Rattle.kp_rules.specs.Tick.{late_front, behind_late, expire_front, heed_deadlines}
-use Rattle.kp_rules.proofs.CallLemmas.{at_entries, at_heed, by_entries}
+use Rattle.kp_rules.proofs.CallLemmas.{at_entries, at_heed, at_led, at_moved, by_entries}
 use Rattle.kp_rules.proofs.ListLemmas.{flat_map_mapped}
 use Rattle.kp_rules.proofs.SendingLemmas.{at_send_in}
 
@@ -71,6 +72,13 @@ marked_queue = flat_map_mapped (λ (b : Pending). b.items) marked_by_flush (λ b
 pub drop_keeps : (now : ℕ) (t : Partition) → untold (drop_attempts now t) ≡ untold t
 unfolding untold
 drop_keeps now t = ap (λ r. r ++ items_queued t.queue) (open_map (drop_attempt now) (λ o. refl) t.open_batches)
+
+pub led_keeps : (node now : ℕ) (t : Partition) → untold (drop_led node now t) ≡ untold t
+led_keeps node now t = at_led (λ (u : Partition). untold u ≡ untold t) node now t (drop_keeps now t) refl
+
+pub lead_keeps : (leader now : ℕ) (t : Partition) → untold (led_by leader now t) ≡ untold t
+unfolding untold
+lead_keeps leader now t = at_moved (λ (u : Partition). untold u ≡ untold t) leader now t refl (drop_keeps now t)
 
 pub mark_keeps : (t : Partition) → untold (mark t) ≡ untold t
 unfolding untold

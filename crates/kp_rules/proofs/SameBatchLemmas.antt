@@ -20,14 +20,15 @@ use Rattle.kp_rules.specs.declared.names.Names.{Names}
 use Rattle.kp_rules.specs.declared.outcome.Reason.TheVariants.{Ended}
 use Rattle.kp_rules.specs.Appending.{Appends, enqueue, append_step}
 use Rattle.kp_rules.specs.Attempts.{is_waiting}
-use Rattle.kp_rules.specs.Calls.{Call, Append, Request, Reply, Tick, Disconnect, Close, Flush, End, Fetch, Step, answered_as, packet_in, packets_by, Life, life_of, followed_by, Lives, WentOut}
+use Rattle.kp_rules.specs.Calls.{Call, Append, Request, Reply, Tick, Disconnect, Lead, Close, Flush, End, Fetch, Step, answered_as, packet_in, packets_by, Life, life_of, followed_by, Lives, WentOut}
 use Rattle.kp_rules.specs.Closing.{close_step, end_step}
-use Rattle.kp_rules.specs.Dropping.{drop_attempts, drop_requests, disconnect_step}
+use Rattle.kp_rules.specs.Dropping.{drop_led, drop_requests, disconnect_step}
 use Rattle.kp_rules.specs.Fence.{give_up}
 use Rattle.kp_rules.specs.Flush.{mark, flush_step}
 use Rattle.kp_rules.specs.HandingOver.{opened_in, hand_over_in, send_in}
 use Rattle.kp_rules.specs.MaySend.{new_batch, sends}
 use Rattle.kp_rules.specs.Mismatch.{entries_for}
+use Rattle.kp_rules.specs.Leading.{led_by, lead_step}
 use Rattle.kp_rules.specs.Next.{Sending, flags_of, next_demand}
 use Rattle.kp_rules.specs.Opening.{new_core}
 use Rattle.kp_rules.specs.Partitions.{is_in, new_partition, partition_at, with_partition}
@@ -39,7 +40,7 @@ use Rattle.kp_rules.specs.Telling.{with_partitions, at_each, at_these}
 use Rattle.kp_rules.specs.Tick.{Ticks, heed_deadlines, tick_partitions, tick_step}
 use Rattle.kp_rules.proofs.CallLemmas.{at_append, at_id, at_reply, by_entries, at_request, at_response, at_tick, at_end_step, at_disconnect, at_close}
 use Rattle.kp_rules.proofs.ListLemmas.{contains_head, all_weaker, at_contained, at_mapped, at_put, found}
-use Rattle.kp_rules.proofs.OrderLemmas.{Shrinks, left_all, shrinks_dropped, shrinks_marked, shrinks_given_up, shrinks_passed, shrinks_entries}
+use Rattle.kp_rules.proofs.OrderLemmas.{Shrinks, left_all, shrinks_led, shrinks_lead, shrinks_marked, shrinks_given_up, shrinks_passed, shrinks_entries}
 use Rattle.kp_rules.proofs.PartitionLemmas.{at_changed}
 use Rattle.kp_rules.proofs.SendingLemmas.{IsSent, HasPart, has_part, all_again, at_sends, demand_is_sent}
 
@@ -102,19 +103,19 @@ append_quiet i s = at_append (λ (x : Appends). CoreIsQuiet s x.after) i s (reco
   room = λ m e f r. one_quiet s i.partition (enqueue s.config i (at i.partition s)) (record { number = refl; opens = λ P h. h });
 })
 
-drops_quiet : (now : ℕ) (s : Core) → CoreIsQuiet s (drop_requests now s)
+drops_quiet : (node now : ℕ) (s : Core) → CoreIsQuiet s (drop_requests node now s)
 unfolding drop_requests
-drops_quiet now s = each_quiet (drop_attempts now) (shrinks_dropped now) s.partitions
+drops_quiet node now s = each_quiet (drop_led node now) (shrinks_led node now) s.partitions
 
 ticks_quiet : (now : ℕ) (b : Bool) (s : Core) → CoreIsQuiet s (tick_partitions heed_deadlines now b s).after
 unfolding at_each with_partitions
 ticks_quiet now b s = each_quiet (λ t. (heed_deadlines s.config now t).after) (shrinks_passed s.config now) s.partitions
 
-tick_quiet : (now : ℕ) (s : Core) → CoreIsQuiet s (tick_step now s).after
-tick_quiet now s = at_tick (λ (x : Ticks). CoreIsQuiet s x.after) now s (record {
+tick_quiet : (node now : ℕ) (s : Core) → CoreIsQuiet s (tick_step node now s).after
+tick_quiet node now s = at_tick (λ (x : Ticks). CoreIsQuiet s x.after) node now s (record {
   ended = core_stays s;
-  timed_out = λ p. then_quiet (at p s) (at p (drop_requests now s)) (at p (tick_partitions heed_deadlines now true (drop_requests now s)).after)
-      (drops_quiet now s p) (ticks_quiet now true (drop_requests now s) p);
+  timed_out = λ p. then_quiet (at p s) (at p (drop_requests node now s)) (at p (tick_partitions heed_deadlines now true (drop_requests node now s)).after)
+      (drops_quiet node now s p) (ticks_quiet now true (drop_requests node now s) p);
   on_time = ticks_quiet now false s;
 })
 
@@ -126,6 +127,10 @@ end_quiet s = at_end_step (λ (x : Called ℕ). CoreIsQuiet s x.after) s (core_s
 flush_quiet : (s : Core) → CoreIsQuiet s (flush_step s)
 unfolding flush_step
 flush_quiet s = each_quiet mark shrinks_marked s.partitions
+
+lead_quiet : (p leader now : ℕ) (s : Core) → CoreIsQuiet s (lead_step p leader now s)
+unfolding lead_step
+lead_quiet p leader now s = one_quiet s p (led_by leader now (at p s)) (shrinks_quietly (shrinks_lead leader now (at p s)))
 
 -- ---- a reply
 
@@ -220,9 +225,9 @@ part_is_in xs n d l = list_any_at (λ q. q == (get_or xs n d).partition) (partit
 abbrev With : (Sending → Type 0) → List Sending → Sending → Type 0
 With W xs x = W x ⊎ Contains xs x
 
-kept_sent : (W : Sending → Type 0) (now : ℕ) (s : Core) (xs : List Sending) → AllByRecursion (IsSent now s) xs → IsKept W s
-    → IsKept (With W xs) (sent_out now s (Produce xs))
-kept_sent W now s xs all h = record { below = below; opens = opens; same = same }
+kept_sent : (W : Sending → Type 0) (node now : ℕ) (s : Core) (xs : List Sending) → AllByRecursion (IsSent now s) xs → IsKept W s
+    → IsKept (With W xs) (sent_out node now s (Produce xs))
+kept_sent W node now s xs all h = record { below = below; opens = opens; same = same }
   where
     sent : (x : Sending) → Contains xs x → IsSent now s x
     sent x c = at_contained (IsSent now s) xs x all c
@@ -272,7 +277,7 @@ kept_sent W now s xs all h = record { below = below; opens = opens; same = same 
         let none = beside (sent x c).there in
         absurd cc
 
-    below : (x : Sending) → With W xs x → x.batch.number < (at x.partition (sent_out now s (Produce xs))).next_number
+    below : (x : Sending) → With W xs x → x.batch.number < (at x.partition (sent_out node now s (Produce xs))).next_number
     below x v = at_changed (λ u. x.batch.number < u.next_number) (partitions_in xs) (λ p t. send_in s.correlation t) s.partitions x.partition
         (λ l is. below_next x v is) (below_still x v)
 
@@ -284,7 +289,7 @@ kept_sent W now s xs all h = record { below = below; opens = opens; same = same 
         (λ (e : o.batch ≡ x.it.batch). inr (subst (Contains xs) (λ i. record { partition = x.own i; batch = sym e i }) x.has)))
         (send_in s.correlation (at p s)).open_batches (goes_for p x).opens
 
-    opens : (p : ℕ) → AllOpen (For (With W xs) p) (at p (sent_out now s (Produce xs))).open_batches
+    opens : (p : ℕ) → AllOpen (For (With W xs) p) (at p (sent_out node now s (Produce xs))).open_batches
     opens p = at_changed (λ u. AllOpen (For (With W xs) p) u.open_batches) (partitions_in xs) (λ q t. send_in s.correlation t) s.partitions p
         (λ l is. newly_open p (has_part xs p is))
         (λ beside. all_weaker (λ o. For W p o.batch) (λ o. For (With W xs) p o.batch) (λ o w. inl w) (at p s).open_batches (h.opens p))
@@ -307,17 +312,17 @@ one_went packet x w =
 kept_quiet : (W : Sending → Type 0) (s : Core) → IsKept W s → IsKept (And W (only [])) s
 kept_quiet W s h = kept_as W (And W (only [])) (λ x w. inl w) (λ x. ⊎_elim (λ w. w) (λ none. absurd (none_went x none))) s h
 
-kept_out : (W : Sending → Type 0) (now : ℕ) (s : Core) (d : Demand Sending) → next_demand now s ≡ Some d → IsKept W s
-    → IsKept (And W (only (packet_in (go_out now s d).answer))) (go_out now s d).after
-kept_out W now s (InitProducerId p) wanted h =
+kept_out : (W : Sending → Type 0) (node now : ℕ) (s : Core) (d : Demand Sending) → next_demand node now s ≡ Some d → IsKept W s
+    → IsKept (And W (only (packet_in (go_out node now s d).answer))) (go_out node now s d).after
+kept_out W node now s (InitProducerId p) wanted h =
     let packet : Packet = record { correlation = s.correlation; demand = InitProducerId p } in
     let none : (x : Sending) → WentOut (only (packet ∷ [])) x → W x = λ x w. let one = one_went packet x w in absurd (let e = one.1 in cc) in
-    kept_as W (And W (only (packet ∷ []))) (λ x w. inl w) (λ x. ⊎_elim (λ w. w) (none x)) (go_out now s (InitProducerId p)).after
-    (kept_on W s (go_out now s (InitProducerId p)).after (core_stays s) h)
-kept_out W now s (Produce xs) wanted h =
+    kept_as W (And W (only (packet ∷ []))) (λ x w. inl w) (λ x. ⊎_elim (λ w. w) (none x)) (go_out node now s (InitProducerId p)).after
+    (kept_on W s (go_out node now s (InitProducerId p)).after (core_stays s) h)
+kept_out W node now s (Produce xs) wanted h =
     kept_as (With W xs) (And W (only (packet ∷ []))) (λ x. ⊎_elim (λ w. inl w) (λ c. inr (out x c)))
     (λ x. ⊎_elim (λ w. inl w) (λ w. inr (has x w)))
-    (go_out now s (Produce xs)).after (kept_sent W now s xs (demand_is_sent now s xs wanted) h)
+    (go_out node now s (Produce xs)).after (kept_sent W node now s xs (demand_is_sent node now s xs wanted) h)
   where
     packet : Packet
     packet = record { correlation = s.correlation; demand = Produce xs }
@@ -331,13 +336,13 @@ kept_out W now s (Produce xs) wanted h =
         let same : one.0 ≡ xs = cc in
         subst (λ (ys : List Sending). Contains ys x) same one.2
 
-kept_request : (W : Sending → Type 0) (now : ℕ) (s : Core) → IsKept W s
-    → IsKept (And W (only (packet_in (request_step now s).answer))) (request_step now s).after
-kept_request W now s h = at_request (λ (x : Requested). IsKept (And W (only (packet_in x.answer))) x.after) now s (record {
+kept_request : (W : Sending → Type 0) (node now : ℕ) (s : Core) → IsKept W s
+    → IsKept (And W (only (packet_in (request_step node now s).answer))) (request_step node now s).after
+kept_request W node now s h = at_request (λ (x : Requested). IsKept (And W (only (packet_in x.answer))) x.after) node now s (record {
   ended = quiet;
   idle = quiet;
   spent = quiet;
-  out = λ going d wanted left. kept_out W now s d wanted h;
+  out = λ going d wanted left. kept_out W node now s d wanted h;
 })
   where
     quiet : IsKept (And W (only [])) s
@@ -353,25 +358,26 @@ no_packet s (Ok None) why e = refl
 no_packet s (Ok (Some packet)) why e = absurd cc
 no_packet s (Err other) why e = refl
 
-kept_refused : (W : Sending → Type 0) (now : ℕ) (s t : Core) (why : CoreFault) → answered_as s (request_step now s).answer ≡ Err why
-    → t ≡ (request_step now s).after → IsKept W s → IsKept (And W (only [])) t
-kept_refused W now s t why answer after h =
+kept_refused : (W : Sending → Type 0) (node now : ℕ) (s t : Core) (why : CoreFault) → answered_as s (request_step node now s).answer ≡ Err why
+    → t ≡ (request_step node now s).after → IsKept W s → IsKept (And W (only [])) t
+kept_refused W node now s t why answer after h =
     subst (IsKept (And W (only []))) (sym after)
-    (subst (λ (ps : List Packet). IsKept (And W (only ps)) (request_step now s).after)
-    (no_packet s (request_step now s).answer why answer) (kept_request W now s h))
+    (subst (λ (ps : List Packet). IsKept (And W (only ps)) (request_step node now s).after)
+    (no_packet s (request_step node now s).answer why answer) (kept_request W node now s h))
 
 kept_by : (W : Sending → Type 0) (s : Core) (call : Call) (t : Core) → Step s call t → IsKept W s → IsKept (And W (only (packets_by s call))) t
 kept_by W s (Append i (Err append.OutOfMemory)) t step h = kept_after W s s t (core_stays s) step.1 h
 kept_by W s (Append i answer) t step h = kept_after W s (append_step i s).after t (append_quiet i s) step.1 h
-kept_by W s (Request now (Err fault.OutOfMemory)) t step h = kept_after W s s t (core_stays s) step.1 h
-kept_by W s (Request now (Err why)) t step h = kept_refused W now s t _ step.0 step.1 h
-kept_by W s (Request now (Ok answer)) t step h =
-    subst (IsKept (And W (only (packet_in (request_step now s).answer)))) (sym step.1) (kept_request W now s h)
+kept_by W s (Request node now (Err fault.OutOfMemory)) t step h = kept_after W s s t (core_stays s) step.1 h
+kept_by W s (Request node now (Err why)) t step h = kept_refused W node now s t _ step.0 step.1 h
+kept_by W s (Request node now (Ok answer)) t step h =
+    subst (IsKept (And W (only (packet_in (request_step node now s).answer)))) (sym step.1) (kept_request W node now s h)
 kept_by W s (Reply now content (Err fault.OutOfMemory)) t step h = kept_after W s s t (core_stays s) step.1 h
 kept_by W s (Reply now content answer) t step h = kept_after W s (reply_step now content s).after t (reply_quiet now content s) step.1 h
-kept_by W s (Tick now answer) t step h = kept_after W s (tick_step now s).after t (tick_quiet now s) step.1 h
-kept_by W s (Disconnect now) t step h =
-    kept_after W s (disconnect_step now s) t (at_disconnect (CoreIsQuiet s) now s (core_stays s) (drops_quiet now s)) step h
+kept_by W s (Tick node now answer) t step h = kept_after W s (tick_step node now s).after t (tick_quiet node now s) step.1 h
+kept_by W s (Disconnect node now) t step h =
+    kept_after W s (disconnect_step node now s) t (at_disconnect (CoreIsQuiet s) node now s (core_stays s) (drops_quiet node now s)) step h
+kept_by W s (Lead p leader now) t step h = kept_after W s (lead_step p leader now s) t (lead_quiet p leader now s) step h
 kept_by W s Close t step h = kept_after W s (close_step s) t (at_close (CoreIsQuiet s) s (core_stays s) (core_stays s)) step h
 kept_by W s Flush t step h = kept_after W s (flush_step s) t (flush_quiet s) step h
 kept_by W s (End reports) t step h = kept_after W s (end_step s).after t (end_quiet s) step.1 h

@@ -39,7 +39,7 @@ with_all [] s = s
 with_all (i ∷ is) s = with_all is (append_step i s).after
 
 abbrev pub sent_at : ℕ → Core → Core
-sent_at now s = (request_step now s).after
+sent_at now s = (request_step 0 now s).after
 
 -- one partition with two batches, of which the first was sent at moment 0 in request 2
 abbrev pub one_sent : Core

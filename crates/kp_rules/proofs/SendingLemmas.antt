@@ -13,8 +13,8 @@ use Rattle.kp_rules.specs.Attempts.{has_window, is_waiting, lowest_waiting}
 use Rattle.kp_rules.specs.HandingOver.{again_in, hand_over_in, send_again_in, send_in}
 use Rattle.kp_rules.specs.InOrder.{AreDistinct}
 use Rattle.kp_rules.specs.MaySend.{is_rested, is_confirmed, is_in_span, is_within_limit, may_hand_over, new_batch, sends}
-use Rattle.kp_rules.specs.Next.{Sending, flags_of, used_up_to, in_turn, sending_by, fitting, next_batches, next_asking, next_demand}
-use Rattle.kp_rules.specs.Partitions.{partition_at, new_partition, is_in}
+use Rattle.kp_rules.specs.Next.{Sending, flags_of, used_up_to, in_turn, Choice, sends_to, sending_by, fitting, next_batches, next_asking, next_demand}
+use Rattle.kp_rules.specs.Partitions.{partition_at, new_partition, is_in, leads}
 use Rattle.kp_rules.specs.Records.{HandedBatch, Open, Partition, Demand, Produce, InitProducerId, Core}
 use Rattle.kp_rules.specs.Requesting.{partitions_in}
 use Rattle.kp_rules.proofs.ListLemmas.{IsOther, all_back, all_filter_map, all_front, all_map, all_take, all_weaker, contains_head, contains_tail, none_in}
@@ -134,11 +134,29 @@ all_fitting P room (x ∷ xs) h = at_test (nat_le (size_of x.batch.items) room)
     at_test true rest = (h.0, rest)
     at_test false rest = tt
 
-sending_is : (now : ℕ) (s : Core) (y : ℕ × Partition) (x : Sending)
-    → IsPlace 0 s.partitions (new_partition 0) y → sending_by sends s now y ≡ Some x → IsSent now s x
-sending_is now s y x place e = at_option (sends s.config (flags_of s) now y.1) refl e
+-- what it sends to a node it sends by the choice
+pub sends_what : (choice : Choice) (node : ℕ) (c : Config) (flags : Flags) (now : ℕ) (t : Partition) (b : HandedBatch)
+    → sends_to node choice c flags now t ≡ Some b → choice c flags now t ≡ Some b
+sends_what choice node c flags now t b e = at_leader (leads node t) e
   where
-    at_option : (o : Option HandedBatch) → sends s.config (flags_of s) now y.1 ≡ o
+    at_leader : (led : Bool) → (if led then choice c flags now t else None) ≡ Some b → choice c flags now t ≡ Some b
+    at_leader true e' = e'
+    at_leader false e' = absurd cc
+
+-- where it sends something to the node, the node leads it
+led_by_it : (choice : Choice) (node : ℕ) (c : Config) (flags : Flags) (now : ℕ) (t : Partition) (b : HandedBatch)
+    → sends_to node choice c flags now t ≡ Some b → leads node t ≡ true
+led_by_it choice node c flags now t b e = at_leader (leads node t) refl e
+  where
+    at_leader : (led : Bool) → leads node t ≡ led → (if led then choice c flags now t else None) ≡ Some b → leads node t ≡ true
+    at_leader true is e' = is
+    at_leader false is e' = absurd cc
+
+sending_is : (node now : ℕ) (s : Core) (y : ℕ × Partition) (x : Sending)
+    → IsPlace 0 s.partitions (new_partition 0) y → sending_by sends node s now y ≡ Some x → IsSent now s x
+sending_is node now s y x place e = at_option (sends_to node sends s.config (flags_of s) now y.1) refl e
+  where
+    at_option : (o : Option HandedBatch) → sends_to node sends s.config (flags_of s) now y.1 ≡ o
         → option_map (λ b. record { partition = y.0; batch = b }) o ≡ Some x → IsSent now s x
     at_option None is e' = absurd cc
     at_option (Some b) is e' =
@@ -150,26 +168,26 @@ sending_is now s y x place e = at_option (sends s.config (flags_of s) now y.1) r
         subst (IsSent now s) made (record {
           there = within;
           sends = ap (λ (t : Partition). sends s.config (flags_of s) now t) same
-              ∙ is;
+              ∙ sends_what sends node s.config (flags_of s) now y.1 b is;
         })
 
 -- what all partitions send, in turn
-pub all_sending : (now : ℕ) (s : Core) → AllByRecursion (IsSent now s) (filter_map (sending_by sends s now) (in_turn s))
-all_sending now s =
+pub all_sending : (node now : ℕ) (s : Core) → AllByRecursion (IsSent now s) (filter_map (sending_by sends node s now) (in_turn node s))
+all_sending node now s =
     let all : AllByRecursion (IsPlace 0 s.partitions (new_partition 0))
     (enumerate_from 0 s.partitions) = places 0 s.partitions (new_partition 0) in
-    let n = used_up_to s.last_used in
-    all_filter_map (IsSent now s) (IsPlace 0 s.partitions (new_partition 0)) (sending_by sends s now)
-    (sending_is now s) (in_turn s)
+    let n = used_up_to node s.turns in
+    all_filter_map (IsSent now s) (IsPlace 0 s.partitions (new_partition 0)) (sending_by sends node s now)
+    (sending_is node now s) (in_turn node s)
     (all_append (IsPlace 0 s.partitions (new_partition 0)) (drop n (enumerate_from 0 s.partitions))
     (take n (enumerate_from 0 s.partitions))
     (all_drop (IsPlace 0 s.partitions (new_partition 0)) n (enumerate_from 0 s.partitions) all)
     (all_take (IsPlace 0 s.partitions (new_partition 0)) n (enumerate_from 0 s.partitions) all))
 
-all_sent : (now : ℕ) (s : Core) → AllByRecursion (IsSent now s) (next_batches now s)
+all_sent : (node now : ℕ) (s : Core) → AllByRecursion (IsSent now s) (next_batches node now s)
 unfolding next_batches
-all_sent now s =
-    all_fitting (IsSent now s) s.config.max_request_size (filter_map (sending_by sends s now) (in_turn s)) (all_sending now s)
+all_sent node now s =
+    all_fitting (IsSent now s) s.config.max_request_size (filter_map (sending_by sends node s now) (in_turn node s)) (all_sending node now s)
 
 -- ---- the next demand
 
@@ -180,24 +198,58 @@ abbrev by_asking : List Sending → Option ℕ → Option (Demand Sending)
 by_asking xs o = elim o [ Some p ↦ Some (InitProducerId p) | None ↦ by_batches xs ]
 
 -- its batches are the next ones
-pub demand_is_next : (now : ℕ) (s : Core) (xs : List Sending) → next_demand now s ≡ Some (Produce xs) → next_batches now s ≡ xs
+pub demand_is_next : (node now : ℕ) (s : Core) (xs : List Sending) → next_demand node now s ≡ Some (Produce xs) → next_batches node now s ≡ xs
 unfolding next_demand
-demand_is_next now s xs e = at_window (not (has_window s)) e
+demand_is_next node now s xs e = at_window (not (has_window node s)) e
   where
     at_batches : (ys : List Sending) → by_batches ys ≡ Some (Produce xs) → ys ≡ xs
     at_batches [] e' = absurd cc
     at_batches (y ∷ ys) e' = cc
 
-    at_asking : (o : Option ℕ) → by_asking (next_batches now s) o ≡ Some (Produce xs) → next_batches now s ≡ xs
-    at_asking None e' = at_batches (next_batches now s) e'
+    at_asking : (o : Option ℕ) → by_asking (next_batches node now s) o ≡ Some (Produce xs) → next_batches node now s ≡ xs
+    at_asking None e' = at_batches (next_batches node now s) e'
     at_asking (Some p) e' = absurd cc
 
-    at_window : (b : Bool) → (if b then None else by_asking (next_batches now s) (next_asking now s)) ≡ Some (Produce xs) → next_batches now s ≡ xs
-    at_window false e' = at_asking (next_asking now s) e'
+    at_window : (b : Bool) → (if b then None else by_asking (next_batches node now s) (next_asking node now s)) ≡ Some (Produce xs) → next_batches node now s ≡ xs
+    at_window false e' = at_asking (next_asking node now s) e'
     at_window true e' = absurd cc
 
-pub demand_is_sent : (now : ℕ) (s : Core) (xs : List Sending) → next_demand now s ≡ Some (Produce xs) → AllByRecursion (IsSent now s) xs
-demand_is_sent now s xs e = subst (AllByRecursion (IsSent now s)) (demand_is_next now s xs e) (all_sent now s)
+pub demand_is_sent : (node now : ℕ) (s : Core) (xs : List Sending) → next_demand node now s ≡ Some (Produce xs) → AllByRecursion (IsSent now s) xs
+demand_is_sent node now s xs e = subst (AllByRecursion (IsSent now s)) (demand_is_next node now s xs e) (all_sent node now s)
+
+-- ---- the node leads the partitions of a request
+
+abbrev pub IsLed : ℕ → Core → Sending → Type 0
+IsLed node s x = leads node (partition_at x.partition s.partitions) ≡ true
+
+sending_led : (node now : ℕ) (s : Core) (y : ℕ × Partition) (x : Sending)
+    → IsPlace 0 s.partitions (new_partition 0) y → sending_by sends node s now y ≡ Some x → IsLed node s x
+sending_led node now s y x place e = at_option (sends_to node sends s.config (flags_of s) now y.1) refl e
+  where
+    at_option : (o : Option HandedBatch) → sends_to node sends s.config (flags_of s) now y.1 ≡ o
+        → option_map (λ b. record { partition = y.0; batch = b }) o ≡ Some x → IsLed node s x
+    at_option None is e' = absurd cc
+    at_option (Some b) is e' =
+        let made : (record { partition = y.0; batch = b }) ≡ x = cc in
+        let at : y.0 - 0 ≡ y.0 = omega arith in
+        let same : partition_at y.0 s.partitions ≡ y.1 = ap (λ (n : ℕ). partition_at n s.partitions) (sym at) ∙ place.there in
+        subst (IsLed node s) made (ap (leads node) same ∙ led_by_it sends node s.config (flags_of s) now y.1 b is)
+
+all_led : (node now : ℕ) (s : Core) → AllByRecursion (IsLed node s) (next_batches node now s)
+unfolding next_batches
+all_led node now s =
+    let all = places 0 s.partitions (new_partition 0) in
+    let n = used_up_to node s.turns in
+    all_fitting (IsLed node s) s.config.max_request_size (filter_map (sending_by sends node s now) (in_turn node s))
+    (all_filter_map (IsLed node s) (IsPlace 0 s.partitions (new_partition 0)) (sending_by sends node s now)
+    (sending_led node now s) (in_turn node s)
+    (all_append (IsPlace 0 s.partitions (new_partition 0)) (drop n (enumerate_from 0 s.partitions))
+    (take n (enumerate_from 0 s.partitions))
+    (all_drop (IsPlace 0 s.partitions (new_partition 0)) n (enumerate_from 0 s.partitions) all)
+    (all_take (IsPlace 0 s.partitions (new_partition 0)) n (enumerate_from 0 s.partitions) all)))
+
+pub demand_is_led : (node now : ℕ) (s : Core) (xs : List Sending) → next_demand node now s ≡ Some (Produce xs) → AllByRecursion (IsLed node s) xs
+demand_is_led node now s xs e = subst (AllByRecursion (IsLed node s)) (demand_is_next node now s xs e) (all_led node now s)
 
 -- ---- lists of which no two have one key
 
@@ -235,26 +287,26 @@ place y = y.0
 abbrev partition_of : Sending → ℕ
 partition_of x = x.partition
 
-sending_place : (now : ℕ) (s : Core) (y : ℕ × Partition) (x : Sending) → sending_by sends s now y ≡ Some x → x.partition ≡ y.0
-sending_place now s y x e = at_option (sends s.config (flags_of s) now y.1) e
+sending_place : (node now : ℕ) (s : Core) (y : ℕ × Partition) (x : Sending) → sending_by sends node s now y ≡ Some x → x.partition ≡ y.0
+sending_place node now s y x e = at_option (sends_to node sends s.config (flags_of s) now y.1) e
   where
     at_option : (o : Option HandedBatch) → option_map (λ b. record { partition = y.0; batch = b }) o ≡ Some x → x.partition ≡ y.0
     at_option None e' = absurd cc
     at_option (Some b) e' = let made : (record { partition = y.0; batch = b }) ≡ x = cc in sym (ap (λ (z : Sending). z.partition) made)
 
-differ_all : (now : ℕ) (s : Core) (y : ℕ × Partition) (x : Sending) → x.partition ≡ y.0 → (ys : List (ℕ × Partition)) → AllByRecursion (Differ place y) ys
-    → AllByRecursion (Differ partition_of x) (filter_map (sending_by sends s now) ys)
-differ_all now s y x e ys h =
-    all_filter_map (Differ partition_of x) (Differ place y) (sending_by sends s now) (λ z u apart is same. apart (sym e ∙ same ∙ sending_place now s z u is)) ys h
+differ_all : (node now : ℕ) (s : Core) (y : ℕ × Partition) (x : Sending) → x.partition ≡ y.0 → (ys : List (ℕ × Partition)) → AllByRecursion (Differ place y) ys
+    → AllByRecursion (Differ partition_of x) (filter_map (sending_by sends node s now) ys)
+differ_all node now s y x e ys h =
+    all_filter_map (Differ partition_of x) (Differ place y) (sending_by sends node s now) (λ z u apart is same. apart (sym e ∙ same ∙ sending_place node now s z u is)) ys h
 
-sendings_apart : (now : ℕ) (s : Core) (ys : List (ℕ × Partition)) → Apart place ys → Apart partition_of (filter_map (sending_by sends s now) ys)
-sendings_apart now s [] h = tt
-sendings_apart now s (y ∷ ys) h = at_option (sending_by sends s now y) refl (sendings_apart now s ys h.1)
+sendings_apart : (node now : ℕ) (s : Core) (ys : List (ℕ × Partition)) → Apart place ys → Apart partition_of (filter_map (sending_by sends node s now) ys)
+sendings_apart node now s [] h = tt
+sendings_apart node now s (y ∷ ys) h = at_option (sending_by sends node s now y) refl (sendings_apart node now s ys h.1)
   where
-    at_option : (o : Option Sending) → sending_by sends s now y ≡ o → Apart partition_of (filter_map (sending_by sends s now) ys)
-        → Apart partition_of (cons_option o (filter_map (sending_by sends s now) ys))
+    at_option : (o : Option Sending) → sending_by sends node s now y ≡ o → Apart partition_of (filter_map (sending_by sends node s now) ys)
+        → Apart partition_of (cons_option o (filter_map (sending_by sends node s now) ys))
     at_option None is rest = rest
-    at_option (Some x) is rest = (differ_all now s y x (sending_place now s y x is) ys h.0, rest)
+    at_option (Some x) is rest = (differ_all node now s y x (sending_place node now s y x is) ys h.0, rest)
 
 fitting_apart : (room : ℕ) (xs : List Sending) → Apart partition_of xs → Apart partition_of (fitting room xs)
 unfolding fitting
@@ -274,16 +326,16 @@ distinct : (xs : List Sending) → Apart partition_of xs → AreDistinct (partit
 distinct [] h = tt
 distinct (x ∷ xs) h = (not_among x xs h.0, distinct xs h.1)
 
-batches_apart : (now : ℕ) (s : Core) → Apart partition_of (next_batches now s)
+batches_apart : (node now : ℕ) (s : Core) → Apart partition_of (next_batches node now s)
 unfolding next_batches
-batches_apart now s =
-    let n = used_up_to s.last_used in
+batches_apart node now s =
+    let n = used_up_to node s.turns in
     let all : List (ℕ × Partition) = enumerate_from 0 s.partitions in
     let whole : Apart place (take n all ++ drop n all) = subst (Apart place) (sym (take-append-drop n all)) (places_apart 0 s.partitions) in
-    fitting_apart s.config.max_request_size (filter_map (sending_by sends s now) (in_turn s)) (sendings_apart now s (in_turn s) (apart_turned place (take n all) (drop n all) whole))
+    fitting_apart s.config.max_request_size (filter_map (sending_by sends node s now) (in_turn node s)) (sendings_apart node now s (in_turn node s) (apart_turned place (take n all) (drop n all) whole))
 
-pub demand_is_distinct : (now : ℕ) (s : Core) (xs : List Sending) → next_demand now s ≡ Some (Produce xs) → AreDistinct (partitions_in xs)
-demand_is_distinct now s xs e = distinct xs (subst (Apart partition_of) (demand_is_next now s xs e) (batches_apart now s))
+pub demand_is_distinct : (node now : ℕ) (s : Core) (xs : List Sending) → next_demand node now s ≡ Some (Produce xs) → AreDistinct (partitions_in xs)
+demand_is_distinct node now s xs e = distinct xs (subst (Apart partition_of) (demand_is_next node now s xs e) (batches_apart node now s))
 
 -- ---- the batch of a partition that a request has
 

@@ -13,12 +13,13 @@ use Rattle.kp_rules.specs.Calls as call
 use Rattle.kp_rules.specs.Closing.{close_step, end_step}
 use Rattle.kp_rules.specs.Dropping.{disconnect_step}
 use Rattle.kp_rules.specs.Flush.{flush_step}
+use Rattle.kp_rules.specs.Leading.{lead_step}
 use Rattle.kp_rules.specs.Records.{Core, Told, Called}
 use Rattle.kp_rules.specs.Replies.{Replies, ReplyNeedsMemory, awaited, reply_step}
 use Rattle.kp_rules.specs.Reports.{fetch_step}
 use Rattle.kp_rules.specs.Requesting.{Packet, Requested, request_step}
 use Rattle.kp_rules.specs.Tick.{Ticks, tick_step}
-use Rattle.kp_rules.proofs.AuditLemmas.{append_blind, request_blind, reply_blind, tick_blind, end_blind, disconnect_blind, close_blind, flush_blind, fetch_blind}
+use Rattle.kp_rules.proofs.AuditLemmas.{append_blind, request_blind, reply_blind, tick_blind, end_blind, disconnect_blind, lead_blind, close_blind, flush_blind, fetch_blind}
 
 -- ---- one call: where it leads from the core without audits, it leads from the core with them, to the same but for these
 
@@ -37,25 +38,26 @@ same_frames s (Ok (Some packet)) = refl
 same_frames s (Ok None) = refl
 same_frames s (Err e) = refl
 
-asked : (now : ℕ) (s u : Core) (answer : Result (Option Outgoing) CoreFault)
-    → (answered_as (without_audits s) (request_step now (without_audits s)).answer ≡ answer) × (u ≡ (request_step now (without_audits s)).after)
-    → (t : Core) × ((answered_as s (request_step now s).answer ≡ answer) × (t ≡ (request_step now s).after)) × (u ≡ without_audits t)
-asked now s u answer h =
-    let same = request_blind now s in
-    let answers = sym (ap (λ (c : Requested). answered_as s c.answer) same) ∙ same_frames s (request_step now (without_audits s)).answer ∙ h.0 in
-    ((request_step now s).after, (answers, refl), h.1 ∙ ap (λ (c : Requested). c.after) same)
+asked : (node now : ℕ) (s u : Core) (answer : Result (Option Outgoing) CoreFault)
+    → (answered_as (without_audits s) (request_step node now (without_audits s)).answer ≡ answer) × (u ≡ (request_step node now (without_audits s)).after)
+    → (t : Core) × ((answered_as s (request_step node now s).answer ≡ answer) × (t ≡ (request_step node now s).after)) × (u ≡ without_audits t)
+asked node now s u answer h =
+    let same = request_blind node now s in
+    let answers = sym (ap (λ (c : Requested). answered_as s c.answer) same) ∙ same_frames s (request_step node now (without_audits s)).answer ∙ h.0 in
+    ((request_step node now s).after, (answers, refl), h.1 ∙ ap (λ (c : Requested). c.after) same)
 
 pub found : (s u : Core) (x : Call) → Step (without_audits s) x u → (t : Core) × Step s x t × (u ≡ without_audits t)
 found s u (call.Append i (Err append.OutOfMemory)) step =
     (s, (subst (λ (c : Called (Result (Unit {0}) AppendFault)). IsOk c.answer) (append_blind i s) step.0, refl), step.1)
 found s u (call.Append i answer) step = gave (append_step i) (append_blind i) s u answer step
-found s u (call.Request now (Err fault.OutOfMemory)) step =
-    (s, (subst (λ (c : Requested). IsOkAnd c.answer IsSome) (request_blind now s) step.0, refl), step.1)
-found s u (call.Request now answer) step = asked now s u answer step
+found s u (call.Request node now (Err fault.OutOfMemory)) step =
+    (s, (subst (λ (c : Requested). IsOkAnd c.answer IsSome) (request_blind node now s) step.0, refl), step.1)
+found s u (call.Request node now answer) step = asked node now s u answer step
 found s u (call.Reply now content (Err fault.OutOfMemory)) step = (s, (needs_memory content s step.0, refl), step.1)
 found s u (call.Reply now content answer) step = gave (reply_step now content) (reply_blind now content) s u answer step
-found s u (call.Tick now answer) step = gave (tick_step now) (tick_blind now) s u answer step
-found s u (call.Disconnect now) step = (disconnect_step now s, refl, step ∙ disconnect_blind now s)
+found s u (call.Tick node now answer) step = gave (tick_step node now) (tick_blind node now) s u answer step
+found s u (call.Disconnect node now) step = (disconnect_step node now s, refl, step ∙ disconnect_blind node now s)
+found s u (call.Lead p leader now) step = (lead_step p leader now s, refl, step ∙ lead_blind p leader now s)
 found s u call.Close step = (close_step s, refl, step ∙ close_blind s)
 found s u call.Flush step = (flush_step s, refl, step ∙ flush_blind s)
 found s u (call.End reports) step = gave end_step end_blind s u reports step
@@ -66,23 +68,25 @@ found s u (call.Fetch sender answer) step = gave (fetch_step sender) (fetch_blin
 same_told : (s : Core) (x : Call) → told_by (without_audits s) x ≡ told_by s x
 same_told s (call.Append i (Err append.OutOfMemory)) = refl
 same_told s (call.Append i answer) = ap (λ (c : Called (Result (Unit {0}) AppendFault)). c.told) (append_blind i s)
-same_told s (call.Request now answer) = refl
+same_told s (call.Request node now answer) = refl
 same_told s (call.Reply now content (Err fault.OutOfMemory)) = refl
 same_told s (call.Reply now content answer) = ap (λ (c : Replies). c.told) (reply_blind now content s)
-same_told s (call.Tick now answer) = ap (λ (c : Ticks). c.told) (tick_blind now s)
-same_told s (call.Disconnect now) = refl
+same_told s (call.Tick node now answer) = ap (λ (c : Ticks). c.told) (tick_blind node now s)
+same_told s (call.Disconnect node now) = refl
+same_told s (call.Lead p leader now) = refl
 same_told s call.Close = refl
 same_told s call.Flush = refl
 same_told s (call.End reports) = ap (λ (c : Called ℕ). c.told) (end_blind s)
 same_told s (call.Fetch sender answer) = refl
 
 same_packets : (s : Core) (x : Call) → packets_by (without_audits s) x ≡ packets_by s x
-same_packets s (call.Request now (Ok answer)) = ap (λ (c : Requested). packet_in c.answer) (request_blind now s)
-same_packets s (call.Request now (Err e)) = refl
+same_packets s (call.Request node now (Ok answer)) = ap (λ (c : Requested). packet_in c.answer) (request_blind node now s)
+same_packets s (call.Request node now (Err e)) = refl
 same_packets s (call.Append i answer) = refl
 same_packets s (call.Reply now content answer) = refl
-same_packets s (call.Tick now answer) = refl
-same_packets s (call.Disconnect now) = refl
+same_packets s (call.Tick node now answer) = refl
+same_packets s (call.Disconnect node now) = refl
+same_packets s (call.Lead p leader now) = refl
 same_packets s call.Close = refl
 same_packets s call.Flush = refl
 same_packets s (call.End reports) = refl

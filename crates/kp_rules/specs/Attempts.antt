@@ -1,6 +1,6 @@
 -- Attempts: a batch in a request. An open batch is in flight while its last attempt awaits a reply,
 -- else it waits for a retry.
-use Rattle.std.specs.Prelude.{ℕ, Bool, true, false, List, [], length, Option, is_some, find, ◌==◌, nat_lt}
+use Rattle.std.specs.Prelude.{ℕ, Bool, true, false, List, [], length, Option, is_some, filter, find, ◌==◌, nat_lt}
 use Rattle.std.specs.List.{list_any}
 use Rattle.kp_rules.specs.declared.attempt.Attempt.TheVariants.{InFlight, Waiting}
 use Rattle.kp_rules.specs.Records.{Open, Partition, Demand, Produce, InitProducerId, Request, Core}
@@ -45,6 +45,14 @@ is_live ts r = elim r.demand [
   | InitProducerId p ↦ true
 ]
 
--- one request more may be in flight
-unfoldable pub has_window : Core → Bool
-has_window s = nat_lt (length s.requests) s.config.max_in_flight_requests_per_connection
+-- it went to this node
+abbrev pub goes_to : ℕ → Request → Bool
+goes_to node r = r.node == node
+
+-- those that are in flight to this node, of these
+abbrev pub to_node : ℕ → List Request → List Request
+to_node node requests = filter (goes_to node) requests
+
+-- one request more may be in flight to this node
+unfoldable pub has_window : ℕ → Core → Bool
+has_window node s = nat_lt (length (to_node node s.requests)) s.config.max_in_flight_requests_per_connection

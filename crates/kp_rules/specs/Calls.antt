@@ -15,6 +15,7 @@ use Rattle.kp_rules.specs.Closing.{close_step, end_step}
 use Rattle.kp_rules.specs.Dropping.{disconnect_step}
 use Rattle.kp_rules.specs.Flush.{flush_step}
 use Rattle.kp_rules.specs.Framing.{frame_of}
+use Rattle.kp_rules.specs.Leading.{lead_step}
 use Rattle.kp_rules.specs.Next.{Sending}
 use Rattle.kp_rules.specs.Replies.{reply_step, ReplyNeedsMemory}
 use Rattle.kp_rules.specs.Reports.{fetch_step}
@@ -24,10 +25,11 @@ use Rattle.kp_rules.specs.Tick.{tick_step}
 -- The calls that may change a core.
 pub data Call : Type 0 where
   Append : Item → Result (Unit {0}) AppendFault → Call
-  Request : (now : ℕ) → Result (Option Outgoing) CoreFault → Call
+  Request : (node now : ℕ) → Result (Option Outgoing) CoreFault → Call
   Reply : (now : ℕ) → (content : List ℕ) → Result Replied CoreFault → Call
-  Tick : (now : ℕ) → Ticked → Call
-  Disconnect : (now : ℕ) → Call
+  Tick : (node now : ℕ) → Ticked → Call
+  Disconnect : (node now : ℕ) → Call
+  Lead : (partition leader now : ℕ) → Call
   Close : Call
   Flush : Call
   End : (reports : ℕ) → Call
@@ -55,13 +57,14 @@ Gives called answer after = (called.answer ≡ answer) × (after ≡ called.afte
 abbrev pub Step : Core → Call → Core → Type 0
 Step s (Append i (Err append.OutOfMemory)) t = AppendNeedsMemory i s × (t ≡ s)
 Step s (Append i answer) t = Gives (append_step i s) answer t
-Step s (Request now (Err OutOfMemory)) t = RequestNeedsMemory now s × (t ≡ s)
-Step s (Request now answer) t =
-    (answered_as s (request_step now s).answer ≡ answer) × (t ≡ (request_step now s).after)
+Step s (Request node now (Err OutOfMemory)) t = RequestNeedsMemory node now s × (t ≡ s)
+Step s (Request node now answer) t =
+    (answered_as s (request_step node now s).answer ≡ answer) × (t ≡ (request_step node now s).after)
 Step s (Reply now content (Err OutOfMemory)) t = ReplyNeedsMemory content s × (t ≡ s)
 Step s (Reply now content answer) t = Gives (reply_step now content s) answer t
-Step s (Tick now answer) t = Gives (tick_step now s) answer t
-Step s (Disconnect now) t = t ≡ disconnect_step now s
+Step s (Tick node now answer) t = Gives (tick_step node now s) answer t
+Step s (Disconnect node now) t = t ≡ disconnect_step node now s
+Step s (Lead p leader now) t = t ≡ lead_step p leader now s
 Step s Close t = t ≡ close_step s
 Step s Flush t = t ≡ flush_step s
 Step s (End reports) t = Gives (end_step s) reports t
@@ -75,7 +78,7 @@ told_by s (Append i (Err append.OutOfMemory)) = []
 told_by s (Append i answer) = (append_step i s).told
 told_by s (Reply now content (Err OutOfMemory)) = []
 told_by s (Reply now content answer) = (reply_step now content s).told
-told_by s (Tick now answer) = (tick_step now s).told
+told_by s (Tick node now answer) = (tick_step node now s).told
 told_by s (End reports) = (end_step s).told
 told_by s call = []
 
@@ -90,7 +93,7 @@ packet_in (Ok (Some packet)) = packet ∷ []
 packet_in answer = []
 
 abbrev pub packets_by : Core → Call → List Packet
-packets_by s (Request now (Ok answer)) = packet_in (request_step now s).answer
+packets_by s (Request node now (Ok answer)) = packet_in (request_step node now s).answer
 packets_by s call = []
 
 -- ---- one after the other

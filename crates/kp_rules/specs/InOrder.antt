@@ -1,5 +1,5 @@
 -- What holds of every core that calls have led to: what their rules lean on.
-use Rattle.std.specs.Prelude.{◌≡◌, ℕ, ◌+◌, ◌<◌, ◌≤◌, ◌^◌, true, false, List, [], ◌∷◌, length, map, flat_map, Ok, All}
+use Rattle.std.specs.Prelude.{◌≡◌, ℕ, ◌+◌, ◌<◌, ◌≤◌, ◌^◌, true, false, List, [], ◌∷◌, length, map, flat_map, Ok, All, Contains}
 use Rattle.std.specs.List.{AllByRecursion, enumerate_from}
 use Rattle.std.specs.Str.{IsUtf8}
 use Rattle.kp_accum.specs.declared.config.Config.{Config}
@@ -9,11 +9,11 @@ use Rattle.kp_accum.specs.Queue.{size_of}
 use Rattle.kp_rules.specs.declared.attempt.Attempt.TheVariants.{InFlight, Waiting}
 use Rattle.kp_rules.specs.declared.names.Names.{Names}
 use Rattle.kp_rules.specs.Records.{Open, Partition, Request, Core}
-use Rattle.kp_rules.specs.Attempts.{partitions_of}
+use Rattle.kp_rules.specs.Attempts.{partitions_of, to_node}
 use Rattle.kp_rules.specs.Calls.{Call, Append, Reply, Life, Lives}
 use Rattle.kp_rules.specs.Held.{IsRecord}
 use Rattle.kp_rules.specs.Opening.{NAME_LIMIT, MayOpen, new_core}
-use Rattle.kp_rules.specs.Partitions.{is_in, used}
+use Rattle.kp_rules.specs.Partitions.{is_in, partition_at, used}
 
 -- ---- batches
 
@@ -55,6 +55,20 @@ AreRising (n ∷ ns) = AllByRecursion (λ m. n < m) ns × AreRising ns
 abbrev pub requests_awaited : List Open → List ℕ
 requests_awaited batches =
     flat_map (λ o. elim o.attempt [ InFlight k ↦ k ∷ [] | Waiting since ↦ [] ]) batches
+
+-- The attempt in request k is in flight: the request is, went to this node, and has a batch of this
+-- partition.
+pub record IsAwaited (requests : List Request) (leader p k : ℕ) : Type 0 where
+  pub request : Request
+  pub there : Contains requests request
+  pub named : request.correlation ≡ k
+  pub at : request.node ≡ leader
+  pub has : is_in p (partitions_of request.demand) ≡ true
+
+-- the attempts of a partition that are in flight are so at its leader
+abbrev pub AreAwaited : List Request → ℕ → Partition → Type 0
+AreAwaited requests p t =
+    AllByRecursion (IsAwaited requests t.leader p) (requests_awaited t.open_batches)
 
 -- nothing is queued or open
 pub record IsEmptied (t : Partition) : Type 0 where
@@ -100,7 +114,9 @@ pub record IsInOrder (s : Core) : Type 0 where
       (enumerate_from 0 s.partitions)
   pub requests : AllByRecursion (IsRequest (length s.partitions) s.correlation) s.requests
   pub correlations : AreDistinct (map (λ r. r.correlation) s.requests)
-  pub window : length s.requests ≤ s.config.max_in_flight_requests_per_connection
+  pub window :
+      (node : ℕ) → length (to_node node s.requests) ≤ s.config.max_in_flight_requests_per_connection
+  pub awaited : (p : ℕ) → AreAwaited s.requests p (partition_at p s.partitions)
   pub memory : used s ≤ s.config.buffer_memory
   pub nothing_left : s.ended ≡ true → AllByRecursion IsEmptied s.partitions
   pub nothing_in_flight : s.ended ≡ true → s.requests ≡ []

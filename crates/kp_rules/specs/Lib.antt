@@ -2,6 +2,7 @@ pub mod Records
 pub mod Partitions
 pub mod Attempts
 pub mod Dropping
+pub mod Leading
 pub mod Reports
 pub mod Telling
 pub mod Flush

@@ -24,13 +24,13 @@ use Rattle.kp_rules.specs.Tick.{is_open_late, tick_step}
 
 pub data Telling : Type 0 where
   Append : Item → Telling
-  Tick : (now : ℕ) → Telling
+  Tick : (node now : ℕ) → Telling
   Reply : (now : ℕ) → Response → Telling
   End : Telling
 
 abbrev pub told_in : Core → Telling → List Told
 told_in s (Append i) = (append_step i s).told
-told_in s (Tick now) = (tick_step now s).told
+told_in s (Tick node now) = (tick_step node now s).told
 told_in s (Reply now response) = (response_step now response s).told
 told_in s End = (end_step s).told
 
@@ -41,7 +41,7 @@ IsLate s now p =
     list_any (is_open_late s.config now) (partition_at p s.partitions).open_batches ≡ true
 
 abbrev pub Fences : Core → Telling → ℕ → Type 0
-Fences s (Tick now) p = IsLate s now p
+Fences s (Tick node now) p = IsLate s now p
 Fences s (Reply now response) p = RejectsIn s response p
 Fences s call p = ⊥
 
@@ -54,7 +54,7 @@ pub record IsOpenBeside (k : ℕ) (t : Partition) (i : Item) : Type 0 where
 
 abbrev pub TellsUnknown : Core → Telling → Item → Type 0
 TellsUnknown s (Append j) i = ⊥
-TellsUnknown s (Tick now) i = (p : ℕ) × IsLate s now p × IsOpenIn (partition_at p s.partitions) i
+TellsUnknown s (Tick node now) i = (p : ℕ) × IsLate s now p × IsOpenIn (partition_at p s.partitions) i
 TellsUnknown s (Reply now response) i =
     (p : ℕ) × (rejected : RejectsIn s response p)
     × IsOpenBeside rejected.answered.correlation (partition_at p s.partitions) i
@@ -71,7 +71,7 @@ TellsEnded s End i = (p : ℕ) × IsQueuedIn (partition_at p s.partitions) i
 TellsEnded s call i = ⊥
 
 abbrev pub TellsExpired : Core → Telling → Item → Type 0
-TellsExpired s (Tick now) i = (p : ℕ) × ExpiresIn s.config now (partition_at p s.partitions) i
+TellsExpired s (Tick node now) i = (p : ℕ) × ExpiresIn s.config now (partition_at p s.partitions) i
 TellsExpired s call i = ⊥
 
 -- The reply settles the item's batch by this verdict, and what is told fits its answer.
@@ -103,7 +103,7 @@ MayTell s call i (Unsent Ended) = TellsEnded s call i
 
 abbrev pub IsTelling : Call → Telling → Type 0
 IsTelling (call.Append i answer) x = x ≡ Append i
-IsTelling (call.Tick now answer) x = x ≡ Tick now
+IsTelling (call.Tick node now answer) x = x ≡ Tick node now
 IsTelling (call.Reply now content answer) x =
     (api : Api) × (response : Response) × Spells api content response × (x ≡ Reply now response)
 IsTelling (call.End reports) x = x ≡ End

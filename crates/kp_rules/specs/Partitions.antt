@@ -14,9 +14,10 @@ is_in p ps = list_any (λ q. q == p) ps
 
 -- ---- one partition
 
--- a partition of which nothing was ever sent, with its first producer id
+-- a partition of which nothing was ever sent, with its first producer id; node 0 leads it
 abbrev pub new_partition : ℕ → Partition
 new_partition id = record {
+  leader = 0;
   queue = [];
   open_batches = [];
   ids = id ∷ [];
@@ -27,6 +28,10 @@ new_partition id = record {
   fenced = false;
   audit = Some [];
 }
+
+-- its batches go to this node
+abbrev pub leads : ℕ → Partition → Bool
+leads node t = t.leader == node
 
 -- the producer id under which its next batch goes out
 abbrev pub present_id : Partition → ℕ

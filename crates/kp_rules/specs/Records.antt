@@ -29,6 +29,7 @@ pub record Open : Type 0 where
 -- ---- the core
 
 pub record Partition : Type 0 where
+  pub leader : ℕ  -- the node that its batches go to
   pub queue : List Pending  -- the batches not yet handed over, oldest first
   pub open_batches : List Open  -- oldest first
   pub ids : List ℕ  -- its producer ids, the present one last
@@ -47,8 +48,14 @@ pub data Demand (A : Type 0) : Type 0 where
 -- A request in flight. Of batches it has the partitions, in its order.
 pub record Request : Type 0 where
   pub correlation : ℕ
+  pub node : ℕ  -- the node that it went to
   pub sent : ℕ  -- the moment at which it went out
   pub demand : Demand ℕ
+
+-- Where the turn of the partitions of a node begins.
+pub record Turn : Type 0 where
+  pub node : ℕ
+  pub last_used : ℕ  -- the partition whose batch was the last to go out to the node
 
 pub record Core : Type 0 where
   pub config : Config
@@ -57,7 +64,7 @@ pub record Core : Type 0 where
   pub requests : List Request  -- those in flight, oldest first
   pub id_waits : Option ℕ  -- the moment at which an id was refused, or its request dropped
   pub correlation : ℕ  -- the next request's
-  pub last_used : Option ℕ  -- the partition whose batch was the last to go out
+  pub turns : List Turn  -- of the nodes that batches went out to, the last one last
   pub exhausted : Bool  -- an append was refused for want of buffer memory; none was given back since
   pub closing : Bool
   pub ended : Bool

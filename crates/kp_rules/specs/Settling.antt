@@ -18,9 +18,9 @@ use Rattle.kp_rules.specs.Fence.{fence}
 -- ---- what a code means
 
 -- corrupt message, unknown topic or partition, leader not available, not leader, request timed out,
--- not enough replicas, not enough replicas after append, out of order sequence number
+-- not enough replicas, not enough replicas after append, out of order sequence number, storage error
 abbrev pub retried_codes : List ℤ
-retried_codes = pos 2 ∷ pos 3 ∷ pos 5 ∷ pos 6 ∷ pos 7 ∷ pos 19 ∷ pos 20 ∷ pos 45 ∷ []
+retried_codes = pos 2 ∷ pos 3 ∷ pos 5 ∷ pos 6 ∷ pos 7 ∷ pos 19 ∷ pos 20 ∷ pos 45 ∷ pos 56 ∷ []
 
 -- none, and duplicate sequence number: the batch stands in the log
 unfoldable pub meaning_of : ℤ → Meaning

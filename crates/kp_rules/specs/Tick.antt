@@ -1,7 +1,7 @@
 -- What the time does: requests time out, and batches are given up (request.timeout.ms and
 -- delivery.timeout.ms of Kafka's documentation; that a batch which was sent fences its partition at
 -- its deadline is this producer's own rule).
-use Rattle.std.specs.Prelude.{ℕ, Bool, true, false, List, [], ◌∷◌, if◌then◌else◌}
+use Rattle.std.specs.Prelude.{ℕ, Bool, true, false, List, [], ◌∷◌, ◌&&◌, if◌then◌else◌}
 use Rattle.std.specs.List.{list_any}
 use Rattle.kp_accum.specs.declared.config.Config.{Config}
 use Rattle.kp_accum.specs.Queue.{Pending}
@@ -11,15 +11,17 @@ use Rattle.kp_rules.specs.declared.outcome.Reason.TheVariants.{Expired}
 use Rattle.kp_rules.specs.declared.ticked.Ticked.{Ticked}
 use Rattle.kp_rules.specs.Records.{Open, Partition, Core, Effect, Called, quietly}
 use Rattle.kp_rules.specs.Partitions.{items_queued}
+use Rattle.kp_rules.specs.Attempts.{goes_to}
 use Rattle.kp_rules.specs.Dropping.{drop_requests}
 use Rattle.kp_rules.specs.Telling.{told_all, at_each}
 use Rattle.kp_rules.specs.Fence.{fence}
 
 -- ---- requests
 
--- a request in flight has waited for request.timeout.ms
-unfoldable pub has_timed_out : ℕ → Core → Bool
-has_timed_out now s = list_any (λ r. is_over r.sent s.config.request_timeout_ms now) s.requests
+-- a request in flight to this node has waited for request.timeout.ms
+unfoldable pub has_timed_out : ℕ → ℕ → Core → Bool
+has_timed_out node now s =
+    list_any (λ r. goes_to node r && is_over r.sent s.config.request_timeout_ms now) s.requests
 
 -- ---- one partition
 
@@ -67,15 +69,15 @@ tick_partitions rule now reconnect s =
       answer = record { reports = made.answer; reconnect = reconnect };
     }
 
--- First, where a request has timed out, all attempts are dropped; then each partition, upwards.
--- After the end nothing happens.
-abbrev pub tick_by : TickRule → ℕ → Core → Ticks
-tick_by rule now s =
+-- First, where a request to this node has timed out, all attempts there are dropped; then each
+-- partition, upwards. After the end nothing happens.
+abbrev pub tick_by : TickRule → ℕ → ℕ → Core → Ticks
+tick_by rule node now s =
     if s.ended then quietly s (record { reports = 0; reconnect = false })
-    else if has_timed_out now s then tick_partitions rule now true (drop_requests now s)
+    else if has_timed_out node now s then tick_partitions rule now true (drop_requests node now s)
     else tick_partitions rule now false s
 
 -- ---- the core
 
-unfoldable pub tick_step : ℕ → Core → Ticks
-tick_step now s = tick_by heed_deadlines now s
+unfoldable pub tick_step : ℕ → ℕ → Core → Ticks
+tick_step node now s = tick_by heed_deadlines node now s

@@ -4,6 +4,7 @@
 
 pub mod account_laws;
 mod attempt;
+mod error_code;
 mod fault;
 pub mod laws;
 pub mod life_laws;
@@ -18,6 +19,7 @@ pub mod telling_laws;
 mod ticked;
 
 pub use attempt::Attempt;
+pub use error_code::{ErrorCode, meaning_of};
 pub use fault::CoreFault;
 pub use meaning::Meaning;
 pub use names::Names;

@@ -15,9 +15,9 @@ ghost use Rattle.kp_rules.specs.declared.names.Names.{Names};
 /// that fits a frame. So where a request is to go out (`RequestNeedsMemory`), want of memory is the only reason why no
 /// frame is written.
 pub fn a_request_always_fits()
-    ensures { (now : ℕ) (s : Core) (packet : Packet)
+    ensures { (node now : ℕ) (s : Core) (packet : Packet)
         → IsInOrder s
-        → (request_step now s).answer ≡ Ok (Some packet)
+        → (request_step node now s).answer ≡ Ok (Some packet)
         → FitsPacket s.config s.names packet }
 {}
 

@@ -14,6 +14,7 @@ ghost use Rattle.kp_rules.specs.Dropping.{disconnect_step};
 ghost use Rattle.kp_rules.specs.Fetched.{with_fetched, after_fetched};
 ghost use Rattle.kp_rules.specs.Flush.{flush_step};
 ghost use Rattle.kp_rules.specs.InOrder.{IsHeld};
+ghost use Rattle.kp_rules.specs.Leading.{lead_step};
 ghost use Rattle.kp_rules.specs.OutcomeRule.{MayBeToldBy, IsFencedBy};
 ghost use Rattle.kp_rules.specs.Partitions.{partition_at, all_untold, used};
 ghost use Rattle.kp_rules.specs.Records.{Core};
@@ -26,16 +27,18 @@ ghost use Rattle.kp_rules.specs.Tick.{tick_step};
 pub fn reports_are_only_added_to()
     ensures append { (earlier : List (List Report)) (i : Item) (s : Core) →
         append_step i (with_fetched earlier s) ≡ after_fetched earlier (append_step i s) }
-    ensures request { (earlier : List (List Report)) (now : ℕ) (s : Core) →
-        request_step now (with_fetched earlier s) ≡ after_fetched earlier (request_step now s) }
+    ensures request { (earlier : List (List Report)) (node now : ℕ) (s : Core) →
+        request_step node now (with_fetched earlier s) ≡ after_fetched earlier (request_step node now s) }
     ensures response { (earlier : List (List Report)) (now : ℕ) (response : Response) (s : Core) →
         response_step now response (with_fetched earlier s) ≡ after_fetched earlier (response_step now response s) }
     ensures reply { (earlier : List (List Report)) (now : ℕ) (content : List ℕ) (s : Core) →
         reply_step now content (with_fetched earlier s) ≡ after_fetched earlier (reply_step now content s) }
-    ensures tick { (earlier : List (List Report)) (now : ℕ) (s : Core) →
-        tick_step now (with_fetched earlier s) ≡ after_fetched earlier (tick_step now s) }
-    ensures disconnect { (earlier : List (List Report)) (now : ℕ) (s : Core) →
-        disconnect_step now (with_fetched earlier s) ≡ with_fetched earlier (disconnect_step now s) }
+    ensures tick { (earlier : List (List Report)) (node now : ℕ) (s : Core) →
+        tick_step node now (with_fetched earlier s) ≡ after_fetched earlier (tick_step node now s) }
+    ensures disconnect { (earlier : List (List Report)) (node now : ℕ) (s : Core) →
+        disconnect_step node now (with_fetched earlier s) ≡ with_fetched earlier (disconnect_step node now s) }
+    ensures lead { (earlier : List (List Report)) (partition leader now : ℕ) (s : Core) →
+        lead_step partition leader now (with_fetched earlier s) ≡ with_fetched earlier (lead_step partition leader now s) }
     ensures close { (earlier : List (List Report)) (s : Core) →
         close_step (with_fetched earlier s) ≡ with_fetched earlier (close_step s) }
     ensures flush { (earlier : List (List Report)) (s : Core) →

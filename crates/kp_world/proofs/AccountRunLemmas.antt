@@ -8,6 +8,7 @@ use Rattle.kp_accum.specs.declared.item.Item.{Item}
 use Rattle.kp_frames.specs.declared.response.Response.{Response}
 use Rattle.kp_log.proofs.PlaceLemmas.{In, In-head, In-tail}
 use Rattle.kp_rules.proofs.CallLemmas.{at_append}
+use Rattle.kp_rules.specs.Leading.{lead_step}
 use Rattle.kp_rules.specs.Closing.{close_step, end_step}
 use Rattle.kp_rules.specs.Flush.{flush_step}
 use Rattle.kp_rules.specs.Replies.{response_step}
@@ -47,7 +48,7 @@ use Rattle.kp_world.proofs.ListLemmas.{all_alike, all_at, all_in, in_at}
 use Rattle.kp_world.proofs.WeightLemmas.{weigh, weigh_flat, weigh_none}
 use Rattle.kp_world.proofs.HandingLemmas.{accounts_sending}
 use Rattle.kp_world.proofs.TakingLemmas.{NextOf, next_of, accounts_accepted, accounts_turned_away, accounts_queued}
-use Rattle.kp_world.proofs.TellingLemmas.{IsSingle, core_alike, core_ticked, core_ended, core_flushed, core_disconnected, core_closed, core_unaudited, core_replied, home_past}
+use Rattle.kp_world.proofs.TellingLemmas.{IsSingle, core_alike, core_ticked, core_ended, core_flushed, core_disconnected, core_closed, core_unaudited, core_replied, home_past, core_led}
 
 -- ---- the producer's events
 
@@ -110,12 +111,13 @@ accounts_event n w g a = record {
   none_taken = λ s none. accounts_only w.core (Empty s ∷ []) w a;
   taken = λ s i here there. accounts_taken s i w here there a;
   now = λ moment. accounts_only w.core [] (record w { moment = moment }) a;
-  tick = accounts_call (tick_step w.moment w.core).after _ (tick_step w.moment w.core).told w a (core_ticked w.moment w.core a.home);
-  send = accounts_sending n w g a;
+  tick = λ node. accounts_call (tick_step node w.moment w.core).after _ (tick_step node w.moment w.core).told w a (core_ticked node w.moment w.core a.home);
+  send = λ node. accounts_sending n node w g a;
   reply = λ j r there.
       let step = response_step w.moment r.response w.core in
       accounts_call step.after (reply_line j step.answer) step.told w a (core_replied w.moment r.response w.core (is_single n w r g (in_at w.replies j r there)) a.requests a.home);
-  lost = accounts_call (disconnect_step w.moment w.core) [] [] w a (core_disconnected w.moment w.core);
+  lost = λ node. accounts_call (disconnect_step node w.moment w.core) [] [] w a (core_disconnected node w.moment w.core);
+  led = λ p node. accounts_call (lead_step p node w.moment w.core) [] [] w a (core_led p node w.moment w.core);
   close = accounts_call (close_step w.core) [] [] (record w { is_shut = true }) a (core_closed w.core);
   end = accounts_call (end_step w.core).after [] (end_step w.core).told w a (core_ended w.core a.home);
   flush = accounts_call (flush_step w.core) (flush_line w.core ∷ []) [] w a (core_flushed w.core);

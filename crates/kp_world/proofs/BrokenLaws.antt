@@ -203,7 +203,7 @@ none_delivered s (Some c) t offset still is h = at_call c (subst (MayTell s c t.
   where
     at_call : (call : Telling) → MayTell s call t.item (Delivered offset) → ⊥
     at_call (Append i) m = m
-    at_call (Tick now) m = m
+    at_call (Tick node now) m = m
     at_call (ToReply now response) m =
         let o = m.0.batch in
         let place = m.0.answered.is_open in

@@ -1,5 +1,6 @@
 -- What a rule does to the items of a partition: it tells some of those that were not told, and keeps
 -- the others in order.
+use Rattle.kp_rules.proofs.CallLemmas.{at_led, at_moved}
 use Rattle.std.proofs.Common.{◌≡◌, ℕ, ◌+◌, ◌≤◌, Bool, true, false, not, cond, List, [], ◌∷◌, ◌++◌, map, pos, Some, None, refl, sym, ap, ◌∙◌, subst, arith, append_assoc}
 use Rattle.std.specs.Prelude.{Option, if◌then◌else◌, find, ◌+ℤ◌}
 use Rattle.std.specs.List.{AllByRecursion, filter, list_any, enumerate_from}
@@ -11,6 +12,7 @@ use Rattle.kp_accum.specs.Queue.{Pending, marked_by_flush}
 use Rattle.kp_accum.specs.Ready.{is_late}
 use Rattle.kp_frames.specs.declared.produce.PartitionProduceResponse.{PartitionProduceResponse}
 use Rattle.kp_rules.proofs.OutcomeLemmas.{by_attempt}
+use Rattle.kp_rules.specs.Leading.{moved_to, led_by}
 use Rattle.kp_rules.specs.Fence.{fence, give_up}
 use Rattle.kp_rules.specs.Tick.{heed_deadlines}
 use Rattle.kp_rules.specs.declared.outcome.Outcome.{Outcome}
@@ -20,7 +22,7 @@ use Rattle.kp_rules.specs.declared.outcome.Reason.TheVariants as reason
 use Rattle.kp_rules.specs.declared.meaning.Meaning.{Meaning}
 use Rattle.kp_rules.specs.declared.meaning.Meaning.TheVariants.{Stored, Duplicate, Retry, Reject}
 use Rattle.kp_rules.specs.Attempts.{awaits, awaiting}
-use Rattle.kp_rules.specs.Dropping.{drop_attempt, drop_attempts}
+use Rattle.kp_rules.specs.Dropping.{drop_attempt, drop_attempts, drop_led}
 use Rattle.kp_rules.specs.Flush.{mark_open, mark}
 use Rattle.kp_rules.specs.Partitions.{items_open, items_queued, untold}
 use Rattle.kp_rules.specs.Records.{HandedBatch, Open, Partition, Told}
@@ -151,6 +153,14 @@ pub tells_dropped : (now : ℕ) (t : Partition) → Tells t [] (drop_attempts no
 unfolding untold
 tells_dropped now t =
     tells_same t (drop_attempts now t) refl (ap (λ r. r ++ items_queued t.queue) (open_map (drop_attempt now) (λ o. refl) t.open_batches))
+
+pub tells_led : (node now : ℕ) (t : Partition) → Tells t [] (drop_led node now t)
+tells_led node now t = at_led (Tells t []) node now t (tells_dropped now t) (tells_nothing t)
+
+pub tells_lead : (leader now : ℕ) (t : Partition) → Tells t [] (led_by leader now t)
+unfolding untold
+tells_lead leader now t = at_moved (Tells t []) leader now t (tells_nothing t)
+    (tells_same t (moved_to leader now t) refl (ap (λ r. r ++ items_queued t.queue) (open_map (drop_attempt now) (λ o. refl) t.open_batches)))
 
 queued_map : (q : List Pending) → items_queued (map marked_by_flush q) ≡ items_queued q
 queued_map [] = refl

@@ -162,7 +162,7 @@ no_duplicate n w r i g given s =
 by_reply : (P : Core → Response → Item → Type 0) (w : World) (i : Item) (c : Telling) → IsMade w c → TellsBy P w.core c i → (r : Reply) × In r w.replies × P w.core r.response i
 by_reply P w i (call.Reply now response) made k = (made.0, made.1, subst (λ (x : Response). P w.core x i) made.2 k)
 by_reply P w i (call.Append j) made k = absurd k
-by_reply P w i (call.Tick now) made k = absurd k
+by_reply P w i (call.Tick node now) made k = absurd k
 by_reply P w i call.End made k = absurd k
 
 pub truly_told : (n : ℕ) (w : World) (t : Told) → IsLawful n w → IsAccounted w → MayBeToldIn w t → Truly n w.handed w.logs t

@@ -7,6 +7,7 @@ use Rattle.kp_accum.specs.declared.fault.AppendFault.{AppendFault}
 use Rattle.kp_accum.specs.declared.item.Item.{Item}
 use Rattle.kp_frames.specs.declared.response.Response.{Response}
 use Rattle.kp_log.specs.declared.stored.Stored.{Stored}
+use Rattle.kp_rules.specs.Leading.{lead_step}
 use Rattle.kp_rules.specs.Flush.{flush_step}
 use Rattle.kp_rules.specs.Replies.{response_step}
 use Rattle.kp_rules.specs.Requesting.{request_step}
@@ -55,11 +56,12 @@ pub record OfEvent (P : WorldEvent → World → Type 0) (w : World) : Type 0 wh
   pub none_taken : (s : ℕ) → slice_get (accepted_by s w) (taken_by s w) ≡ None → P (event.Take s) (only_noted (Empty s ∷ []) w)
   pub taken : (s : ℕ) (i : Item) → s < length w.accepted → slice_get (accepted_by s w) (taken_by s w) ≡ Some i → P (event.Take s) (taking s (Some i) w)
   pub now : (moment : ℕ) → P (event.Now moment) (only_noted [] (record w { moment = moment }))
-  pub tick : P event.Tick (ticking w)
-  pub send : let step = request_step w.moment w.core in P event.Send (sending w step.after step.answer)
+  pub tick : (node : ℕ) → P (event.Tick node) (ticking node w)
+  pub send : (node : ℕ) → let step = request_step node w.moment w.core in P (event.Send node) (sending w step.after step.answer)
   pub reply : (j : ℕ) (r : Reply) → slice_get w.replies j ≡ Some r
       → let step = response_step w.moment r.response w.core in P (event.Reply j) (noted step.after (reply_line j step.answer) step.told w)
-  pub lost : P event.Drop (noted (disconnect_step w.moment w.core) [] [] w)
+  pub lost : (node : ℕ) → P (event.Drop node) (noted (disconnect_step node w.moment w.core) [] [] w)
+  pub led : (p node : ℕ) → P (event.Lead p node) (noted (lead_step p node w.moment w.core) [] [] w)
   pub close : P event.Close (closing w)
   pub end : P event.End (ending w)
   pub flush : P event.Flush (noted (flush_step w.core) (flush_line w.core ∷ []) [] w)
@@ -95,14 +97,15 @@ at_client P w c (event.Take s) v e =
     at_item None is l = c.none_taken s is
     at_item (Some i) is l = c.taken s i l is
 at_client P w c (event.Now moment) v e = at_some (P (event.Now moment)) _ v e (c.now moment)
-at_client P w c event.Tick v e = at_some (P event.Tick) _ v e c.tick
-at_client P w c event.Send v e = at_some (P event.Send) _ v e c.send
+at_client P w c (event.Tick node) v e = at_some (P (event.Tick node)) _ v e (c.tick node)
+at_client P w c (event.Send node) v e = at_some (P (event.Send node)) _ v e (c.send node)
 at_client P w c (event.Reply j) v e = at_reply (slice_get w.replies j) refl e
   where
     at_reply : (o : Option Reply) → slice_get w.replies j ≡ o → replying j o w ≡ Some v → P (event.Reply j) v
     at_reply None is e' = absurd cc
     at_reply (Some r) is e' = at_some (P (event.Reply j)) _ v e' (c.reply j r is)
-at_client P w c event.Drop v e = at_some (P event.Drop) _ v e c.lost
+at_client P w c (event.Drop node) v e = at_some (P (event.Drop node)) _ v e (c.lost node)
+at_client P w c (event.Lead p node) v e = at_some (P (event.Lead p node)) _ v e (c.led p node)
 at_client P w c event.Close v e = at_some (P event.Close) _ v e c.close
 at_client P w c event.End v e = at_some (P event.End) _ v e c.end
 at_client P w c event.Flush v e = at_some (P event.Flush) _ v e c.flush
@@ -123,10 +126,11 @@ at_step P w c (event.Other p records) v e = at_only_if (P (event.Other p records
 at_step P w c (event.Accept s p at body) v e = at_client P w c.client (event.Accept s p at body) v e
 at_step P w c (event.Take s) v e = at_client P w c.client (event.Take s) v e
 at_step P w c (event.Now moment) v e = at_client P w c.client (event.Now moment) v e
-at_step P w c event.Tick v e = at_client P w c.client event.Tick v e
-at_step P w c event.Send v e = at_client P w c.client event.Send v e
+at_step P w c (event.Tick node) v e = at_client P w c.client (event.Tick node) v e
+at_step P w c (event.Send node) v e = at_client P w c.client (event.Send node) v e
 at_step P w c (event.Reply j) v e = at_client P w c.client (event.Reply j) v e
-at_step P w c event.Drop v e = at_client P w c.client event.Drop v e
+at_step P w c (event.Drop node) v e = at_client P w c.client (event.Drop node) v e
+at_step P w c (event.Lead p node) v e = at_client P w c.client (event.Lead p node) v e
 at_step P w c event.Close v e = at_client P w c.client event.Close v e
 at_step P w c event.End v e = at_client P w c.client event.End v e
 at_step P w c event.Flush v e = at_client P w c.client event.Flush v e

@@ -18,10 +18,11 @@ use Rattle.kp_rules.proofs.ListLemmas.{at_put}
 use Rattle.kp_rules.proofs.OutcomeLemmas.{answered_so, in_flight}
 use Rattle.kp_rules.proofs.PartitionLemmas.{at_changed}
 use Rattle.kp_rules.proofs.SendingLemmas.{demand_is_sent}
+use Rattle.kp_rules.specs.Leading.{led_by, lead_step}
 use Rattle.kp_rules.specs.declared.outcome.Reason.TheVariants as reason
 use Rattle.kp_rules.specs.Appending.{Appends, append_step, enqueue}
 use Rattle.kp_rules.specs.Closing.{close_step, end_step}
-use Rattle.kp_rules.specs.Dropping.{drop_attempts, drop_requests, disconnect_step}
+use Rattle.kp_rules.specs.Dropping.{drop_requests, disconnect_step, drop_led}
 use Rattle.kp_rules.specs.Fence.{give_up}
 use Rattle.kp_rules.specs.Flush.{mark, flush_step}
 use Rattle.kp_rules.specs.HandingOver.{hand_over_in, send_in}
@@ -49,7 +50,7 @@ use Rattle.kp_world.specs.World.{Reply, World, Happened, Id as GivenId}
 use Rattle.kp_world.proofs.AccountLemmas.{told_noted}
 use Rattle.kp_world.proofs.AccountRunLemmas.{IsInOrder, is_single}
 use Rattle.kp_world.proofs.EventLemmas.{at_taken, OfEvent, at_step}
-use Rattle.kp_world.proofs.FaringLemmas.{in_flat, Fares, fares_more, fares_same, fares_then, fares_dropped, fares_marked, fares_queued, fares_given_up, fares_passed, passed_alike, fares_entries, fares_again}
+use Rattle.kp_world.proofs.FaringLemmas.{in_flat, Fares, fares_more, fares_same, fares_then, fares_marked, fares_queued, fares_given_up, fares_passed, passed_alike, fares_entries, fares_again, fares_led, fares_lead}
 use Rattle.kp_world.proofs.HearingLemmas.{id_heard}
 use Rattle.kp_world.proofs.LawfulLemmas.{IsLawful, GoesAgain, GoesFirst, sends_cases}
 use Rattle.kp_world.proofs.ListLemmas.{in_at}
@@ -80,9 +81,9 @@ core_mapped f k s s' e = record {
   each = λ p l. subst (Fares (at p s) []) (sym (ap (partition_at p) e ∙ get_or-map f s.partitions p (new_partition 0) (new_partition 0) l)) (k (at p s));
 }
 
-core_dropped : (now : ℕ) (s : Core) → CoreFares s [] (drop_requests now s)
+core_dropped : (node now : ℕ) (s : Core) → CoreFares s [] (drop_requests node now s)
 unfolding drop_requests
-core_dropped now s = core_mapped (drop_attempts now) (fares_dropped now) s (drop_requests now s) refl
+core_dropped node now s = core_mapped (drop_led node now) (fares_led node now) s (drop_requests node now s) refl
 
 core_flushed : (s : Core) → CoreFares s [] (flush_step s)
 unfolding flush_step
@@ -115,8 +116,19 @@ fares_these ps rule s p k =
 core_ended : (s : Core) → CoreFares s (end_step s).told (end_step s).after
 core_ended s = at_end_step (λ (x : Called ℕ). CoreFares s x.told x.after) s (core_alike s [] s refl) (let k = core_each (give_up reason.Ended) (fares_given_up reason.Ended) s in record { count = k.count; each = k.each })
 
-core_disconnected : (now : ℕ) (s : Core) → CoreFares s [] (disconnect_step now s)
-core_disconnected now s = at_disconnect (CoreFares s []) now s (core_alike s [] s refl) (core_dropped now s)
+core_disconnected : (node now : ℕ) (s : Core) → CoreFares s [] (disconnect_step node now s)
+core_disconnected node now s = at_disconnect (CoreFares s []) node now s (core_alike s [] s refl) (core_dropped node now s)
+
+core_led : (p leader now : ℕ) (s : Core) → CoreFares s [] (lead_step p leader now s)
+unfolding lead_step
+core_led p leader now s = record {
+  count = length-set s.partitions p moved;
+  each = λ q l. at_put (Fares (at q s) []) s.partitions p q moved (new_partition 0)
+      (λ same. subst (λ (n : ℕ). Fares (at n s) [] moved) (sym same) (fares_lead leader now (at p s))) (fares_same (at q s) []);
+}
+  where
+    moved : Partition
+    moved = led_by leader now (at p s)
 
 core_closed : (s : Core) → CoreFares s [] (close_step s)
 core_closed s = at_close (CoreFares s []) s (core_alike s [] s refl) (core_alike s [] (record s { closing = true }) refl)
@@ -126,21 +138,21 @@ heed_alike : (c : Config) (now : ℕ) (s : Core) (p : ℕ) → p < length s.part
 unfolding at_each with_partitions
 heed_alike c now s p l = ap (λ (t : Partition). t.acknowledged) (get_or-map (λ t. (heed_deadlines c now t).after) s.partitions p (new_partition 0) (new_partition 0) l) ∙ passed_alike c now (at p s)
 
-core_ticked : (now : ℕ) (s : Core) → CoreFares s (tick_step now s).told (tick_step now s).after
-core_ticked now s = at_tick (λ (x : Ticks). CoreFares s x.told x.after) now s (record {
+core_ticked : (node now : ℕ) (s : Core) → CoreFares s (tick_step node now s).told (tick_step node now s).after
+core_ticked node now s = at_tick (λ (x : Ticks). CoreFares s x.told x.after) node now s (record {
   ended = core_alike s [] s refl;
-  timed_out = passed_late (core_dropped now s) (core_each (heed_deadlines (drop_requests now s).config now) (fares_passed (drop_requests now s).config now) (drop_requests now s));
+  timed_out = passed_late (core_dropped node now s) (core_each (heed_deadlines (drop_requests node now s).config now) (fares_passed (drop_requests node now s).config now) (drop_requests node now s));
   on_time = core_each (heed_deadlines s.config now) (fares_passed s.config now) s;
 })
   where
-    passed_late : CoreFares s [] (drop_requests now s) → CoreFares (drop_requests now s) (tick_partitions heed_deadlines now true (drop_requests now s)).told (tick_partitions heed_deadlines now true (drop_requests now s)).after
-        → CoreFares s (tick_partitions heed_deadlines now true (drop_requests now s)).told (tick_partitions heed_deadlines now true (drop_requests now s)).after
+    passed_late : CoreFares s [] (drop_requests node now s) → CoreFares (drop_requests node now s) (tick_partitions heed_deadlines now true (drop_requests node now s)).told (tick_partitions heed_deadlines now true (drop_requests node now s)).after
+        → CoreFares s (tick_partitions heed_deadlines now true (drop_requests node now s)).told (tick_partitions heed_deadlines now true (drop_requests node now s)).after
     passed_late first second = record {
       count = second.count ∙ first.count;
       each = λ p l.
-          let here : p < length (drop_requests now s).partitions = subst (λ (n : ℕ). p < n) (sym first.count) l in
-          fares_then (at p s) (at p (drop_requests now s)) (at p (tick_partitions heed_deadlines now true (drop_requests now s)).after) [] (tick_partitions heed_deadlines now true (drop_requests now s)).told
-          (first.each p l) (heed_alike (drop_requests now s).config now (drop_requests now s) p here) (second.each p here);
+          let here : p < length (drop_requests node now s).partitions = subst (λ (n : ℕ). p < n) (sym first.count) l in
+          fares_then (at p s) (at p (drop_requests node now s)) (at p (tick_partitions heed_deadlines now true (drop_requests node now s)).after) [] (tick_partitions heed_deadlines now true (drop_requests node now s)).told
+          (first.each p l) (heed_alike (drop_requests node now s).config now (drop_requests node now s) p here) (second.each p here);
     }
 
 core_appended : (i : Item) (s : Core) → CoreFares s (append_step i s).told (append_step i s).after
@@ -288,31 +300,31 @@ sends_first : (k : ℕ) (c : Config) (t : Partition) (handed : List HandedBatch)
 sends_first k c t handed b n a =
     inr (a.front, a.queue, a.queue_is, a.confirmed, a.after_is, grown_new b handed (ap (λ (x : HandedBatch). x.number) a.batch ∙ n) ∙ ap (λ (x : HandedBatch). handed ++ x ∷ []) a.batch)
 
-part_sent : (n p : ℕ) (w : World) → IsLawful n w → p < n → PartStep event.Send w (sending w (request_step w.moment w.core).after (request_step w.moment w.core).answer) p
+part_sent : (n p node : ℕ) (w : World) → IsLawful n w → p < n → PartStep (event.Send node) w (sending w (request_step node w.moment w.core).after (request_step node w.moment w.core).answer) p
 unfolding noted
-part_sent n p w g l =
-    at_request (λ (r : Requested). PartStep event.Send w (sending w r.after r.answer) p) w.moment w.core (record {
-      ended = as_it_was event.Send p w _ refl refl (none_told w.past _ _);
-      idle = as_it_was event.Send p w _ refl refl (none_told w.past _ _);
-      spent = as_it_was event.Send p w _ refl refl (none_told w.past _ _);
+part_sent n p node w g l =
+    at_request (λ (r : Requested). PartStep (event.Send node) w (sending w r.after r.answer) p) node w.moment w.core (record {
+      ended = as_it_was (event.Send node) p w _ refl refl (none_told w.past _ _);
+      idle = as_it_was (event.Send node) p w _ refl refl (none_told w.past _ _);
+      spent = as_it_was (event.Send node) p w _ refl refl (none_told w.past _ _);
       out = λ going d e unspent. out d e;
     })
   where
     s : Sound w.ids (at p w.core) (handed_at p w.handed) (log_at p w.logs)
     s = (g.agree p l).sound
 
-    gone : (v : World) → told_in v.past ≡ told_in w.past → Sends w.core.correlation (at p w.core) (handed_at p w.handed) (at p v.core) (handed_at p v.handed) → PartStep event.Send w v p
+    gone : (v : World) → told_in v.past ≡ told_in w.past → Sends w.core.correlation (at p w.core) (handed_at p w.handed) (at p v.core) (handed_at p v.handed) → PartStep (event.Send node) w v p
     gone v told x = ⊎_elim
         (λ (f : Fares (at p w.core) [] (at p v.core) × (handed_at p v.handed ≡ handed_at p w.handed)). Faring (record { told = []; fares = f.0; handed = f.1; noted = told ∙ sym (append-nil (told_in w.past)) }))
         (λ (f : (front : Pending) × (behind : List Pending) × ((at p w.core).queue ≡ front ∷ behind) × (is_confirmed (at p w.core) ≡ true) × (at p v.core ≡ hand_over_in w.core.correlation (at p w.core) (front ∷ behind)) × (handed_at p v.handed ≡ handed_at p w.handed ++ new_batch (at p w.core) front ∷ [])).
         Handing (record { request = w.core.correlation; front = f.0; behind = f.1; queue = f.2; confirmed = f.3; after_is = f.4; handed = f.5; noted = told }))
         x
 
-    out : (d : Demand Sending) → next_demand w.moment w.core ≡ Some d → PartStep event.Send w (sending w (go_out w.moment w.core d).after (go_out w.moment w.core d).answer) p
-    out (InitProducerId q) e = as_it_was event.Send p w _ refl refl (none_told w.past _ _)
+    out : (d : Demand Sending) → next_demand node w.moment w.core ≡ Some d → PartStep (event.Send node) w (sending w (go_out node w.moment w.core d).after (go_out node w.moment w.core d).answer) p
+    out (InitProducerId q) e = as_it_was (event.Send node) p w _ refl refl (none_told w.past _ _)
     out (Produce xs) e =
-        gone (sending w (go_out w.moment w.core (Produce xs)).after (go_out w.moment w.core (Produce xs)).answer) (none_told w.past _ _)
-        (at_sent_out (Sends w.core.correlation (at p w.core) (handed_at p w.handed)) w.moment w.core xs w.handed p (demand_is_sent w.moment w.core xs e) (g.count ∙ sym g.handed_count) (subst (λ (m : ℕ). p < m) (sym g.count) l) (record {
+        gone (sending w (go_out node w.moment w.core (Produce xs)).after (go_out node w.moment w.core (Produce xs)).answer) (none_told w.past _ _)
+        (at_sent_out (Sends w.core.correlation (at p w.core) (handed_at p w.handed)) node w.moment w.core xs w.handed p (demand_is_sent node w.moment w.core xs e) (g.count ∙ sym g.handed_count) (subst (λ (m : ℕ). p < m) (sym g.count) l) (record {
           passed_by = λ is. inl (fares_same (at p w.core) [], refl);
           sent = λ b goes only. ⊎_elim
               (λ (a : GoesAgain w.core.correlation (at p w.core) b). sends_again w.core.correlation w.ids (at p w.core) (handed_at p w.handed) (log_at p w.logs) b s a)
@@ -349,10 +361,11 @@ part_event n p w g l = record {
       (called _ p w _ (append_step i w.core).told (core_appended i w.core) within refl (told_noted w.past _))
       (called _ p w _ (append_step i w.core).told (core_appended i w.core) within refl (told_noted w.past _));
   now = λ moment. as_it_was _ p w _ refl refl (none_told w.past _ _);
-  tick = called _ p w _ (tick_step w.moment w.core).told (core_ticked w.moment w.core) within refl (told_noted w.past _);
-  send = part_sent n p w g.0 l;
+  tick = λ node. called _ p w _ (tick_step node w.moment w.core).told (core_ticked node w.moment w.core) within refl (told_noted w.past _);
+  send = λ node. part_sent n p node w g.0 l;
   reply = λ j r there. part_replied n p j w r g there;
-  lost = called _ p w _ [] (core_disconnected w.moment w.core) within refl (told_noted w.past _);
+  lost = λ node. called _ p w _ [] (core_disconnected node w.moment w.core) within refl (told_noted w.past _);
+  led = λ q node. called _ p w _ [] (core_led q node w.moment w.core) within refl (told_noted w.past _);
   close = called _ p w _ [] (core_closed w.core) within refl (told_noted w.past _);
   end = called _ p w _ (end_step w.core).told (core_ended w.core) within refl (told_noted w.past _);
   flush = called _ p w _ [] (core_flushed w.core) within refl (told_noted w.past _);

@@ -10,6 +10,7 @@ use Rattle.kp_accum.specs.Queue.{Pending, joins, joined_by, begun_by, with_item,
 use Rattle.kp_accum.specs.Ready.{is_late}
 use Rattle.kp_frames.specs.declared.produce.PartitionProduceResponse.{PartitionProduceResponse}
 use Rattle.kp_log.proofs.PlaceLemmas.{In, In-nil, In-cons, In-head, In-tail, In-append_left, In-append_right, In-append_cases, In-filter}
+use Rattle.kp_rules.specs.Leading.{led_by}
 use Rattle.kp_rules.specs.declared.attempt.Attempt.TheVariants.{Waiting}
 use Rattle.kp_rules.specs.declared.meaning.Meaning.{Meaning}
 use Rattle.kp_rules.specs.declared.meaning.Meaning.TheVariants.{Stored, Duplicate, Retry, Reject}
@@ -19,7 +20,7 @@ use Rattle.kp_rules.specs.declared.outcome.Reason.{Reason}
 use Rattle.kp_rules.specs.declared.outcome.Reason.TheVariants as reason
 use Rattle.kp_rules.specs.Appending.{enqueue}
 use Rattle.kp_rules.specs.Attempts.{awaits, awaiting, is_waiting}
-use Rattle.kp_rules.specs.Dropping.{drop_attempt, drop_attempts}
+use Rattle.kp_rules.specs.Dropping.{drop_attempt, drop_attempts, drop_led}
 use Rattle.kp_rules.specs.Fence.{fence, give_up}
 use Rattle.kp_rules.specs.Flush.{mark_open, mark}
 use Rattle.kp_rules.specs.HandingOver.{again_in, opened_in, hand_over_in, send_again_in}
@@ -28,7 +29,7 @@ use Rattle.kp_rules.specs.Records.{HandedBatch, Open, Partition, Told}
 use Rattle.kp_rules.specs.Settling.{without_attempt, put_off, is_first_under_id, meaning_of, acknowledge, settle_by}
 use Rattle.kp_rules.specs.Telling.{told_all, told_offsets}
 use Rattle.kp_rules.specs.Tick.{late_front, behind_late, expire_front, heed_deadlines}
-use Rattle.kp_rules.proofs.CallLemmas.{at_entries, at_heed, by_entries}
+use Rattle.kp_rules.proofs.CallLemmas.{at_entries, at_heed, by_entries, at_led, at_moved}
 use Rattle.kp_world.proofs.ConservationLemmas.{items_told, told_all_items, told_offsets_items, given_up_items, attempt_count}
 use Rattle.kp_world.proofs.FlightLemmas.{sent_again_in}
 use Rattle.kp_world.proofs.KeepingLemmas.{same_waiting}
@@ -166,6 +167,14 @@ fares_dropped now t = record {
   heard = λ a. inl a;
   marks = marks_mapped (drop_attempt now) (record { batch = λ o. refl; marked = λ o m. m }) t (drop_attempts now t) [] refl refl;
 }
+
+pub fares_led : (node now : ℕ) (t : Partition) → Fares t [] (drop_led node now t)
+fares_led node now t = at_led (Fares t []) node now t (fares_dropped now t) (fares_same t [])
+
+pub fares_lead : (leader now : ℕ) (t : Partition) → Fares t [] (led_by leader now t)
+fares_lead leader now t =
+    let dropped = fares_dropped now t in
+    at_moved (Fares t []) leader now t (fares_same t []) (record { audit = refl; ids = refl; heard = λ a. inl a; marks = dropped.marks })
 
 queue_mapped : (q : List Pending) (i : Item) → QueueMarked q i → QueueMarked (map marked_by_flush q) i
 queue_mapped q i m = record { it = marked_by_flush m.it; there = In-map marked_by_flush m.it q m.there; is_marked = refl; has = m.has }

@@ -34,10 +34,11 @@ follows_event w = record {
   none_taken = λ s none. follows_noted _ _ _ w;
   taken = λ s i here there. at_taken (Follows w) s i w (record { shut = λ h. h; accepted = λ h. refl }) (follows_noted _ _ _ w);
   now = λ moment. record { shut = λ h. h; accepted = λ h. refl };
-  tick = follows_noted _ _ _ w;
-  send = let step = request_step w.moment w.core in at_sent (Follows w) w step.after step.answer (λ line. follows_noted _ _ _ w) (λ o line. record { shut = λ h. h; accepted = λ h. refl });
+  tick = λ node. follows_noted _ _ _ w;
+  send = λ node. let step = request_step node w.moment w.core in at_sent (Follows w) w step.after step.answer (λ line. follows_noted _ _ _ w) (λ o line. record { shut = λ h. h; accepted = λ h. refl });
   reply = λ j r there. follows_noted _ _ _ w;
-  lost = follows_noted _ _ _ w;
+  lost = λ node. follows_noted _ _ _ w;
+  led = λ p node. follows_noted _ _ _ w;
   close = record { shut = λ h. refl; accepted = λ h. refl };
   end = follows_noted _ _ _ w;
   flush = follows_noted _ _ _ w;

@@ -66,18 +66,18 @@ grows_first k c t handed b n a = inr (
 
 -- ---- an event
 
-grown : (p : ℕ) (e : WorldEvent) (w v : World) → e ≡ event.Send → Grows (partition_at p w.core.partitions) (handed_at p w.handed) (partition_at p v.core.partitions) (handed_at p v.handed) → GrowsByFront p e (facts w) (facts v)
-grown p e w v is g = ⊎_elim
+grown : (p node : ℕ) (e : WorldEvent) (w v : World) → e ≡ event.Send node → Grows (partition_at p w.core.partitions) (handed_at p w.handed) (partition_at p v.core.partitions) (handed_at p v.handed) → GrowsByFront p e (facts w) (facts v)
+grown p node e w v is g = ⊎_elim
     (λ (same : handed_at p v.handed ≡ handed_at p w.handed). inl same)
     (λ (x : (front : Pending) × ((partition_at p w.core.partitions).queue ≡ front ∷ (partition_at p v.core.partitions).queue) × (handed_at p v.handed ≡ handed_at p w.handed ++ new_batch (partition_at p w.core.partitions) front ∷ [])).
-    inr (is, record { front = x.0; queue = x.1; handed = x.2 }))
+    inr (node, is, record { front = x.0; queue = x.1; handed = x.2 }))
     g
 
-grows_sent : (n p : ℕ) (w : World) → IsLawful n w → p < n
-    → GrowsByFront p event.Send (facts w) (facts (sending w (request_step w.moment w.core).after (request_step w.moment w.core).answer))
+grows_sent : (n p node : ℕ) (w : World) → IsLawful n w → p < n
+    → GrowsByFront p (event.Send node) (facts w) (facts (sending w (request_step node w.moment w.core).after (request_step node w.moment w.core).answer))
 unfolding noted
-grows_sent n p w g l =
-    at_request (λ (r : Requested). GrowsByFront p event.Send (facts w) (facts (sending w r.after r.answer))) w.moment w.core (record {
+grows_sent n p node w g l =
+    at_request (λ (r : Requested). GrowsByFront p (event.Send node) (facts w) (facts (sending w r.after r.answer))) node w.moment w.core (record {
       ended = inl refl;
       idle = inl refl;
       spent = inl refl;
@@ -87,11 +87,11 @@ grows_sent n p w g l =
     s : Sound w.ids (partition_at p w.core.partitions) (handed_at p w.handed) (log_at p w.logs)
     s = (g.agree p l).sound
 
-    out : (d : Demand Sending) → next_demand w.moment w.core ≡ Some d → GrowsByFront p event.Send (facts w) (facts (sending w (go_out w.moment w.core d).after (go_out w.moment w.core d).answer))
+    out : (d : Demand Sending) → next_demand node w.moment w.core ≡ Some d → GrowsByFront p (event.Send node) (facts w) (facts (sending w (go_out node w.moment w.core d).after (go_out node w.moment w.core d).answer))
     out (InitProducerId q) e = inl refl
     out (Produce xs) e =
-        grown p event.Send w (sending w (go_out w.moment w.core (Produce xs)).after (go_out w.moment w.core (Produce xs)).answer) refl
-        (at_sent_out (Grows (partition_at p w.core.partitions) (handed_at p w.handed)) w.moment w.core xs w.handed p (demand_is_sent w.moment w.core xs e) (g.count ∙ sym g.handed_count) (subst (λ (m : ℕ). p < m) (sym g.count) l) (record {
+        grown p node (event.Send node) w (sending w (go_out node w.moment w.core (Produce xs)).after (go_out node w.moment w.core (Produce xs)).answer) refl
+        (at_sent_out (Grows (partition_at p w.core.partitions) (handed_at p w.handed)) node w.moment w.core xs w.handed p (demand_is_sent node w.moment w.core xs e) (g.count ∙ sym g.handed_count) (subst (λ (m : ℕ). p < m) (sym g.count) l) (record {
           passed_by = λ is. inl refl;
           sent = λ b goes only. ⊎_elim
               (λ (a : GoesAgain w.core.correlation (partition_at p w.core.partitions) b). grows_again w.core.correlation w.ids (partition_at p w.core.partitions) (handed_at p w.handed) (log_at p w.logs) b s a)
@@ -107,10 +107,11 @@ grows_event n p w g l = record {
   none_taken = λ s none. inl refl;
   taken = λ s i here there. at_taken (λ v. GrowsByFront p (event.Take s) (facts w) (facts v)) s i w (inl refl) (inl refl);
   now = λ moment. inl refl;
-  tick = inl refl;
-  send = grows_sent n p w g l;
+  tick = λ node. inl refl;
+  send = λ node. grows_sent n p node w g l;
   reply = λ j r there. inl refl;
-  lost = inl refl;
+  lost = λ node. inl refl;
+  led = λ q node. inl refl;
   close = inl refl;
   end = inl refl;
   flush = inl refl;
@@ -132,9 +133,9 @@ grows_by_front o es w e v r s p l = grows_step o.partitions p w (lawful_reached 
 at_end : (p : ℕ) (e : WorldEvent) (u w v : World) → GrowsAtEnd p (facts u) (facts w) → GrowsByFront p e (facts w) (facts v) → GrowsAtEnd p (facts u) (facts v)
 at_end p e u w v g h = ⊎_elim
     (λ (same : handed_at p v.handed ≡ handed_at p w.handed). (g.0, same ∙ g.1))
-    (λ (x : (e ≡ event.Send) × HandsFront p (facts w) (facts v)).
-    let b = new_batch (partition_of p (facts w)) x.1.front in
-    (g.0 ++ b ∷ [], x.1.handed ∙ ap (λ (bs : List HandedBatch). bs ++ new_batch (partition_of p (facts w)) x.1.front ∷ []) g.1 ∙ append_assoc (handed_at p u.handed) g.0 (b ∷ [])))
+    (λ (x : (node : ℕ) × (e ≡ event.Send node) × HandsFront p (facts w) (facts v)).
+    let b = new_batch (partition_of p (facts w)) x.2.front in
+    (g.0 ++ b ∷ [], x.2.handed ∙ ap (λ (bs : List HandedBatch). bs ++ new_batch (partition_of p (facts w)) x.2.front ∷ []) g.1 ∙ append_assoc (handed_at p u.handed) g.0 (b ∷ [])))
     h
 
 pub grows_at_end : (o : Opening) (es : List WorldEvent) (w : World) (later : List WorldEvent) (v : World) → IsReached o es w → Run w later v → (p : ℕ) → p < o.partitions → GrowsAtEnd p (facts w) (facts v)

@@ -98,18 +98,18 @@ goes_out c f now k ids t handed h b sound e = ⊎_elim (goes_again k ids t hande
 
 -- ---- all partitions
 
-accounts_sent : (now : ℕ) (s : Core) (accepted : List (List Item)) (taken : List ℕ) (handed : List (List HandedBatch)) (told : List Told) (xs : List Sending)
-    → Accounts s accepted taken handed told → (ids : List ℕ) (logs : List History) → ((p : ℕ) → p < length s.partitions → Sound ids (partition_at p s.partitions) (handed_at p handed) (log_at p logs)) → next_demand now s ≡ Some (Produce xs)
-    → Accounts (sent_out now s (Produce xs)) accepted taken (with_sendings xs handed) told
-accounts_sent now s accepted taken handed told xs a ids logs sound e = record {
+accounts_sent : (node now : ℕ) (s : Core) (accepted : List (List Item)) (taken : List ℕ) (handed : List (List HandedBatch)) (told : List Told) (xs : List Sending)
+    → Accounts s accepted taken handed told → (ids : List ℕ) (logs : List History) → ((p : ℕ) → p < length s.partitions → Sound ids (partition_at p s.partitions) (handed_at p handed) (log_at p logs)) → next_demand node now s ≡ Some (Produce xs)
+    → Accounts (sent_out node now s (Produce xs)) accepted taken (with_sendings xs handed) told
+accounts_sent node now s accepted taken handed told xs a ids logs sound e = record {
   taken_count = a.taken_count;
   handed_count = length-with_sendings xs handed ∙ a.handed_count ∙ sym (length-changed_at (partitions_in xs) (λ q u. send_in s.correlation u) s.partitions);
   senders = λ s'. subst (λ (n : ℕ). Accepts n s' (slice_index_or accepted s' []) (slice_index taken s')) (sym (length-changed_at (partitions_in xs) (λ q u. send_in s.correlation u) s.partitions)) (a.senders s');
-  home = home_past (sent_out now s (Produce xs)).partitions (λ p l. subst (AllByRecursion (λ i. i.partition ≡ p)) (sym (goes p (within p l)).same) (a.home p));
-  requests = all_append HasDistinct s.requests _ a.requests (demand_is_distinct now s xs e, tt);
+  home = home_past (sent_out node now s (Produce xs)).partitions (λ p l. subst (AllByRecursion (λ i. i.partition ≡ p)) (sym (goes p (within p l)).same) (a.home p));
+  requests = all_append HasDistinct s.requests _ a.requests (demand_is_distinct node now s xs e, tt);
   fates = λ s' p l.
       let g = goes p (within p l) in
-      let back = items_queued (partition_at p (sent_out now s (Produce xs)).partitions).queue in
+      let back = items_queued (partition_at p (sent_out node now s (Produce xs)).partitions).queue in
       let queue : of_sender s' (items_queued (partition_at p s.partitions).queue) ≡ of_sender s' g.front ++ of_sender s' back = ap (of_sender s') g.queue ∙ sender-append s' g.front back in
       let more : of_sender s' (items_of (handed_at p handed)) ++ of_sender s' g.front ≡ of_sender s' (items_of (handed_at p (with_sendings xs handed))) = sym (ap (of_sender s') g.handed_items ∙ sender-append s' (items_of (handed_at p handed)) g.front) in
       subst (λ h. Fates (taken_for s' p accepted taken) (of_sender s' back) h (of_sender s' (for_partition p (unsent_among told)))) more
@@ -117,26 +117,26 @@ accounts_sent now s accepted taken handed told xs a ids logs sound e = record {
       (subst (λ q. Fates (taken_for s' p accepted taken) q (of_sender s' (items_of (handed_at p handed))) (of_sender s' (for_partition p (unsent_among told)))) queue (a.fates s' p (within p l))));
   weights = λ f.
       let before : weigh f (items_told told) + weigh f (flat_map untold s.partitions) ≡ weigh f (all_taken accepted taken) = a.weights f in
-      let same : weigh f (flat_map untold (sent_out now s (Produce xs)).partitions) ≡ weigh f (flat_map untold s.partitions) =
-      weigh_same f (new_partition 0) s.partitions (sent_out now s (Produce xs)).partitions (length-changed_at (partitions_in xs) (λ q u. send_in s.correlation u) s.partitions) (λ p l. ap (weigh f) (goes p l).same) in
+      let same : weigh f (flat_map untold (sent_out node now s (Produce xs)).partitions) ≡ weigh f (flat_map untold s.partitions) =
+      weigh_same f (new_partition 0) s.partitions (sent_out node now s (Produce xs)).partitions (length-changed_at (partitions_in xs) (λ q u. send_in s.correlation u) s.partitions) (λ p l. ap (weigh f) (goes p l).same) in
       omega (arith, before, same);
 }
   where
-    within : (p : ℕ) → p < length (sent_out now s (Produce xs)).partitions → p < length s.partitions
+    within : (p : ℕ) → p < length (sent_out node now s (Produce xs)).partitions → p < length s.partitions
     within p l = subst (λ (n : ℕ). p < n) (length-changed_at (partitions_in xs) (λ q u. send_in s.correlation u) s.partitions) l
 
     goes : (p : ℕ) → p < length s.partitions
-        → Goes (partition_at p s.partitions) (handed_at p handed) (partition_at p (sent_out now s (Produce xs)).partitions) (handed_at p (with_sendings xs handed))
-    goes p l = at_sent_out (Goes (partition_at p s.partitions) (handed_at p handed)) now s xs handed p (demand_is_sent now s xs e) (sym a.handed_count) l (record {
+        → Goes (partition_at p s.partitions) (handed_at p handed) (partition_at p (sent_out node now s (Produce xs)).partitions) (handed_at p (with_sendings xs handed))
+    goes p l = at_sent_out (Goes (partition_at p s.partitions) (handed_at p handed)) node now s xs handed p (demand_is_sent node now s xs e) (sym a.handed_count) l (record {
       passed_by = λ is. goes_nowhere (partition_at p s.partitions) (handed_at p handed);
       sent = λ b sends only. goes_out s.config (flags_of s) now s.correlation ids (partition_at p s.partitions) (handed_at p handed) (log_at p logs) b (sound p l) sends;
     })
 
 -- ---- the event
 
-accounts_asked : (now : ℕ) (s : Core) (accepted : List (List Item)) (taken : List ℕ) (handed : List (List HandedBatch)) (told : List Told) (p : ℕ)
-    → Accounts s accepted taken handed told → Accounts (sent_out now s (InitProducerId p)) accepted taken handed told
-accounts_asked now s accepted taken handed told p a = record {
+accounts_asked : (node now : ℕ) (s : Core) (accepted : List (List Item)) (taken : List ℕ) (handed : List (List HandedBatch)) (told : List Told) (p : ℕ)
+    → Accounts s accepted taken handed told → Accounts (sent_out node now s (InitProducerId p)) accepted taken handed told
+accounts_asked node now s accepted taken handed told p a = record {
   taken_count = a.taken_count;
   handed_count = a.handed_count;
   senders = a.senders;
@@ -146,16 +146,16 @@ accounts_asked now s accepted taken handed told p a = record {
   weights = a.weights;
 }
 
-pub accounts_sending : (n : ℕ) (w : World) → IsLawful n w → IsAccounted w → IsAccounted (sending w (request_step w.moment w.core).after (request_step w.moment w.core).answer)
-accounts_sending n w g a = at_request (λ (x : Requested). IsAccounted (sending w x.after x.answer)) w.moment w.core (record {
+pub accounts_sending : (n node : ℕ) (w : World) → IsLawful n w → IsAccounted w → IsAccounted (sending w (request_step node w.moment w.core).after (request_step node w.moment w.core).answer)
+accounts_sending n node w g a = at_request (λ (x : Requested). IsAccounted (sending w x.after x.answer)) node w.moment w.core (record {
   ended = accounts_only w.core (Ended ∷ []) w a;
   idle = accounts_only w.core (Idle ∷ []) w a;
   spent = accounts_only w.core (Idle ∷ []) w a;
   out = λ going d e unspent. goes d e;
 })
   where
-    goes : (d : Demand Sending) → next_demand w.moment w.core ≡ Some d → IsAccounted (sending w (sent_out w.moment w.core d) (Ok (Some (record { correlation = w.core.correlation; demand = d }))))
-    goes (Produce xs) e = accounts_only (sent_out w.moment w.core (Produce xs)) (sent_line (length w.packets) (Produce xs) ∷ []) (with_packet (record { correlation = w.core.correlation; demand = Produce xs }) w)
-        (accounts_sent w.moment w.core w.accepted w.taken w.handed (told_in w.past) xs a w.ids w.logs (λ p l. (g.agree p (subst (λ (m : ℕ). p < m) g.count l)).sound) e)
-    goes (InitProducerId p) e = accounts_only (sent_out w.moment w.core (InitProducerId p)) (sent_line (length w.packets) (InitProducerId p) ∷ []) (with_packet (record { correlation = w.core.correlation; demand = InitProducerId p }) w)
-        (accounts_asked w.moment w.core w.accepted w.taken w.handed (told_in w.past) p a)
+    goes : (d : Demand Sending) → next_demand node w.moment w.core ≡ Some d → IsAccounted (sending w (sent_out node w.moment w.core d) (Ok (Some (record { correlation = w.core.correlation; demand = d }))))
+    goes (Produce xs) e = accounts_only (sent_out node w.moment w.core (Produce xs)) (sent_line (length w.packets) (Produce xs) ∷ []) (with_packet (record { correlation = w.core.correlation; demand = Produce xs }) w)
+        (accounts_sent node w.moment w.core w.accepted w.taken w.handed (told_in w.past) xs a w.ids w.logs (λ p l. (g.agree p (subst (λ (m : ℕ). p < m) g.count l)).sound) e)
+    goes (InitProducerId p) e = accounts_only (sent_out node w.moment w.core (InitProducerId p)) (sent_line (length w.packets) (InitProducerId p) ∷ []) (with_packet (record { correlation = w.core.correlation; demand = InitProducerId p }) w)
+        (accounts_asked node w.moment w.core w.accepted w.taken w.handed (told_in w.past) p a)

@@ -8,6 +8,7 @@ use Rattle.kp_accum.specs.Queue.{Pending, joins, with_item, joined_by, begun_by,
 use Rattle.kp_accum.specs.Ready.{is_late}
 use Rattle.kp_frames.specs.declared.produce.PartitionProduceResponse.{PartitionProduceResponse}
 use Rattle.kp_log.proofs.PlaceLemmas.{In}
+use Rattle.kp_rules.specs.Leading.{moved_to}
 use Rattle.kp_rules.specs.Fence.{fence, give_up}
 use Rattle.kp_rules.specs.declared.attempt.Attempt.TheVariants.{Waiting}
 use Rattle.kp_rules.specs.declared.meaning.Meaning.{Meaning}
@@ -62,6 +63,11 @@ keeps_dropped now t = record {
   opens = λ handed h. opens_map (drop_attempt now) (λ o. refl) handed t.open_batches h;
   queue = λ h. h;
 }
+
+pub keeps_moved : (leader now : ℕ) (t : Partition) → Keeps t (moved_to leader now t)
+keeps_moved leader now t =
+    let dropped = keeps_dropped now t in
+    record { number = refl; sequence = refl; ids = refl; opens = dropped.opens; queue = λ h. h }
 
 pub keeps_fenced : (t : Partition) → Keeps t (fence t).after
 unfolding fence give_up

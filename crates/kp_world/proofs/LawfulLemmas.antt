@@ -223,37 +223,37 @@ abbrev packet : Core → Demand Sending → Packet
 packet s d = record { correlation = s.correlation; demand = d }
 
 -- the request with these batches, as it is remembered
-abbrev produced : ℕ → Core → List Sending → Request
-produced now s xs = record { correlation = s.correlation; sent = now; demand = Produce (partitions_in xs) }
+abbrev produced : ℕ → ℕ → Core → List Sending → Request
+produced node now s xs = record { correlation = s.correlation; node = node; sent = now; demand = Produce (partitions_in xs) }
 
 not_asking : (q : Request) → asks_for_id q ≡ true → asks_for_id q ≡ false → ⊥
 not_asking q a b = let both : true ≡ false = sym a ∙ b in cc
 
 -- the request for an id
-abbrev asking : ℕ → Core → ℕ → Request
-asking now s p = record { correlation = s.correlation; sent = now; demand = InitProducerId p }
+abbrev asking : ℕ → ℕ → Core → ℕ → Request
+asking node now s p = record { correlation = s.correlation; node = node; sent = now; demand = InitProducerId p }
 
-lawful_batches : {most : ℕ} (n now : ℕ) (s : Core) (logs : List History) (handed : List (List HandedBatch)) (packets : List Packet) (replies : List Reply) (ids : List ℕ) (xs : List Sending)
+lawful_batches : {most : ℕ} (n node now : ℕ) (s : Core) (logs : List History) (handed : List (List HandedBatch)) (packets : List Packet) (replies : List Reply) (ids : List ℕ) (xs : List Sending)
     → Lawful most n s logs handed packets replies ids → AllByRecursion (IsSent now s) xs
-    → Lawful most n (sent_out now s (Produce xs)) logs (with_sendings xs handed) (packets ++ packet s (Produce xs) ∷ []) replies ids
-lawful_batches {most = most} n now s logs handed packets replies ids xs g all = record {
+    → Lawful most n (sent_out node now s (Produce xs)) logs (with_sendings xs handed) (packets ++ packet s (Produce xs) ∷ []) replies ids
+lawful_batches {most = most} n node now s logs handed packets replies ids xs g all = record {
   count = length-changed_at (partitions_in xs) (λ p t. send_in s.correlation t) s.partitions ∙ g.count;
   handed_count = length-with_sendings xs handed ∙ g.handed_count;
   logs_count = g.logs_count;
   window = g.window;
   some = g.some;
   agree = λ p h. (at p h).agrees;
-  went = λ o i. ⊎_elim (λ (j : In o packets). earlier o (g.went o j)) (λ (same : o ≡ packet s (Produce xs)). subst (Went n (with_sendings xs handed) (sent_out now s (Produce xs))) (sym same) newest) (one_more packets (packet s (Produce xs)) o i);
+  went = λ o i. ⊎_elim (λ (j : In o packets). earlier o (g.went o j)) (λ (same : o ≡ packet s (Produce xs)). subst (Went n (with_sendings xs handed) (sent_out node now s (Produce xs))) (sym same) newest) (one_more packets (packet s (Produce xs)) o i);
   gave = λ r i. let w = g.gave r i in record {
     before = let b : r.correlation < s.correlation = w.before in omega arith;
     answers = w.answers;
     drawn = w.drawn;
     spare = λ id q e a x c p h j. ⊎_elim
         (λ (there : In q s.requests). w.spare id q e there x c p h (subst (λ (is : List ℕ). In id is) (at p h).same_ids j))
-        (λ (same : q ≡ produced now s xs). absurd (not_asking q x (ap (λ (y : Request). asks_for_id y) same))) (one_more s.requests (produced now s xs) q a);
+        (λ (same : q ≡ produced node now s xs). absurd (not_asking q x (ap (λ (y : Request). asks_for_id y) same))) (one_more s.requests (produced node now s xs) q a);
   };
   asked = λ q i. ⊎_elim (λ (there : In q s.requests). let b : q.correlation < s.correlation = g.asked q there in omega (arith, b))
-      (λ (same : q ≡ produced now s xs). let k : q.correlation ≡ s.correlation = ap (λ (y : Request). y.correlation) same in omega (arith, k)) (one_more s.requests (produced now s xs) q i);
+      (λ (same : q ≡ produced node now s xs). let k : q.correlation ≡ s.correlation = ap (λ (y : Request). y.correlation) same in omega (arith, k)) (one_more s.requests (produced node now s xs) q i);
 }
   where
     below : (x : Packet) → In x packets → x.correlation < s.correlation
@@ -263,8 +263,8 @@ lawful_batches {most = most} n now s logs handed packets replies ids xs g all = 
     within p h = subst (λ (m : ℕ). p < m) (sym g.count) h
 
     at : (p : ℕ) → p < n
-        → Agreed most p ids s.ended s.correlation (partition_at p s.partitions) (partition_at p (sent_out now s (Produce xs)).partitions) (handed_at p handed) (handed_at p (with_sendings xs handed)) (log_at p logs) packets replies (packet s (Produce xs))
-    at p h = at_sent_out (λ (u : Partition) (hs : List HandedBatch). Agreed most p ids s.ended s.correlation (partition_at p s.partitions) u (handed_at p handed) hs (log_at p logs) packets replies (packet s (Produce xs))) now s xs handed p all (g.count ∙ sym g.handed_count) (within p h) (record { passed_by = passed_by; sent = sent })
+        → Agreed most p ids s.ended s.correlation (partition_at p s.partitions) (partition_at p (sent_out node now s (Produce xs)).partitions) (handed_at p handed) (handed_at p (with_sendings xs handed)) (log_at p logs) packets replies (packet s (Produce xs))
+    at p h = at_sent_out (λ (u : Partition) (hs : List HandedBatch). Agreed most p ids s.ended s.correlation (partition_at p s.partitions) u (handed_at p handed) hs (log_at p logs) packets replies (packet s (Produce xs))) node now s xs handed p all (g.count ∙ sym g.handed_count) (within p h) (record { passed_by = passed_by; sent = sent })
       where
         mine : Agrees most n ids s handed logs packets replies p
         mine = g.agree p h
@@ -290,19 +290,19 @@ lawful_batches {most = most} n now s logs handed packets replies ids xs g all = 
     more_parts (Produce ys) h = all_weaker (λ (x : Sending). (x.partition < n) × In x.batch (handed_at x.partition handed)) (λ (x : Sending). (x.partition < n) × In x.batch (handed_at x.partition (with_sendings xs handed))) (λ x k. (k.0, (at x.partition k.0).more x.batch k.1)) ys h
     more_parts (InitProducerId p) h = tt
 
-    earlier : (o : Packet) → Went n handed s o → Went n (with_sendings xs handed) (sent_out now s (Produce xs)) o
+    earlier : (o : Packet) → Went n handed s o → Went n (with_sendings xs handed) (sent_out node now s (Produce xs)) o
     earlier o w = record { before = let b : o.correlation < s.correlation = w.before in omega arith; parts = more_parts o.demand w.parts }
 
-    newest : Went n (with_sendings xs handed) (sent_out now s (Produce xs)) (packet s (Produce xs))
+    newest : Went n (with_sendings xs handed) (sent_out node now s (Produce xs)) (packet s (Produce xs))
     newest = record {
       before = omega arith;
       parts = all_in (λ (x : Sending). (x.partition < n) × In x.batch (handed_at x.partition (with_sendings xs handed))) xs (λ x i. let h : x.partition < n = subst (λ (m : ℕ). x.partition < m) g.count (all_at (IsSent now s) xs x all i).there in (h, (at x.partition h).known x.batch (x, i, refl, refl)));
     }
 
-lawful_id : {most : ℕ} (n now : ℕ) (s : Core) (logs : List History) (handed : List (List HandedBatch)) (packets : List Packet) (replies : List Reply) (ids : List ℕ) (p : ℕ)
+lawful_id : {most : ℕ} (n node now : ℕ) (s : Core) (logs : List History) (handed : List (List HandedBatch)) (packets : List Packet) (replies : List Reply) (ids : List ℕ) (p : ℕ)
     → Lawful most n s logs handed packets replies ids
-    → Lawful most n (sent_out now s (InitProducerId p)) logs handed (packets ++ packet s (InitProducerId p) ∷ []) replies ids
-lawful_id n now s logs handed packets replies ids p g = record {
+    → Lawful most n (sent_out node now s (InitProducerId p)) logs handed (packets ++ packet s (InitProducerId p) ∷ []) replies ids
+lawful_id n node now s logs handed packets replies ids p g = record {
   count = g.count;
   handed_count = g.handed_count;
   logs_count = g.logs_count;
@@ -312,27 +312,27 @@ lawful_id n now s logs handed packets replies ids p g = record {
     sound = (g.agree q h).sound;
     steady = steady_passed_by q s.correlation s.ended (partition_at q s.partitions) (handed_at q handed) (log_at q logs) packets replies (packet s (InitProducerId p)) (g.agree q h).steady refl;
   };
-  went = λ o i. ⊎_elim (λ (j : In o packets). let w = g.went o j in record { before = let b : o.correlation < s.correlation = w.before in omega arith; parts = w.parts }) (λ (same : o ≡ packet s (InitProducerId p)). subst (Went n handed (sent_out now s (InitProducerId p))) (sym same) (record { before = omega arith; parts = tt })) (one_more packets (packet s (InitProducerId p)) o i);
+  went = λ o i. ⊎_elim (λ (j : In o packets). let w = g.went o j in record { before = let b : o.correlation < s.correlation = w.before in omega arith; parts = w.parts }) (λ (same : o ≡ packet s (InitProducerId p)). subst (Went n handed (sent_out node now s (InitProducerId p))) (sym same) (record { before = omega arith; parts = tt })) (one_more packets (packet s (InitProducerId p)) o i);
   gave = λ r i. let w = g.gave r i in record {
     before = let b : r.correlation < s.correlation = w.before in omega arith;
     answers = w.answers;
     drawn = w.drawn;
     spare = λ id q e a x c p' h at. ⊎_elim
         (λ (there : In q s.requests). w.spare id q e there x c p' h at)
-        (λ (same : q ≡ asking now s p).
+        (λ (same : q ≡ asking node now s p).
         let b : r.correlation < s.correlation = w.before in
         let k : q.correlation ≡ s.correlation = ap (λ (y : Request). y.correlation) same in
-        absurd (omega (arith, b, k, c))) (one_more s.requests (asking now s p) q a);
+        absurd (omega (arith, b, k, c))) (one_more s.requests (asking node now s p) q a);
   };
   asked = λ q i. ⊎_elim (λ (there : In q s.requests). let b : q.correlation < s.correlation = g.asked q there in omega (arith, b))
-      (λ (same : q ≡ asking now s p). let k : q.correlation ≡ s.correlation = ap (λ (y : Request). y.correlation) same in omega (arith, k)) (one_more s.requests (asking now s p) q i);
+      (λ (same : q ≡ asking node now s p). let k : q.correlation ≡ s.correlation = ap (λ (y : Request). y.correlation) same in omega (arith, k)) (one_more s.requests (asking node now s p) q i);
 }
 
-pub lawful_sending : {most : ℕ} (n : ℕ) (w : World) → IsLawfulWithin most n w → IsLawfulWithin most n (sending w (request_step w.moment w.core).after (request_step w.moment w.core).answer)
+pub lawful_sending : {most : ℕ} (n node : ℕ) (w : World) → IsLawfulWithin most n w → IsLawfulWithin most n (sending w (request_step node w.moment w.core).after (request_step node w.moment w.core).answer)
 unfolding noted
-lawful_sending {most = most} n w g =
-    at_request (λ (r : Requested). IsLawfulWithin most n (sending w r.after r.answer)) w.moment w.core (record { ended = g; idle = g; spent = g; out = λ going d e unspent. out d e })
+lawful_sending {most = most} n node w g =
+    at_request (λ (r : Requested). IsLawfulWithin most n (sending w r.after r.answer)) node w.moment w.core (record { ended = g; idle = g; spent = g; out = λ going d e unspent. out d e })
   where
-    out : (d : Demand Sending) → next_demand w.moment w.core ≡ Some d → IsLawfulWithin most n (sending w (go_out w.moment w.core d).after (go_out w.moment w.core d).answer)
-    out (Produce xs) e = lawful_batches n w.moment w.core w.logs w.handed w.packets w.replies w.ids xs g (demand_is_sent w.moment w.core xs e)
-    out (InitProducerId p) e = lawful_id n w.moment w.core w.logs w.handed w.packets w.replies w.ids p g
+    out : (d : Demand Sending) → next_demand node w.moment w.core ≡ Some d → IsLawfulWithin most n (sending w (go_out node w.moment w.core d).after (go_out node w.moment w.core d).answer)
+    out (Produce xs) e = lawful_batches n node w.moment w.core w.logs w.handed w.packets w.replies w.ids xs g (demand_is_sent node w.moment w.core xs e)
+    out (InitProducerId p) e = lawful_id n node w.moment w.core w.logs w.handed w.packets w.replies w.ids p g

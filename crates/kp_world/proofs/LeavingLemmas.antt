@@ -1,28 +1,29 @@
 -- What a call on the core leaves of each partition, where it acknowledges only batches that are stored: the other batches
 -- stay open unless the partition is fenced, in their order, and none is in flight that was not. Only handing over, and a
 -- fresh id, do more.
+use Rattle.kp_rules.specs.Leading.{moved_to, led_by, lead_step}
 use Rattle.kp_rules.specs.Closing.{end_all}
-use Rattle.kp_rules.specs.Attempts.{is_live}
+use Rattle.kp_rules.specs.Attempts.{is_live, goes_to}
 use Rattle.kp_rules.specs.Records.{Request, quietly}
 use Rattle.kp_rules.proofs.OutcomeLemmas.{by_attempt}
 use Rattle.kp_rules.proofs.PartitionLemmas.{one_changed}
 use Rattle.kp_rules.specs.Records.{Called}
 use Rattle.kp_rules.specs.Tick.{tick_partitions}
 use Rattle.std.proofs.Common.{◌≡◌, ◌⊎◌, ℕ, ◌<◌, Bool, true, false, not, cond, List, [], ◌∷◌, length, map, Some, None, refl, sym, ap, ◌∙◌, subst, inl, inr, ⊎_elim}
-use Rattle.std.specs.Prelude.{Option, if◌then◌else◌, ◌==◌, ◌||◌}
+use Rattle.std.specs.Prelude.{Option, if◌then◌else◌, ◌==◌, ◌||◌, slice_set}
 use Rattle.std.specs.List.{AllByRecursion, filter, list_any}
 use Rattle.std.proofs.lemmas.Bool.{eqb-true, and_parts}
-use Rattle.std.proofs.lemmas.List.{get_or-map, length-map}
+use Rattle.std.proofs.lemmas.List.{get_or-map, length-map, length-set}
 use Rattle.kp_accum.specs.declared.config.Config.{Config}
 use Rattle.kp_accum.specs.declared.item.Item.{Item}
 use Rattle.kp_frames.specs.declared.produce.PartitionProduceResponse.{PartitionProduceResponse}
 use Rattle.kp_log.proofs.PlaceLemmas.{In, In-nil, In-cons, In-head, In-tail, In-filter}
-use Rattle.kp_rules.proofs.CallLemmas.{at_append, at_tick}
+use Rattle.kp_rules.proofs.CallLemmas.{at_append, at_tick, at_led, at_moved}
 use Rattle.kp_rules.specs.declared.outcome.Reason.{Reason}
 use Rattle.kp_rules.specs.declared.outcome.Reason.TheVariants as reason
 use Rattle.kp_rules.specs.Appending.{append_step}
 use Rattle.kp_rules.specs.Closing.{close_step, end_step}
-use Rattle.kp_rules.specs.Dropping.{drop_requests}
+use Rattle.kp_rules.specs.Dropping.{drop_requests, drop_led}
 use Rattle.kp_rules.specs.Fence.{fence, give_up}
 use Rattle.kp_rules.specs.Flush.{flush_step}
 use Rattle.kp_rules.specs.Tick.{tick_step, heed_deadlines}
@@ -41,8 +42,8 @@ use Rattle.kp_rules.specs.Settling.{without_attempt, put_off, is_first_under_id,
 use Rattle.kp_rules.specs.Telling.{with_partitions, at_each}
 use Rattle.kp_rules.specs.Tick.{Ticks, expire_front, is_open_late}
 use Rattle.kp_rules.proofs.PartitionLemmas.{length-changed_at, at-changed_at}
-use Rattle.kp_world.proofs.KeepingLemmas.{Keeps, keeps_same, keeps_more, keeps_dropped, keeps_marked, keeps_queued, keeps_fenced, keeps_given_up, keeps_expired, keeps_without, keeps_settled}
-use Rattle.kp_rules.proofs.ListLemmas.{all_filter, all_map}
+use Rattle.kp_world.proofs.KeepingLemmas.{Keeps, keeps_same, keeps_more, keeps_dropped, keeps_marked, keeps_queued, keeps_fenced, keeps_given_up, keeps_expired, keeps_without, keeps_settled, keeps_moved}
+use Rattle.kp_rules.proofs.ListLemmas.{all_filter, all_map, at_put}
 use Rattle.kp_world.proofs.ListLemmas.{found_in, left_in}
 
 -- ---- open batches
@@ -185,6 +186,13 @@ alike_dropped now = record { batch = λ o. refl; flight = λ o k e. at_attempt o
 
 leaves_dropped : (P : HandedBatch → Type 0) (e : Bool) (now : ℕ) (t : Partition) → Leaves P e t (drop_attempts now t)
 leaves_dropped P e now t = leaves_mapped P e (drop_attempt now) (alike_dropped now) t (drop_attempts now t) refl refl refl (keeps_dropped now t)
+
+leaves_led : (P : HandedBatch → Type 0) (e : Bool) (node now : ℕ) (t : Partition) → Leaves P e t (drop_led node now t)
+leaves_led P e node now t = at_led (Leaves P e t) node now t (leaves_dropped P e now t) (leaves_same P e t)
+
+leaves_lead : (P : HandedBatch → Type 0) (e : Bool) (leader now : ℕ) (t : Partition) → Leaves P e t (led_by leader now t)
+leaves_lead P e leader now t = at_moved (Leaves P e t) leader now t (leaves_same P e t)
+    (leaves_mapped P e (drop_attempt now) (alike_dropped now) t (moved_to leader now t) refl refl refl (keeps_moved leader now t))
 
 leaves_marked : (P : HandedBatch → Type 0) (e : Bool) (t : Partition) → Leaves P e t (mark t)
 leaves_marked P e t = leaves_mapped P e mark_open (record { batch = λ o. refl; flight = λ o k a. a }) t (mark t) refl refl refl (keeps_marked t)
@@ -356,15 +364,15 @@ at_some P e ps f ts p h k = subst (Leaves (P p) e (partition_at p ts)) (sym (at-
     at_test true = k
     at_test false = leaves_same (P p) e (partition_at p ts)
 
-left_dropped : (P : ℕ → HandedBatch → Type 0) (now : ℕ) (s : Core) → CoreLeaves P s (drop_requests now s)
+left_dropped : (P : ℕ → HandedBatch → Type 0) (node now : ℕ) (s : Core) → CoreLeaves P s (drop_requests node now s)
 unfolding drop_requests
-left_dropped P now s = record {
-  count = length-map s.partitions (drop_attempts now);
+left_dropped P node now s = record {
+  count = length-map s.partitions (drop_led node now);
   config = refl;
   ended = λ e. e;
   correlation = refl;
-  requests = λ q i. absurd (In-nil q i);
-  each = λ p h. at_all P s.ended (drop_attempts now) (λ Q t. leaves_dropped Q s.ended now t) s.partitions p h;
+  requests = λ q i. (left_in (λ r. not (goes_to node r)) s.requests q i).0;
+  each = λ p h. at_all P s.ended (drop_led node now) (λ Q t. leaves_led Q s.ended node now t) s.partitions p h;
 }
 
 left_passed : (P : ℕ → HandedBatch → Type 0) (now : ℕ) (late : Bool) (s : Core) → CoreLeaves P s (tick_partitions heed_deadlines now late s).after
@@ -378,22 +386,22 @@ left_passed P now late s = record {
   each = λ p h. at_all P s.ended (λ t. (heed_deadlines s.config now t).after) (λ Q t. leaves_passed Q s.ended s.config now t) s.partitions p h;
 }
 
-pub left_ticked : (P : ℕ → HandedBatch → Type 0) (now : ℕ) (s : Core) → CoreLeaves P s (tick_step now s).after
+pub left_ticked : (P : ℕ → HandedBatch → Type 0) (node now : ℕ) (s : Core) → CoreLeaves P s (tick_step node now s).after
 unfolding drop_requests at_each with_partitions
-left_ticked P now s =
-    at_tick (λ (x : Ticks). CoreLeaves P s x.after) now s (record { ended = left_same P s; timed_out = timed_out; on_time = left_passed P now false s })
+left_ticked P node now s =
+    at_tick (λ (x : Ticks). CoreLeaves P s x.after) node now s (record { ended = left_same P s; timed_out = timed_out; on_time = left_passed P now false s })
   where
-    timed_out : CoreLeaves P s (tick_partitions heed_deadlines now true (drop_requests now s)).after
+    timed_out : CoreLeaves P s (tick_partitions heed_deadlines now true (drop_requests node now s)).after
     timed_out =
-        let first = left_dropped P now s in
-        let second = left_passed P now true (drop_requests now s) in
+        let first = left_dropped P node now s in
+        let second = left_passed P now true (drop_requests node now s) in
         record {
           count = second.count ∙ first.count;
           config = refl;
           ended = λ e. e;
           correlation = refl;
           requests = λ q i. first.requests q (second.requests q i);
-          each = λ p h. leaves_more (P p) s.ended (partition_at p s.partitions) (partition_at p (drop_requests now s).partitions) (partition_at p (tick_partitions heed_deadlines now true (drop_requests now s)).after.partitions)
+          each = λ p h. leaves_more (P p) s.ended (partition_at p s.partitions) (partition_at p (drop_requests node now s).partitions) (partition_at p (tick_partitions heed_deadlines now true (drop_requests node now s)).after.partitions)
               (first.each p h) (second.each p (subst (λ (n : ℕ). p < n) (sym first.count) h));
         }
 
@@ -434,13 +442,29 @@ left_unaudited P s = record {
   each = λ p h. at_all P s.ended unaudited (λ Q t. leaves_unaudited Q s.ended t) s.partitions p h;
 }
 
-pub left_disconnected : (P : ℕ → HandedBatch → Type 0) (now : ℕ) (s : Core) → CoreLeaves P s (disconnect_step now s)
+pub left_disconnected : (P : ℕ → HandedBatch → Type 0) (node now : ℕ) (s : Core) → CoreLeaves P s (disconnect_step node now s)
 unfolding disconnect_step
-left_disconnected P now s = at_end s.ended
+left_disconnected P node now s = at_end s.ended
   where
-    at_end : (b : Bool) → CoreLeaves P s (if b then s else drop_requests now s)
+    at_end : (b : Bool) → CoreLeaves P s (if b then s else drop_requests node now s)
     at_end true = left_same P s
-    at_end false = left_dropped P now s
+    at_end false = left_dropped P node now s
+
+pub left_led : (P : ℕ → HandedBatch → Type 0) (p leader now : ℕ) (s : Core) → CoreLeaves P s (lead_step p leader now s)
+unfolding lead_step
+left_led P p leader now s = record {
+  count = length-set s.partitions p moved;
+  config = refl;
+  ended = λ e. e;
+  correlation = refl;
+  requests = λ q i. (left_in (is_live (slice_set s.partitions p moved)) s.requests q i).0;
+  each = λ q h. at_put (Leaves (P q) s.ended (partition_at q s.partitions)) s.partitions p q moved (new_partition 0)
+      (λ same. subst (λ (n : ℕ). Leaves (P q) s.ended (partition_at n s.partitions) moved) (sym same) (leaves_lead (P q) s.ended leader now (partition_at p s.partitions)))
+      (leaves_same (P q) s.ended (partition_at q s.partitions));
+}
+  where
+    moved : Partition
+    moved = led_by leader now (partition_at p s.partitions)
 
 pub left_closed : (P : ℕ → HandedBatch → Type 0) (s : Core) → CoreLeaves P s (close_step s)
 unfolding close_step

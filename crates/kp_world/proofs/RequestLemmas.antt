@@ -151,23 +151,23 @@ pub record OfPart (Q : Partition → List HandedBatch → Type 0) (now : ℕ) (s
   pub passed_by : is_in p (partitions_in xs) ≡ false → Q (partition_at p s.partitions) (handed_at p handed)
   pub sent : (b : HandedBatch) → sends s.config (flags_of s) now (partition_at p s.partitions) ≡ Some b → Only p b xs → Q (send_in s.correlation (partition_at p s.partitions)) (grown_by b (handed_at p handed))
 
-pub at_sent_out : (Q : Partition → List HandedBatch → Type 0) (now : ℕ) (s : Core) (xs : List Sending) (handed : List (List HandedBatch)) (p : ℕ) → AllByRecursion (IsSent now s) xs → length s.partitions ≡ length handed → p < length s.partitions → OfPart Q now s xs handed p
-    → Q (partition_at p (sent_out now s (Produce xs)).partitions) (handed_at p (with_sendings xs handed))
-at_sent_out Q now s xs handed p all size within c = at_test (is_in p (partitions_in xs)) refl
+pub at_sent_out : (Q : Partition → List HandedBatch → Type 0) (node now : ℕ) (s : Core) (xs : List Sending) (handed : List (List HandedBatch)) (p : ℕ) → AllByRecursion (IsSent now s) xs → length s.partitions ≡ length handed → p < length s.partitions → OfPart Q now s xs handed p
+    → Q (partition_at p (sent_out node now s (Produce xs)).partitions) (handed_at p (with_sendings xs handed))
+at_sent_out Q node now s xs handed p all size within c = at_test (is_in p (partitions_in xs)) refl
   where
     inside : Within handed xs
     inside = all_weaker (IsSent now s) (λ (x : Sending). x.partition < length handed) (λ x k. subst (λ (n : ℕ). x.partition < n) size k.there) xs all
 
-    changed : partition_at p (sent_out now s (Produce xs)).partitions ≡ (if is_in p (partitions_in xs) then send_in s.correlation (partition_at p s.partitions) else partition_at p s.partitions)
+    changed : partition_at p (sent_out node now s (Produce xs)).partitions ≡ (if is_in p (partitions_in xs) then send_in s.correlation (partition_at p s.partitions) else partition_at p s.partitions)
     changed = at-changed_at (partitions_in xs) (λ q t. send_in s.correlation t) s.partitions p within
 
     both : (t : Bool) (b : HandedBatch) → is_in p (partitions_in xs) ≡ t → Only p b xs → Q (if t then send_in s.correlation (partition_at p s.partitions) else partition_at p s.partitions) (if t then grown_by b (handed_at p handed) else handed_at p handed)
-        → Q (partition_at p (sent_out now s (Produce xs)).partitions) (handed_at p (with_sendings xs handed))
+        → Q (partition_at p (sent_out node now s (Produce xs)).partitions) (handed_at p (with_sendings xs handed))
     both t b is only q =
         subst (λ (u : Partition). Q u (handed_at p (with_sendings xs handed))) (sym (changed ∙ ap (λ (i : Bool). if i then send_in s.correlation (partition_at p s.partitions) else partition_at p s.partitions) is))
         (subst (Q (if t then send_in s.correlation (partition_at p s.partitions) else partition_at p s.partitions)) (sym (at-with_sendings xs handed p b only inside ∙ ap (λ (i : Bool). if i then grown_by b (handed_at p handed) else handed_at p handed) is)) q)
 
-    at_test : (t : Bool) → is_in p (partitions_in xs) ≡ t → Q (partition_at p (sent_out now s (Produce xs)).partitions) (handed_at p (with_sendings xs handed))
+    at_test : (t : Bool) → is_in p (partitions_in xs) ≡ t → Q (partition_at p (sent_out node now s (Produce xs)).partitions) (handed_at p (with_sendings xs handed))
     at_test true is =
         let x = in_request now s xs p all is in
         let goes : sends s.config (flags_of s) now (partition_at p s.partitions) ≡ Some x.0.batch = subst (λ (n : ℕ). sends s.config (flags_of s) now (partition_at n s.partitions) ≡ Some x.0.batch) x.2 x.1.sends in

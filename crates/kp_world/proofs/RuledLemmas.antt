@@ -1,5 +1,6 @@
 -- Whatever an event tells is told by a call on the core, and so a case of the outcome rule.
 use Rattle.std.proofs.Common.{◌≡◌, true, List, [], ◌∷◌, refl, sym, ap, subst, ◌++◌}
+use Rattle.kp_rules.specs.Leading.{lead_step}
 use Rattle.kp_rules.specs.Requesting.{request_step}
 use Rattle.kp_rules.specs.Dropping.{disconnect_step}
 use Rattle.kp_rules.specs.Flush.{flush_step}
@@ -40,7 +41,7 @@ told_in_it w (world.Take s) t m = at_item (slice_get (accepted_by s w) (taken_by
     at_item : (o : Option Item) → MayBeTold w.core (option_map call.Append o) t → MayBeToldIn w t
     at_item (Some i) m' = (call.Append i, tt, m')
     at_item None m' = absurd m'
-told_in_it w world.Tick t m = (call.Tick w.moment, tt, m)
+told_in_it w (world.Tick node) t m = (call.Tick node w.moment, tt, m)
 told_in_it w (world.Reply j) t m = at_reply (slice_get w.replies j) refl m
   where
     at_reply : (o : Option Reply) → slice_get w.replies j ≡ o → MayBeTold w.core (option_map (λ r. call.Reply w.moment r.response) o) t → MayBeToldIn w t
@@ -49,9 +50,10 @@ told_in_it w (world.Reply j) t m = at_reply (slice_get w.replies j) refl m
 told_in_it w world.End t m = (call.End, tt, m)
 told_in_it w (world.Accept s p at body) t m = absurd m
 told_in_it w (world.Now moment) t m = absurd m
-told_in_it w world.Send t m = absurd m
+told_in_it w (world.Send node) t m = absurd m
 told_in_it w (world.Deliver k) t m = absurd m
-told_in_it w world.Drop t m = absurd m
+told_in_it w (world.Drop node) t m = absurd m
+told_in_it w (world.Lead p node) t m = absurd m
 told_in_it w (world.Other p records) t m = absurd m
 told_in_it w world.Close t m = absurd m
 told_in_it w world.Flush t m = absurd m
@@ -82,10 +84,11 @@ ruled_event w = record {
       let told : told_in w.core (call.Append i) ≡ told_by (call_of (world.Take s) w) w.core = sym (ap (λ (o : Option Item). told_by (option_map call.Append o) w.core) there) in
       at_taken (TellsByRule (world.Take s) w) s i w (ruled_on (world.Take s) w (with_taken s w) _ [] _ refl told) (ruled_on (world.Take s) w w _ (Full s ∷ []) _ refl told);
   now = λ moment. ruled_on (world.Now moment) w (record w { moment = moment }) w.core [] [] refl refl;
-  tick = ruled_on world.Tick w w _ _ _ refl refl;
-  send = let step = request_step w.moment w.core in at_sent (TellsByRule world.Send w) w step.after step.answer (λ line. ruled_on world.Send w w _ _ [] refl refl) (λ o line. ruled_on world.Send w (with_packet o w) _ _ [] refl refl);
+  tick = λ node. ruled_on (world.Tick node) w w _ _ _ refl refl;
+  send = λ node. let step = request_step node w.moment w.core in at_sent (TellsByRule (world.Send node) w) w step.after step.answer (λ line. ruled_on (world.Send node) w w _ _ [] refl refl) (λ o line. ruled_on (world.Send node) w (with_packet o w) _ _ [] refl refl);
   reply = λ j r there. ruled_on (world.Reply j) w w _ _ _ refl (sym (ap (λ (o : Option Reply). told_by (option_map (λ (x : Reply). call.Reply w.moment x.response) o) w.core) there));
-  lost = ruled_on world.Drop w w (disconnect_step w.moment w.core) [] [] refl refl;
+  lost = λ node. ruled_on (world.Drop node) w w (disconnect_step node w.moment w.core) [] [] refl refl;
+  led = λ p node. ruled_on (world.Lead p node) w w (lead_step p node w.moment w.core) [] [] refl refl;
   close = ruled_on world.Close w (record w { is_shut = true }) _ [] [] refl refl;
   end = ruled_on world.End w w _ _ _ refl refl;
   flush = ruled_on world.Flush w w (flush_step w.core) (flush_line w.core ∷ []) [] refl refl;

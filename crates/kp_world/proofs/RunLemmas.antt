@@ -13,6 +13,7 @@ use Rattle.kp_frames.specs.declared.response.Response.{Response}
 use Rattle.kp_log.specs.declared.stored.Stored.{Stored}
 use Rattle.kp_log.specs.History.{History, empty_history}
 use Rattle.kp_log.proofs.PlaceLemmas.{In, In-nil, In-head, In-append_left, In-append_right}
+use Rattle.kp_rules.specs.Leading.{lead_step}
 use Rattle.kp_rules.specs.Closing.{close_step, end_step}
 use Rattle.kp_rules.specs.Flush.{flush_step}
 use Rattle.kp_rules.specs.Tick.{tick_step}
@@ -37,7 +38,7 @@ use Rattle.kp_world.proofs.EventLemmas.{at_taken, OfEvent, at_step, OfStep, at_r
 use Rattle.kp_world.proofs.FlightLemmas.{Carries, PartHolds, ContentHolds, steady_new, steady_grown, steady_replied}
 use Rattle.kp_world.proofs.HearingLemmas.{lawful_reply}
 use Rattle.kp_world.proofs.LawfulLemmas.{Lawful, IsLawful, StoredAt, lawful_core, lawful_sending, IsLawfulWithin, PartsIn, Given}
-use Rattle.kp_world.proofs.LeavingLemmas.{CoreLeaves, left_appended, left_ticked, left_ended, left_flushed, left_disconnected, left_closed, left_unaudited}
+use Rattle.kp_world.proofs.LeavingLemmas.{CoreLeaves, left_appended, left_ticked, left_ended, left_flushed, left_disconnected, left_closed, left_unaudited, left_led}
 use Rattle.kp_world.proofs.PrefixLemmas.{grown_others, sound_drawn}
 use Rattle.kp_world.proofs.SoundLemmas.{came_others, sound_new, sound_history}
 use Rattle.kp_world.proofs.ListLemmas.{all_at, all_place, in_at, one_more}
@@ -207,10 +208,11 @@ lawful_client n w g = record {
   none_taken = λ s none. g;
   taken = λ s i there is. lawful_taken n s i w g;
   now = λ moment. g;
-  tick = lawful_called n w (tick_step w.moment w.core).after g (left_ticked (StoredAt w.logs) w.moment w.core);
-  send = lawful_sending n w g;
+  tick = λ node. lawful_called n w (tick_step node w.moment w.core).after g (left_ticked (StoredAt w.logs) node w.moment w.core);
+  send = λ node. lawful_sending n node w g;
   reply = λ j r is. lawful_reply n w.moment w.core w.logs w.handed w.packets w.replies w.ids r g (in_at w.replies j r is);
-  lost = lawful_called n w (disconnect_step w.moment w.core) g (left_disconnected (StoredAt w.logs) w.moment w.core);
+  lost = λ node. lawful_called n w (disconnect_step node w.moment w.core) g (left_disconnected (StoredAt w.logs) node w.moment w.core);
+  led = λ p node. lawful_called n w (lead_step p node w.moment w.core) g (left_led (StoredAt w.logs) p node w.moment w.core);
   close = lawful_called n w (close_step w.core) g (left_closed (StoredAt w.logs) w.core);
   end = lawful_called n w (end_step w.core).after g (left_ended (StoredAt w.logs) w.core);
   flush = lawful_called n w (flush_step w.core) g (left_flushed (StoredAt w.logs) w.core);

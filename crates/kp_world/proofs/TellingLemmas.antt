@@ -1,7 +1,8 @@
 -- What a call on the core tells of each partition's items, and what it keeps.
-use Rattle.kp_rules.proofs.ListLemmas.{at_set}
+use Rattle.kp_rules.proofs.ListLemmas.{at_set, at_put}
+use Rattle.kp_rules.specs.Leading.{led_by, lead_step}
 use Rattle.kp_rules.specs.Auditing.{unaudited, without_audits}
-use Rattle.kp_rules.specs.Attempts.{asks_for_id}
+use Rattle.kp_rules.specs.Attempts.{asks_for_id, goes_to}
 use Rattle.kp_rules.specs.Attempts.{partitions_of}
 use Rattle.kp_rules.specs.Records.{Called}
 use Rattle.kp_rules.specs.Records.{Demand}
@@ -14,7 +15,7 @@ use Rattle.kp_rules.specs.Replies.{give_id}
 use Rattle.kp_rules.specs.Replies.{settle_id}
 use Rattle.std.proofs.Common.{not}
 use Rattle.std.proofs.Common.{◌≡◌, ℕ, zero, suc, ◌+◌, ◌<◌, ◌≤◌, Bool, true, false, cond, List, [], ◌∷◌, ◌++◌, length, get_or, map, pos, Some, refl, sym, ap, ◌∙◌, subst, arith}
-use Rattle.std.specs.Prelude.{if◌then◌else◌, flat_map, nat_abs, ◌==◌, ◌||◌}
+use Rattle.std.specs.Prelude.{if◌then◌else◌, flat_map, nat_abs, ◌==◌, ◌||◌, slice_set}
 use Rattle.std.specs.List.{AllByRecursion, filter, range_with_len}
 use Rattle.std.proofs.lemmas.Bool.{eqb-true, eqb-false, eq-eqb, ne_eqb}
 use Rattle.std.proofs.lemmas.List.{append-nil, get_or-map, length-map}
@@ -32,7 +33,7 @@ use Rattle.kp_rules.specs.Replies.{response_step, go_on_under}
 use Rattle.kp_rules.specs.Tick.{tick_step, heed_deadlines}
 use Rattle.kp_rules.specs.Attempts.{awaiting, is_live}
 use Rattle.kp_rules.specs.Causes.{IsAnswered}
-use Rattle.kp_rules.specs.Dropping.{drop_attempts, disconnect_step, drop_requests}
+use Rattle.kp_rules.specs.Dropping.{disconnect_step, drop_requests, drop_led}
 use Rattle.kp_rules.specs.Flush.{mark}
 use Rattle.kp_rules.specs.MaySend.{wants_id}
 use Rattle.kp_rules.specs.Mismatch.{is_given}
@@ -41,7 +42,7 @@ use Rattle.kp_rules.specs.Records.{Open, Partition, Request, Core, Told, Effect}
 use Rattle.kp_rules.specs.Replies.{Replies}
 use Rattle.kp_rules.specs.Telling.{with_partitions, at_each, at_these}
 use Rattle.kp_rules.specs.Tick.{Ticks}
-use Rattle.kp_world.proofs.ConservationLemmas.{items_told, attempt_count, Tells, tells_same, tells_both, tells_nothing, tells_dropped, tells_marked, tells_given_up, tells_passed, tells_answered}
+use Rattle.kp_world.proofs.ConservationLemmas.{items_told, attempt_count, Tells, tells_same, tells_both, tells_nothing, tells_marked, tells_given_up, tells_passed, tells_answered, tells_led, tells_lead}
 use Rattle.kp_world.proofs.FateLemmas.{filter_other, filter_same}
 use Rattle.kp_world.proofs.WeightLemmas.{weigh, weigh-append, weigh_at, weigh_none}
 use Rattle.kp_rules.proofs.PartitionLemmas.{at-changed_at, length-changed_at}
@@ -182,9 +183,9 @@ core_map f k s s' e requests = record {
   there = tt;
 }
 
-pub core_dropped : (now : ℕ) (s : Core) → CoreTells s [] (drop_requests now s)
+pub core_dropped : (node now : ℕ) (s : Core) → CoreTells s [] (drop_requests node now s)
 unfolding drop_requests
-core_dropped now s = core_map (drop_attempts now) (tells_dropped now) s (drop_requests now s) refl (λ P h. tt)
+core_dropped node now s = core_map (drop_led node now) (tells_led node now) s (drop_requests node now s) refl (λ P h. all_filter P (λ r. not (goes_to node r)) s.requests h)
 
 pub core_flushed : (s : Core) → CoreTells s [] (flush_step s)
 unfolding flush_step
@@ -198,8 +199,21 @@ pub core_unaudited : (s : Core) → CoreTells s [] (without_audits s)
 unfolding without_audits
 core_unaudited s = core_map unaudited tells_unaudited s (without_audits s) refl (λ P h. h)
 
-pub core_disconnected : (now : ℕ) (s : Core) → CoreTells s [] (disconnect_step now s)
-core_disconnected now s = at_disconnect (CoreTells s []) now s (core_nothing s) (core_dropped now s)
+pub core_disconnected : (node now : ℕ) (s : Core) → CoreTells s [] (disconnect_step node now s)
+core_disconnected node now s = at_disconnect (CoreTells s []) node now s (core_nothing s) (core_dropped node now s)
+
+pub core_led : (p leader now : ℕ) (s : Core) → CoreTells s [] (lead_step p leader now s)
+unfolding lead_step
+core_led p leader now s = record {
+  count = length-set s.partitions p moved;
+  each = λ q h. at_put (Tells (partition_at q s.partitions) []) s.partitions p q moved (new_partition 0)
+      (λ same. subst (λ (n : ℕ). Tells (partition_at n s.partitions) [] moved) (sym same) (tells_lead leader now (partition_at p s.partitions))) (tells_nothing (partition_at q s.partitions));
+  requests = λ P h. all_filter P (is_live (slice_set s.partitions p moved)) s.requests h;
+  there = tt;
+}
+  where
+    moved : Partition
+    moved = led_by leader now (partition_at p s.partitions)
 
 pub core_closed : (s : Core) → CoreTells s [] (close_step s)
 core_closed s = at_close (CoreTells s []) s (core_nothing s) (core_alike s (record s { closing = true }) refl (λ P h. h))
@@ -297,15 +311,15 @@ core_weighs s told s' k f =
 
 -- ---- the calls
 
-home_dropped : (now : ℕ) (s : Core) → AtHome s.partitions → AtHome (drop_requests now s).partitions
+home_dropped : (node now : ℕ) (s : Core) → AtHome s.partitions → AtHome (drop_requests node now s).partitions
 unfolding drop_requests
-home_dropped now s home = home_mapped (drop_attempts now) (tells_dropped now) s.partitions home
+home_dropped node now s home = home_mapped (drop_led node now) (tells_led node now) s.partitions home
 
-pub core_ticked : (now : ℕ) (s : Core) → AtHome s.partitions → CoreTells s (tick_step now s).told (tick_step now s).after
-core_ticked now s home = at_tick (λ (x : Ticks). CoreTells s x.told x.after) now s (record {
+pub core_ticked : (node now : ℕ) (s : Core) → AtHome s.partitions → CoreTells s (tick_step node now s).told (tick_step node now s).after
+core_ticked node now s home = at_tick (λ (x : Ticks). CoreTells s x.told x.after) node now s (record {
   ended = core_nothing s;
-  timed_out = core_then s (drop_requests now s) (at_each (heed_deadlines (drop_requests now s).config now) (drop_requests now s)).after (at_each (heed_deadlines (drop_requests now s).config now) (drop_requests now s)).told (core_dropped now s)
-      (core_at_each (heed_deadlines (drop_requests now s).config now) (tells_passed (drop_requests now s).config now) (drop_requests now s) (home_dropped now s home));
+  timed_out = core_then s (drop_requests node now s) (at_each (heed_deadlines (drop_requests node now s).config now) (drop_requests node now s)).after (at_each (heed_deadlines (drop_requests node now s).config now) (drop_requests node now s)).told (core_dropped node now s)
+      (core_at_each (heed_deadlines (drop_requests node now s).config now) (tells_passed (drop_requests node now s).config now) (drop_requests node now s) (home_dropped node now s home));
   on_time = core_at_each (heed_deadlines s.config now) (tells_passed s.config now) s home;
 })
 

@@ -81,13 +81,14 @@ grows_event n w g = record {
   none_taken = λ s none. grows_not n w _ refl refl;
   taken = λ s i here there. at_taken (Grows n w) s i w (grows_not n w _ refl refl) (grows_not n w _ refl refl);
   now = λ moment. grows_not n w _ refl refl;
-  tick = grows_not n w _ refl refl;
-  send = let step = request_step w.moment w.core in at_sent (Grows n w) w step.after step.answer (λ line. grows_not n w _ refl refl) (λ o line. record {
+  tick = λ node. grows_not n w _ refl refl;
+  send = λ node. let step = request_step node w.moment w.core in at_sent (Grows n w) w step.after step.answer (λ line. grows_not n w _ refl refl) (λ o line. record {
     handed = λ p b h i. stays o.demand p b (subst (λ (m : ℕ). p < m) (sym g.handed_count) h) i;
     logs = λ p h. ([], sym (append-nil (log_at p w.logs).records));
   });
   reply = λ j r there. grows_not n w _ refl refl;
-  lost = grows_not n w _ refl refl;
+  lost = λ node. grows_not n w _ refl refl;
+  led = λ p node. grows_not n w _ refl refl;
   close = grows_not n w _ refl refl;
   end = grows_not n w _ refl refl;
   flush = grows_not n w _ refl refl;

@@ -81,7 +81,7 @@ abbrev sent : List WorldEvent
 sent =
     world.Accept 0 0 3 (keyed 5 (codes "a")) ∷ world.Accept 0 1 2 (keyed 4 (codes "b"))
     ∷ world.Take 0 ∷ world.Take 0 ∷ world.Other 0 (stored_as (pos 8) (keyed 1 (codes "c") ∷ []))
-    ∷ world.Now 100 ∷ world.Send ∷ []
+    ∷ world.Now 100 ∷ world.Send 0 ∷ []
 
 abbrev before : World
 before = end_of client [] sent (opening orders)

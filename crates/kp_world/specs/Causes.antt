@@ -14,7 +14,7 @@ use Rattle.kp_world.specs.World.{World, Happened}
 -- reply is the one that was given. No other event makes one that tells.
 abbrev pub call_of : WorldEvent → World → Option Telling
 call_of (world.Take s) w = option_map call.Append (slice_get (accepted_by s w) (taken_by s w))
-call_of world.Tick w = Some (call.Tick w.moment)
+call_of (world.Tick node) w = Some (call.Tick node w.moment)
 call_of (world.Reply j) w = option_map (λ r. call.Reply w.moment r.response) (slice_get w.replies j)
 call_of world.End w = Some call.End
 call_of e w = None

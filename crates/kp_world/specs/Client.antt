@@ -7,6 +7,7 @@ use Rattle.kp_rules.specs.declared.ticked.Replied.{Replied}
 use Rattle.kp_rules.specs.Closing.{close_step, end_step}
 use Rattle.kp_rules.specs.Dropping.{disconnect_step}
 use Rattle.kp_rules.specs.Flush.{flush_step}
+use Rattle.kp_rules.specs.Leading.{lead_step}
 use Rattle.kp_rules.specs.Next.{Sending}
 use Rattle.kp_rules.specs.Partitions.{is_empty, all_untold}
 use Rattle.kp_rules.specs.Records.{Demand, Produce, InitProducerId, HandedBatch, Core}
@@ -95,8 +96,8 @@ abbrev pub ticked_to : Ticks → World → World
 ticked_to step w =
     noted step.after (if step.answer.reconnect then Reconnect ∷ [] else []) step.told w
 
-abbrev pub ticking : World → World
-ticking w = ticked_to (tick_step w.moment w.core) w
+abbrev pub ticking : ℕ → World → World
+ticking node w = ticked_to (tick_step node w.moment w.core) w
 
 abbrev pub ending : World → World
 ending w = let step = end_step w.core in noted step.after [] step.told w
@@ -111,11 +112,12 @@ client (event.Accept s p at body) w =
 client (event.Take s) w =
     only_if (has_sender s w) (taking s (slice_get (accepted_by s w) (taken_by s w)) w)
 client (event.Now moment) w = Some (only_noted [] (record w { moment = moment }))
-client event.Tick w = Some (ticking w)
-client event.Send w =
-    let step = request_step w.moment w.core in Some (sending w step.after step.answer)
+client (event.Tick node) w = Some (ticking node w)
+client (event.Send node) w =
+    let step = request_step node w.moment w.core in Some (sending w step.after step.answer)
 client (event.Reply j) w = replying j (slice_get w.replies j) w
-client event.Drop w = Some (noted (disconnect_step w.moment w.core) [] [] w)
+client (event.Drop node) w = Some (noted (disconnect_step node w.moment w.core) [] [] w)
+client (event.Lead p node) w = Some (noted (lead_step p node w.moment w.core) [] [] w)
 client event.Close w = Some (closing w)
 client event.End w = Some (ending w)
 client event.Flush w = Some (noted (flush_step w.core) (flush_line w.core ∷ []) [] w)

@@ -27,7 +27,7 @@ pub record HandsFront (p : ℕ) (before after : Facts) : Type 0 where
 -- Nothing was handed over in an event, or it is a request by which the front batch was.
 abbrev pub GrowsByFront : ℕ → WorldEvent → Facts → Facts → Type 0
 GrowsByFront p e before after =
-    (handed_at p after.handed ≡ handed_at p before.handed) ⊎ ((e ≡ Send) × HandsFront p before after)
+    (handed_at p after.handed ≡ handed_at p before.handed) ⊎ ((node : ℕ) × (e ≡ Send node) × HandsFront p before after)
 
 -- What was handed over before stands first.
 abbrev pub GrowsAtEnd : ℕ → Facts → Facts → Type 0

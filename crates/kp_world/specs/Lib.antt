@@ -15,6 +15,7 @@ pub mod Facts
 pub mod Accounts
 pub mod LogLaws
 pub mod Reaching
+pub mod Leaders
 pub mod Handed
 pub mod FreshIds
 pub mod Causes

@@ -45,12 +45,13 @@ use Rattle.kp_world.specs.World.{Reply, World, opening, scheduled}
 -- ---- what goes out
 
 -- It hands batches over by this rule.
-abbrev pub requested_by : HandOverRule → ℕ → Core → Requested
-requested_by may now s = request_for now s (demand_with (batches_by (sends_by may) now s) now s)
+abbrev pub requested_by : HandOverRule → ℕ → ℕ → Core → Requested
+requested_by may node now s =
+    request_for node now s (demand_with (batches_by (sends_by may) node now s) node now s)
 
 abbrev pub sending_by : HandOverRule → Producer
-sending_by may event.Send w =
-    let step = requested_by may w.moment w.core in Some (sending w step.after step.answer)
+sending_by may (event.Send node) w =
+    let step = requested_by may node w.moment w.core in Some (sending w step.after step.answer)
 sending_by may e w = client e w
 
 -- all conditions but the window, which is this one
@@ -79,9 +80,9 @@ without_waiting c flags now t front =
 
 -- It does this to each partition before a request.
 abbrev pub changing_first : (Config → ℕ → Partition → Partition) → Producer
-changing_first change event.Send w =
+changing_first change (event.Send node) w =
     let changed = map (change w.core.config w.moment) w.core.partitions in
-    client event.Send (record w { core = record w.core { partitions = changed } })
+    client (event.Send node) (record w { core = record w.core { partitions = changed } })
 changing_first change e w = client e w
 
 -- the lowest batch that waits, with these items too
@@ -161,7 +162,7 @@ with_request_again now k (Produce xs) s = record s {
   partitions = changed_at (partitions_in xs) (awaiting_again k xs) s.partitions;
   requests =
       s.requests
-      ++ (record { correlation = k; sent = now; demand = Produce (partitions_in xs) }) ∷ [];
+      ++ (record { correlation = k; node = 0; sent = now; demand = Produce (partitions_in xs) }) ∷ [];
 }
 with_request_again now k (InitProducerId p) s = s
 
@@ -238,7 +239,7 @@ without_fence now k t entry = elim (awaiting k t) [
 
 -- It does this at each partition.
 abbrev pub ticking_by : TickRule → Producer
-ticking_by rule event.Tick w = Some (ticked_to (tick_by rule w.moment w.core) w)
+ticking_by rule (event.Tick node) w = Some (ticked_to (tick_by rule node w.moment w.core) w)
 ticking_by rule e w = client e w
 
 abbrev pub without_late : Config → ℕ → Partition → Partition

@@ -90,7 +90,7 @@ abbrev pub stored_together : List WorldEvent
 stored_together =
     world.Accept 0 0 3 (keyed 5 (codes "a")) ∷ world.Accept 0 1 2 (keyed 4 (codes "b"))
     ∷ world.Take 0 ∷ world.Take 0 ∷ world.Other 0 (stored_as (pos 8) (keyed 1 (codes "c") ∷ []))
-    ∷ world.Now 100 ∷ world.Send ∷ world.Deliver 0 ∷ world.Reply 0 ∷ []
+    ∷ world.Now 100 ∷ world.Send 0 ∷ world.Deliver 0 ∷ world.Reply 0 ∷ []
 
 -- The entries stand the other way around, each with the time of its append, and the broker held the
 -- answer back for a while.

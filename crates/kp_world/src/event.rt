@@ -13,7 +13,8 @@ pub enum Treatment {
     Late(i16),
 }
 
-/// What may happen in a schedule. Senders, partitions, packets and replies are told by their numbers, from 0.
+/// What may happen in a schedule. Senders, partitions, packets and replies are told by their numbers, from 0, and nodes by
+/// any numbers.
 #[derive(Debug, Drop)]
 pub enum Event {
     /// A sender has a record without a key accepted.
@@ -30,10 +31,18 @@ pub enum Event {
     Now {
         moment: u64,
     },
-    /// The producer looks at the clock.
+    /// The producer looks at the clock, for node 0.
     Tick,
-    /// The next request goes out, as a packet.
+    /// The producer looks at the clock, for this node.
+    TickNode {
+        node: u32,
+    },
+    /// The next request to node 0 goes out, as a packet.
     Send,
+    /// The next request to this node goes out, as a packet.
+    SendNode {
+        node: u32,
+    },
     /// A packet comes to the broker, whose answer becomes a reply. The packet may come again.
     Deliver {
         packet: u64,
@@ -43,8 +52,17 @@ pub enum Event {
     Reply {
         reply: u64,
     },
-    /// The connection is gone.
+    /// The connection to node 0 is gone.
     Drop,
+    /// The connection to this node is gone.
+    DropNode {
+        node: u32,
+    },
+    /// This node leads the partition from now on.
+    Leader {
+        partition: u64,
+        node: u32,
+    },
     /// Another producer has so many records appended.
     Other {
         partition: u64,

@@ -7,6 +7,7 @@ mod event;
 pub mod handing;
 pub mod ids;
 pub mod laws;
+pub mod leaders;
 pub mod needed;
 pub mod reaching;
 

@@ -6,7 +6,7 @@ ghost use Rattle.kp_rules.specs.declared.outcome.Reason.TheVariants as reason;
 ghost use Rattle.kp_world.specs.Reaching.{Tells, stored_and_repeated, sent_and_late, refused_and_followed, queued_and_late, queued_and_ended, Leads, orders, stored_together, exchanged};
 
 /// Each outcome is told in some run, but for a delivery without an offset, which none is told; and each kind of event
-/// is in one of these runs.
+/// that names no node is in one of these runs.
 pub fn each_outcome_is_told_in_some_run()
     ensures delivered { Tells stored_and_repeated (outcome.Delivered (pos 0) ∷ []) }
     ensures unknown { Tells sent_and_late (outcome.Unknown ∷ []) }

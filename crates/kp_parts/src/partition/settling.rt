@@ -3,7 +3,7 @@
 ghost use Rattle.std.specs.Prelude.{◌≡◌, ◌≤◌, true, not, ◌||◌, filter, map, vec_capacity};
 ghost use Rattle.kp_rules.specs.Attempts.{awaiting, awaits};
 ghost use Rattle.kp_rules.specs.Mismatch.{has_offsets};
-ghost use Rattle.kp_rules.specs.Settling.{is_first_under_id, meaning_of, put_off, retry_later, settle_batch, without_attempt};
+ghost use Rattle.kp_rules.specs.Settling.{is_first_under_id, put_off, retry_later, settle_batch, without_attempt};
 ghost use Rattle.kp_parts.specs.Desk.{tell_desk, Covers};
 
 use crate::desk::Desk;
@@ -11,20 +11,7 @@ use crate::open::Open;
 use crate::partition::Partition;
 use crate::partition::sending::last_id;
 use kp_frames::PartitionProduceResponse;
-use kp_rules::{Meaning, Outcome};
-
-/// What a code means for a batch.
-#[tactic(auto, unfolding(kp_rules::specs::Settling::meaning_of))]
-fn meaning_of(code: i16) -> Meaning
-    ensures { result ≡ meaning_of code }
-{
-    match code {
-        0 => Meaning::Stored,
-        46 => Meaning::Duplicate,
-        2 | 3 | 5 | 6 | 7 | 19 | 20 | 45 => Meaning::Retry,
-        _ => Meaning::Reject,
-    }
-}
+use kp_rules::{Meaning, Outcome, meaning_of};
 
 impl Partition {
     /// What its entry in the reply to this request does, heard at this moment. An entry for an attempt that a fence ended

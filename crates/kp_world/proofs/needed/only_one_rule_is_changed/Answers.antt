@@ -26,14 +26,15 @@ with_partitions w ts = record w { core = record w.core { partitions = ts } }
 
 changes_none : (e : WorldEvent) (w : World) → changing_first (λ c now t. t) e w ≡ client e w
 unfolding with_partitions
-changes_none event.Send w = ap (λ (ts : List Partition). client event.Send (with_partitions w ts)) (all_same w.core.partitions)
+changes_none (event.Send node) w = ap (λ (ts : List Partition). client (event.Send node) (with_partitions w ts)) (all_same w.core.partitions)
 changes_none (event.Accept s p at x) w = refl
 changes_none (event.Take s) w = refl
 changes_none (event.Now moment) w = refl
-changes_none event.Tick w = refl
+changes_none (event.Tick node) w = refl
 changes_none (event.Deliver k) w = refl
 changes_none (event.Reply j) w = refl
-changes_none event.Drop w = refl
+changes_none (event.Drop node) w = refl
+changes_none (event.Lead p node) w = refl
 changes_none (event.Other p records) w = refl
 changes_none event.Close w = refl
 changes_none event.End w = refl
@@ -73,10 +74,11 @@ settles_alike (event.Reply j) w = same_replied j (slice_get w.replies j) w
 settles_alike (event.Accept s p at x) w = refl
 settles_alike (event.Take s) w = refl
 settles_alike (event.Now moment) w = refl
-settles_alike event.Tick w = refl
-settles_alike event.Send w = refl
+settles_alike (event.Tick node) w = refl
+settles_alike (event.Send node) w = refl
 settles_alike (event.Deliver k) w = refl
-settles_alike event.Drop w = refl
+settles_alike (event.Drop node) w = refl
+settles_alike (event.Lead p node) w = refl
 settles_alike (event.Other p records) w = refl
 settles_alike event.Close w = refl
 settles_alike event.End w = refl
