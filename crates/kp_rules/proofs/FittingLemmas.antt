@@ -20,13 +20,13 @@ use Rattle.kp_rules.specs.MaySend.{may_hand_over, new_batch, sends}
 use Rattle.kp_rules.specs.Next.{Sending, in_turn, used_up_to, sending_by, fitting, next_batches, next_demand, flags_of}
 use Rattle.kp_rules.specs.Partitions.{partition_at}
 use Rattle.kp_rules.specs.Records.{HandedBatch, Open, Partition, Demand, Produce, InitProducerId, Core}
-use Rattle.kp_rules.specs.Requesting.{Packet, Requested, is_spent, go_out, request_step}
+use Rattle.kp_rules.specs.Requesting.{AsksOfLed, Packet, Requested, is_spent, go_out, request_step}
 use Rattle.kp_rules.proofs.BatchFitLemmas.{batch_fits, length_spelled, head_fits}
 use Rattle.kp_rules.proofs.CallLemmas.{at_request}
 use Rattle.kp_rules.proofs.ListLemmas.{all_map, all_weaker, at_contained, found, last_below, length-filter_map}
 use Rattle.kp_rules.proofs.OrderedCallLemmas.{HasBounds, has_bounds, places}
 use Rattle.kp_rules.proofs.RequestFitLemmas.{produce_fits, id_request_fits}
-use Rattle.kp_rules.proofs.SendingLemmas.{IsSent, at_sends, demand_is_next, demand_is_sent, handed_over}
+use Rattle.kp_rules.proofs.SendingLemmas.{IsSent, asks_of_led, at_sends, demand_is_next, demand_is_sent, handed_over}
 
 -- ---- a batch that is sent has records, and numbers that fit
 
@@ -178,3 +178,17 @@ request_fits node now s packet order = at_request (λ (x : Requested). x.answer 
     out going d wanted left e =
         let same : (record { correlation = s.correlation; demand = d }) ≡ packet = cc in
         subst (FitsPacket s.config s.names) same (demand_fits node now s order d wanted (omega (arith, ltb-false _ _ left)))
+
+-- ---- it is the node's
+
+pub request_is_led : (node now : ℕ) (s : Core) (packet : Packet) → (request_step node now s).answer ≡ Ok (Some packet) → AsksOfLed node s packet.demand
+request_is_led node now s packet = at_request (λ (x : Requested). x.answer ≡ Ok (Some packet) → AsksOfLed node s packet.demand) node now s (record {
+  ended = λ e. absurd cc;
+  idle = λ e. absurd cc;
+  spent = λ e. absurd cc;
+  out = out;
+})
+  where
+    out : s.ended ≡ false → (d : Demand Sending) → next_demand node now s ≡ Some d → is_spent s ≡ false → (go_out node now s d).answer ≡ Ok (Some packet)
+        → AsksOfLed node s packet.demand
+    out going d wanted left e = let its : d ≡ packet.demand = cc in subst (AsksOfLed node s) its (asks_of_led node now s d wanted)

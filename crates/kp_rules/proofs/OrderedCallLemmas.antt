@@ -65,7 +65,7 @@ use Rattle.kp_rules.specs.Partitions.{partition_at, with_partition, changed_at, 
 use Rattle.kp_rules.specs.Records.{HandedBatch, Partition, Demand, Produce, InitProducerId, Request, Core, Told, Effect, Called, Open}
 use Rattle.kp_rules.specs.Replies.{Replies, settle_batches, go_on_under, settle_id, response_step, reply_step}
 use Rattle.kp_rules.specs.Reports.{with_reports, fetch_step}
-use Rattle.kp_rules.specs.Requesting.{Requested, partitions_in, request_of, sent_out, request_step}
+use Rattle.kp_rules.specs.Requesting.{IsLed, Requested, partitions_in, request_of, sent_out, request_step}
 use Rattle.kp_rules.specs.Telling.{with_partitions, at_each, at_these}
 use Rattle.kp_rules.specs.Tick.{Ticks, heed_deadlines, tick_step}
 use Rattle.kp_rules.proofs.CallLemmas.{at_append, at_id, at_reply, at_request, by_entries, idle, at_response_going, at_tick, at_end_step, at_disconnect, at_close}
@@ -73,7 +73,7 @@ use Rattle.kp_rules.proofs.FlightLemmas.{contains_filter, awaited_then, awaited_
 use Rattle.kp_rules.proofs.ListLemmas.{all_by, all_map, all_say, all_weaker, at_contained, at_put, sum_by-flat_map, sum_by-flat_map-set, at_mapped, contains_head}
 use Rattle.kp_rules.proofs.OrderLemmas.{Left, Same, left_same, left_filter, left_kept, left_mapped, left_same_all, left_none, left_length, left_distinct, distinct_more, Shrinks, shrinks_same, shrinks_led, shrinks_lead, shrinks_marked, shrinks_given_up, given_up_empty, shrinks_passed, shrinks_entries, emptied, shrunk, load, lighter, later, gone_on, IsNew, enqueued, heavier, goes_out, as_heavy, shrinks_unaudited}
 use Rattle.kp_rules.proofs.PartitionLemmas.{at_changed, length-changed_at, numbered}
-use Rattle.kp_rules.proofs.SendingLemmas.{IsSent, has_part, demand_is_sent, demand_is_distinct, IsLed, demand_is_led}
+use Rattle.kp_rules.proofs.SendingLemmas.{IsSent, has_part, demand_is_sent, demand_is_distinct, demand_is_led}
 
 -- ---- each partition
 

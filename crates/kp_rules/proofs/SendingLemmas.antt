@@ -1,6 +1,6 @@
 -- What a partition sends goes out, and the batches of a request are those that their partitions may send, each partition's once.
 use Rattle.std.proofs.Common.{◌≡◌, ℕ, suc, ◌+◌, ◌-◌, ◌<◌, ◌≤◌, Bool, true, false, not, List, [], ◌∷◌, ◌++◌, length, get_or, take, drop, Some, None, refl, sym, ap, ◌∙◌, subst, arith, Contains}
-use Rattle.std.specs.Prelude.{Option, if◌then◌else◌, option_map, filter_map, nat_le, ◌||◌, ◌&&◌, ◌==◌}
+use Rattle.std.specs.Prelude.{Option, if◌then◌else◌, option_map, filter_map, find, nat_le, ◌||◌, ◌&&◌, ◌==◌}
 use Rattle.std.specs.List.{AllByRecursion, enumerate_from, cons_option}
 use Rattle.std.proofs.lemmas.Bool.{and_parts, eqb-true, leb-true, ne_eqb}
 use Rattle.std.proofs.lemmas.List.{append-nil, take-append-drop}
@@ -8,16 +8,16 @@ use Rattle.kp_wire.proofs.ListLemmas.{all_append, all_drop}
 use Rattle.kp_accum.specs.declared.config.Config.{Config}
 use Rattle.kp_accum.specs.declared.flags.Flags.{Flags}
 use Rattle.kp_accum.specs.Queue.{Pending, size_of}
-use Rattle.kp_accum.specs.Ready.{is_ready}
-use Rattle.kp_rules.specs.Attempts.{has_window, is_waiting, lowest_waiting}
+use Rattle.kp_accum.specs.Ready.{is_over, is_ready}
+use Rattle.kp_rules.specs.Attempts.{has_window, is_id_asked, is_waiting, lowest_waiting}
 use Rattle.kp_rules.specs.HandingOver.{again_in, hand_over_in, send_again_in, send_in}
 use Rattle.kp_rules.specs.InOrder.{AreDistinct}
-use Rattle.kp_rules.specs.MaySend.{is_rested, is_confirmed, is_in_span, is_within_limit, may_hand_over, new_batch, sends}
+use Rattle.kp_rules.specs.MaySend.{is_rested, is_confirmed, is_in_span, is_within_limit, may_hand_over, new_batch, sends, wants_id}
 use Rattle.kp_rules.specs.Next.{Sending, flags_of, used_up_to, in_turn, Choice, sends_to, sending_by, fitting, next_batches, next_asking, next_demand}
 use Rattle.kp_rules.specs.Partitions.{partition_at, new_partition, is_in, leads}
 use Rattle.kp_rules.specs.Records.{HandedBatch, Open, Partition, Demand, Produce, InitProducerId, Core}
-use Rattle.kp_rules.specs.Requesting.{partitions_in}
-use Rattle.kp_rules.proofs.ListLemmas.{IsOther, all_back, all_filter_map, all_front, all_map, all_take, all_weaker, contains_head, contains_tail, none_in}
+use Rattle.kp_rules.specs.Requesting.{AsksOfLed, IsLed, partitions_in}
+use Rattle.kp_rules.proofs.ListLemmas.{IsOther, all_back, all_filter_map, all_front, all_map, all_take, all_weaker, at_contained, contains_head, contains_tail, found, none_in}
 
 -- ---- a batch goes out again
 
@@ -219,9 +219,6 @@ demand_is_sent node now s xs e = subst (AllByRecursion (IsSent now s)) (demand_i
 
 -- ---- the node leads the partitions of a request
 
-abbrev pub IsLed : ℕ → Core → Sending → Type 0
-IsLed node s x = leads node (partition_at x.partition s.partitions) ≡ true
-
 sending_led : (node now : ℕ) (s : Core) (y : ℕ × Partition) (x : Sending)
     → IsPlace 0 s.partitions (new_partition 0) y → sending_by sends node s now y ≡ Some x → IsLed node s x
 sending_led node now s y x place e = at_option (sends_to node sends s.config (flags_of s) now y.1) refl e
@@ -250,6 +247,51 @@ all_led node now s =
 
 pub demand_is_led : (node now : ℕ) (s : Core) (xs : List Sending) → next_demand node now s ≡ Some (Produce xs) → AllByRecursion (IsLed node s) xs
 demand_is_led node now s xs e = subst (AllByRecursion (IsLed node s)) (demand_is_next node now s xs e) (all_led node now s)
+
+-- nor is an id asked for at another node
+asking_led : (node now p : ℕ) (s : Core) → next_asking node now s ≡ Some p → leads node (partition_at p s.partitions) ≡ true
+asking_led node now p s e =
+    at_turn (not (is_id_asked s) && elim s.id_waits [ None ↦ true | Some since ↦ is_over since s.config.retry_backoff_ms now ]) e
+  where
+    test : (ℕ × Partition) → Bool
+    test x = leads node x.1 && wants_id s.config x.1
+
+    at_found : (o : Option (ℕ × Partition)) → find test (enumerate_from 0 s.partitions) ≡ o → option_map (λ x. x.0) o ≡ Some p
+        → leads node (partition_at p s.partitions) ≡ true
+    at_found None is e' = absurd cc
+    at_found (Some y) is e' =
+        let named : y.0 ≡ p = cc in
+        let it = found test (enumerate_from 0 s.partitions) y is in
+        let place = at_contained (IsPlace 0 s.partitions (new_partition 0)) (enumerate_from 0 s.partitions) y (places 0 s.partitions (new_partition 0)) it.0 in
+        let at : p - 0 ≡ p = omega arith in
+        let same : partition_at p s.partitions ≡ y.1 =
+        ap (λ (n : ℕ). partition_at n s.partitions) (sym at ∙ ap (λ (n : ℕ). n - 0) (sym named)) ∙ place.there in
+        ap (leads node) same ∙ (and_parts (leads node y.1) (wants_id s.config y.1) it.1).0
+
+    at_turn : (b : Bool) → (if b then option_map (λ x. x.0) (find (λ x. leads node x.1 && wants_id s.config x.1) (enumerate_from 0 s.partitions)) else None) ≡ Some p
+        → leads node (partition_at p s.partitions) ≡ true
+    at_turn true e' = at_found (find test (enumerate_from 0 s.partitions)) refl e'
+    at_turn false e' = absurd cc
+
+-- what the next request asks for is the node's
+pub asks_of_led : (node now : ℕ) (s : Core) (d : Demand Sending) → next_demand node now s ≡ Some d → AsksOfLed node s d
+unfolding next_demand
+asks_of_led node now s (Produce xs) e = demand_is_led node now s xs e
+asks_of_led node now s (InitProducerId p) e = at_window (not (has_window node s)) e
+  where
+    at_batches : (ys : List Sending) → by_batches ys ≡ Some (InitProducerId p) → leads node (partition_at p s.partitions) ≡ true
+    at_batches [] e' = absurd cc
+    at_batches (y ∷ ys) e' = absurd cc
+
+    at_asking : (o : Option ℕ) → next_asking node now s ≡ o → by_asking (next_batches node now s) o ≡ Some (InitProducerId p)
+        → leads node (partition_at p s.partitions) ≡ true
+    at_asking None is e' = at_batches (next_batches node now s) e'
+    at_asking (Some q) is e' = let same : q ≡ p = cc in asking_led node now p s (is ∙ ap Some same)
+
+    at_window : (b : Bool) → (if b then None else by_asking (next_batches node now s) (next_asking node now s)) ≡ Some (InitProducerId p)
+        → leads node (partition_at p s.partitions) ≡ true
+    at_window false e' = at_asking (next_asking node now s) refl e'
+    at_window true e' = absurd cc
 
 -- ---- lists of which no two have one key
 

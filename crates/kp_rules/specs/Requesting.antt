@@ -1,10 +1,10 @@
 -- The next request to a node: which refusal comes, what goes out, and the core then.
-use Rattle.std.specs.Prelude.{ℕ, ◌+◌, ◌-◌, ◌^◌, Bool, List, [], ◌∷◌, ◌++◌, map, filter, Option, Some, None, Result, Ok, Err, IsOkAnd, IsSome, ◌==◌, not, nat_lt, if◌then◌else◌}
-use Rattle.std.specs.List.{last_or}
+use Rattle.std.specs.Prelude.{◌≡◌, ℕ, ◌+◌, ◌-◌, ◌^◌, Bool, true, List, [], ◌∷◌, ◌++◌, map, filter, Option, Some, None, Result, Ok, Err, IsOkAnd, IsSome, ◌==◌, not, nat_lt, if◌then◌else◌}
+use Rattle.std.specs.List.{AllByRecursion, last_or}
 use Rattle.kp_rules.specs.declared.fault.CoreFault.{CoreFault}
 use Rattle.kp_rules.specs.declared.fault.CoreFault.TheVariants.{CorrelationSpent, Ended}
 use Rattle.kp_rules.specs.Records.{Demand, Produce, InitProducerId, Request, Turn, Core, Called, quietly}
-use Rattle.kp_rules.specs.Partitions.{changed_at}
+use Rattle.kp_rules.specs.Partitions.{changed_at, leads, partition_at}
 use Rattle.kp_rules.specs.HandingOver.{send_in}
 use Rattle.kp_rules.specs.Next.{Sending, next_demand}
 
@@ -72,3 +72,12 @@ request_step node now s = request_for node now s (next_demand node now s)
 -- Memory can be wanting only where a request goes out.
 abbrev pub RequestNeedsMemory : ℕ → ℕ → Core → Type 0
 RequestNeedsMemory node now s = IsOkAnd (request_step node now s).answer IsSome
+
+-- this node leads the batch's partition
+abbrev pub IsLed : ℕ → Core → Sending → Type 0
+IsLed node s x = leads node (partition_at x.partition s.partitions) ≡ true
+
+-- It asks for nothing but for what this node leads.
+abbrev pub AsksOfLed : ℕ → Core → Demand Sending → Type 0
+AsksOfLed node s (Produce xs) = AllByRecursion (IsLed node s) xs
+AsksOfLed node s (InitProducerId p) = leads node (partition_at p s.partitions) ≡ true

@@ -8,7 +8,7 @@ ghost use Rattle.kp_rules.specs.InOrder.{IsInOrder};
 ghost use Rattle.kp_rules.specs.Next.{Sending};
 ghost use Rattle.kp_rules.specs.Opening.{new_core};
 ghost use Rattle.kp_rules.specs.Records.{Core};
-ghost use Rattle.kp_rules.specs.Requesting.{Packet, request_step};
+ghost use Rattle.kp_rules.specs.Requesting.{AsksOfLed, Packet, request_step};
 ghost use Rattle.kp_rules.specs.declared.names.Names.{Names};
 
 /// Whatever request a core in order gives can be written: each batch in it has a spelling, and so has its message, one
@@ -19,6 +19,14 @@ pub fn a_request_always_fits()
         → IsInOrder s
         → (request_step node now s).answer ≡ Ok (Some packet)
         → FitsPacket s.config s.names packet }
+{}
+
+/// A request to a node asks for nothing but for what this node leads: its batches are of partitions that it leads, and so
+/// is the partition for which it asks for an id.
+pub fn a_request_asks_of_what_its_node_leads()
+    ensures { (node now : ℕ) (s : Core) (packet : Packet)
+        → (request_step node now s).answer ≡ Ok (Some packet)
+        → AsksOfLed node s packet.demand }
 {}
 
 /// Whatever calls a new core hears, a batch goes out with the same records, producer id and base sequence each time:
