@@ -1,5 +1,5 @@
 -- A response is one to its request, and its entries are settled.
-use Rattle.std.proofs.Common.{◌≡◌, ◌∙◌, ℕ, ◌-◌, ◌<◌, ◌≤◌, Bool, true, List, length, sym, ap, subst}
+use Rattle.std.proofs.Common.{◌≡◌, ◌∙◌, ℕ, ◌-◌, ◌<◌, Bool, true, List, length, sym, ap, subst}
 use Rattle.std.specs.Prelude.{filter, flat_map, ◌&&◌, ◌==◌}
 use Rattle.std.specs.List.{AllByRecursion, list_all}
 use Rattle.kp_frames.specs.declared.produce.PartitionProduceResponse.{PartitionProduceResponse}
@@ -68,11 +68,11 @@ unfolding at_these with_partitions
 told-is {s} {k} {ps} {y} {found} now a =
     told_alike (λ p t. settled_by now k (entry_at p found) t) (λ p t. by_entries now k t (entries_for p y)) s.partitions ps (same_settled now a)
 
-covers_all : {s : Core} {d : Desk} {room k : ℕ} {ps : List ℕ} {y : ProduceResponse} {found : List Entry} (now : ℕ) → IsKept s d room → AreAnswered s k ps y found
+covers_all : {s : Core} {d : Desk} {k : ℕ} {ps : List ℕ} {y : ProduceResponse} {found : List Entry} (now : ℕ) → IsKept s d → AreAnswered s k ps y found
     → Covers d (settle_batches now k ps y s).told
-covers_all {s} {d} {room} {k} {ps} {y} now h a = covers_told h (settled_left now k ps y s a.there a.once h.order)
+covers_all {s} {d} {k} {ps} {y} now h a = covers_told h (settled_left now k ps y s a.there a.once h.order)
 
-pub covers_answered : {s : Core} {d : Desk} {room k : ℕ} {ps : List ℕ} {y : ProduceResponse} {found : List Entry} (now : ℕ) → IsKept s d room
+pub covers_answered : {s : Core} {d : Desk} {k : ℕ} {ps : List ℕ} {y : ProduceResponse} {found : List Entry} (now : ℕ) → IsKept s d
     → AreAnswered s k ps y found → Covers d (told_of now k ps found s)
 covers_answered {d = d} now h a = subst (Covers d) (sym (told-is now a)) (covers_all now h a)
 
@@ -91,24 +91,24 @@ desk-is : {now k : ℕ} {ps : List ℕ} {found : List Entry} {s : Core} {ts : Li
 desk-is {now} {d = d} a w = w.told ∙ ap (λ (told : List Told). tell_desk told d) (told-is now a)
 
 -- the core with its partitions settled so, this told, and the requests kept that are live
-pub batches-is : {now k : ℕ} {ps : List ℕ} {found : List Entry} {s : Core} {ts : List Partition} {requests : List Request} {exhausted : Bool} {d e : Desk} {room : ℕ} {y : ProduceResponse}
-    → IsKept s d room → AreAnswered s k ps y found → WereSettled now k ps found s ts requests exhausted d e
+pub batches-is : {now k : ℕ} {ps : List ℕ} {found : List Entry} {s : Core} {ts : List Partition} {requests : List Request} {exhausted : Bool} {d e : Desk} {y : ProduceResponse}
+    → IsKept s d → AreAnswered s k ps y found → WereSettled now k ps found s ts requests exhausted d e
     → record s { partitions = ts; requests = requests; exhausted = exhausted; reports = all_reports e } ≡ (settle_batches now k ps y s).after
 unfolding at_these with_partitions
-batches-is {now} {k} {ps} {found} {s} {ts} {requests} {exhausted} {d} {e} {room} {y} h a w =
+batches-is {now} {k} {ps} {found} {s} {ts} {requests} {exhausted} {d} {e} {y} h a w =
     settled-is s (changed_at ps (λ p t. (by_entries now k t (entries_for p y)).after) s.partitions) ts
     (flat_map (λ p. (by_entries now k (partition_at p s.partitions) (entries_for p y)).told) ps) requests exhausted d e w.reports (covers_all now h a)
     (w.changed ∙ changed_alike (λ p t. settled_by now k (entry_at p found) t) (λ p t. by_entries now k t (entries_for p y)) s.partitions ps (same_settled now a))
     (desk-is a w) w.live w.memory
 
-pub batches_kept : {now k : ℕ} {ps : List ℕ} {found : List Entry} {s : Core} {ts : List Partition} {requests : List Request} {exhausted : Bool} {d e : Desk} {room more : ℕ} {y : ProduceResponse}
-    → IsKept s d room → AreAnswered s k ps y found → WereSettled now k ps found s ts requests exhausted d e → room ≤ more
-    → IsKept (record s { partitions = ts; requests = requests; exhausted = exhausted; reports = all_reports e }) e more
-batches_kept {now} {k} {ps} {found} {s} {e = e} {more = more} {y = y} h a w l =
-    subst (λ (x : Core). IsKept x e more) (sym (batches-is h a w)) (told_kept h (settled_left now k ps y s a.there a.once h.order) (desk-is a w) l)
+pub batches_kept : {now k : ℕ} {ps : List ℕ} {found : List Entry} {s : Core} {ts : List Partition} {requests : List Request} {exhausted : Bool} {d e : Desk} {y : ProduceResponse}
+    → IsKept s d → AreAnswered s k ps y found → WereSettled now k ps found s ts requests exhausted d e
+    → IsKept (record s { partitions = ts; requests = requests; exhausted = exhausted; reports = all_reports e }) e
+batches_kept {now} {k} {ps} {found} {s} {e = e} {y = y} h a w =
+    subst (λ (x : Core). IsKept x e) (sym (batches-is h a w)) (told_kept h (settled_left now k ps y s a.there a.once h.order) (desk-is a w))
 
-pub count_settled : {now k : ℕ} {ps : List ℕ} {found : List Entry} {s : Core} {ts : List Partition} {requests : List Request} {exhausted : Bool} {d e : Desk} {room : ℕ} {y : ProduceResponse}
-    → IsKept s d room → AreAnswered s k ps y found → WereSettled now k ps found s ts requests exhausted d e
+pub count_settled : {now k : ℕ} {ps : List ℕ} {found : List Entry} {s : Core} {ts : List Partition} {requests : List Request} {exhausted : Bool} {d e : Desk} {y : ProduceResponse}
+    → IsKept s d → AreAnswered s k ps y found → WereSettled now k ps found s ts requests exhausted d e
     → d.untold - e.untold ≡ (settle_batches now k ps y s).answer
 unfolding at_these with_partitions
 count_settled {now} {k} {ps} {s = s} {d = d} {e = e} {y = y} h a w = count_told (settle_batches now k ps y s).told d e (covers_all now h a) (desk-is a w)

@@ -142,12 +142,12 @@ pub room_left : (i : Item) (s : Core) → would_exhaust i s ≡ false → used s
 unfolding would_exhaust
 room_left i s e = grind (arith, nat_tests)
 
-pub few_untold : {s : Core} {d : Desk} {capacity : ℕ} → IsKept s d capacity → d.untold ≤ 1073741824
+pub few_untold : {s : Core} {d : Desk} → IsKept s d → d.untold ≤ 1073741824
 unfolding used
 few_untold {s} {d} k = omega (arith, k.untold, many_charged (all_untold s), k.order.memory, memory_limit s.config k.order.config)
 
 -- what a desk with this charge says of the room
-pub exhausts-is : {s : Core} {d : Desk} {capacity : ℕ} (i : Item) (charge : ℕ) → IsKept s d capacity → charge ≡ charge_of i
+pub exhausts-is : {s : Core} {d : Desk} (i : Item) (charge : ℕ) → IsKept s d → charge ≡ charge_of i
     → would_exhaust i s ≡ not (nat_le (d.used + charge) d.limit)
 unfolding would_exhaust
 exhausts-is {s} {d} i charge k is =

@@ -42,10 +42,10 @@ room-fetched sender other d =
     (map-set room_of d.lines sender _ ∙ ap (set (map room_of d.lines) sender) (line-room sender d.lines) ∙ set-get_or (map room_of d.lines) sender 0)
     ∙ sym (line-room other d.lines)
 
-pub fetched_kept : {s : Core} {d : Desk} {capacity : ℕ} (sender : ℕ) → s.reports ≡ all_reports d → IsKept s d capacity
-    → IsKept (record s { reports = all_reports (fetched sender d) }) (fetched sender d) capacity
+pub fetched_kept : {s : Core} {d : Desk} (sender : ℕ) → s.reports ≡ all_reports d → IsKept s d
+    → IsKept (record s { reports = all_reports (fetched sender d) }) (fetched sender d)
 unfolding used
-fetched_kept {s} {d} {capacity} sender is k = record {
+fetched_kept {s} {d} sender is k = record {
   order =
       subst (λ (r : List (List Report)). IsInOrder (record s { reports = r })) (ap (λ (r : List (List Report)). slice_set s.reports sender (drop 1 (slice_index_or r sender []))) is
       ∙ ap (λ (r : List (List Report)). slice_set r sender (drop 1 (slice_index_or (all_reports d) sender []))) is ∙ sym (all_reports-fetched sender d))
@@ -54,5 +54,4 @@ fetched_kept {s} {d} {capacity} sender is k = record {
   untold = k.untold;
   used = k.used;
   limit = k.limit;
-  room = k.room;
 }

@@ -1,5 +1,5 @@
 -- The request for an id is settled: what its response says, and the core afterwards.
-use Rattle.std.proofs.Common.{◌≡◌, ◌∙◌, ℕ, ◌≤◌, Bool, true, false, not, List, Some, w16, w64, refl, sym, ap, subst, arith}
+use Rattle.std.proofs.Common.{◌≡◌, ◌∙◌, ℕ, Bool, true, false, not, List, Some, w16, w64, refl, sym, ap, subst, arith}
 use Rattle.std.specs.Prelude.{ℤ, pos, negsuc, Result, Ok, Err, OnOk, filter, is_err, nat_abs, slice_set, if◌then◌else◌}
 use Rattle.std.specs.Ordering.{int_eq}
 use Rattle.std.proofs.lemmas.Bool.Decides.{Decides-int_eq}
@@ -72,16 +72,16 @@ id-is now p x s ts requests given after rest =
     ∙ given-is (nat_abs x.producer_id) p (idle s)
     ∙ sym (ap (by_code now p x s) given)
 
-pub id_kept : {s : Core} {d : Desk} {room more : ℕ} (now p : ℕ) (x : InitProducerIdResponse) (ts : List Partition) (requests : List Request)
+pub id_kept : {s : Core} {d : Desk} (now p : ℕ) (x : InitProducerIdResponse) (ts : List Partition) (requests : List Request)
     → SFits w64 x.producer_id → answers_id x ≡ true → is_given x ≡ true → s.ended ≡ false
     → ts ≡ id_given s.config (nat_abs x.producer_id) p s.partitions → requests ≡ filter (λ r. not (asks_for_id r)) s.requests
-    → room ≤ more → IsKept s d room → IsKept (record s { partitions = ts; requests = requests }) d more
-id_kept {s} {d} {room} {more} now p x ts requests small fits given going after rest l k =
-    subst (λ (y : Core). IsKept y d more) (sym (id-is now p x s ts requests given after rest))
-    (quiet_kept k (id_left now p x s (fits_is_id x.producer_id small) fits going k.order) l)
+    → IsKept s d → IsKept (record s { partitions = ts; requests = requests }) d
+id_kept {s} {d} now p x ts requests small fits given going after rest k =
+    subst (λ (y : Core). IsKept y d) (sym (id-is now p x s ts requests given after rest))
+    (quiet_kept k (id_left now p x s (fits_is_id x.producer_id small) fits going k.order))
 
-pub refusal_kept : {s : Core} {d : Desk} {room more : ℕ} (now : ℕ) (requests : List Request) → requests ≡ filter (λ r. not (asks_for_id r)) s.requests
-    → room ≤ more → IsKept s d room → IsKept (record s { requests = requests; id_waits = Some now }) d more
-refusal_kept {s} {d} {room} {more} now requests rest l k =
-    subst (λ (r : List Request). IsKept (record s { requests = r; id_waits = Some now }) d more) (sym rest)
-    (quiet_kept k (refusal_left now s k.order) l)
+pub refusal_kept : {s : Core} {d : Desk} (now : ℕ) (requests : List Request) → requests ≡ filter (λ r. not (asks_for_id r)) s.requests
+    → IsKept s d → IsKept (record s { requests = requests; id_waits = Some now }) d
+refusal_kept {s} {d} now requests rest k =
+    subst (λ (r : List Request). IsKept (record s { requests = r; id_waits = Some now }) d) (sym rest)
+    (quiet_kept k (refusal_left now s k.order))

@@ -1,5 +1,5 @@
 -- What a step leaves of a core's places: what is told gives its place back, and what is appended keeps one.
-use Rattle.std.proofs.Common.{◌≡◌, ◌∙◌, ℕ, ◌+◌, ◌<◌, ◌≤◌, true, false, List, [], ◌∷◌, length, sym, ap, subst, arith}
+use Rattle.std.proofs.Common.{◌≡◌, ◌∙◌, ℕ, ◌+◌, ◌<◌, true, false, List, [], ◌∷◌, length, sym, ap, subst, arith}
 use Rattle.std.specs.Prelude.{sum_by}
 use Rattle.kp_accum.specs.declared.item.Item.{Item}
 use Rattle.kp_accum.specs.Queue.{charge_of}
@@ -28,7 +28,7 @@ untold_of s = told_all Unknown (all_untold s)
 untold_items : (s : Core) → items_told (untold_of s) ≡ all_untold s
 untold_items s = items-all Unknown (all_untold s)
 
-pub covered : {s : Core} {d : Desk} {room : ℕ} → IsKept s d room → Covers d (untold_of s)
+pub covered : {s : Core} {d : Desk} → IsKept s d → Covers d (untold_of s)
 unfolding used
 covered {s} {d} k = record {
   places = k.places;
@@ -50,21 +50,20 @@ conserved {s} {t} {told} l = record {
 }
 
 -- what it tells is covered
-pub covers_told : {s t : Core} {d : Desk} {room : ℕ} {told : List Told} → IsKept s d room → Leaves s told t → Covers d told
-covers_told {s} {t} {d} {room} {told} k l = covers-told (untold_of s) told (untold_of t) d (conserved l) (covered k)
+pub covers_told : {s t : Core} {d : Desk} {told : List Told} → IsKept s d → Leaves s told t → Covers d told
+covers_told {s} {t} {d} {told} k l = covers-told (untold_of s) told (untold_of t) d (conserved l) (covered k)
 
 count_untold : (s : Core) → length (all_untold s) ≡ sum_by (λ (i : Item). 1) (all_untold s)
 count_untold s = sym (length-all Unknown (all_untold s)) ∙ count-all (untold_of s) ∙ ap (sum_by (λ (i : Item). 1)) (untold_items s)
 
-pub told_kept : {s t : Core} {d e : Desk} {room rest : ℕ} {told : List Told} → IsKept s d room → Leaves s told t
-    → e ≡ tell_desk told d → room ≤ rest → IsKept t e rest
+pub told_kept : {s t : Core} {d e : Desk} {told : List Told} → IsKept s d → Leaves s told t
+    → e ≡ tell_desk told d → IsKept t e
 unfolding used
-told_kept {s} {t} {d} {e} {room} {rest} {told} k l is more =
+told_kept {s} {t} {d} {e} {told} k l is =
     let c = covers-kept (untold_of s) told (untold_of t) d (conserved l) (covered k) in
     let untold = ap (λ (x : Desk). x.untold) is in
     let charges = ap (λ (x : Desk). x.used) is in
     let limit = ap (λ (x : Desk). x.limit) is in
-    let window = ap (λ (c : _). c.max_in_flight_requests_per_connection) l.config in
     let memory = ap (λ (c : _). c.buffer_memory) l.config in
     record {
       order = l.order;
@@ -72,13 +71,12 @@ told_kept {s} {t} {d} {e} {room} {rest} {told} k l is more =
       untold = omega (arith, untold, k.untold, count_untold s, count_untold t, count-all told, l.sums (λ (i : Item). 1));
       used = omega (arith, charges, k.used, charges-items told, l.sums charge_of);
       limit = omega (arith, limit, k.limit, memory);
-      room = omega (arith, k.room, more, window);
     }
 
 -- ---- a step that tells nothing
 
-pub quiet_kept : {s t : Core} {d : Desk} {room rest : ℕ} → IsKept s d room → Leaves s [] t → room ≤ rest → IsKept t d rest
-quiet_kept {d = d} k l more = told_kept k l (sym (tell_desk-nil d)) more
+pub quiet_kept : {s t : Core} {d : Desk} → IsKept s d → Leaves s [] t → IsKept t d
+quiet_kept {d = d} k l = told_kept k l (sym (tell_desk-nil d))
 
 -- ---- an item is appended
 
@@ -88,12 +86,12 @@ gains i s may = record {
 }
 
 -- it is queued
-pub gained_kept : {s : Core} {d : Desk} {room : ℕ} (i : Item) → IsRecord i.body → may_append i s ≡ true → s.ended ≡ false
+pub gained_kept : {s : Core} {d : Desk} (i : Item) → IsRecord i.body → may_append i s ≡ true → s.ended ≡ false
     → (partition_at i.partition s.partitions).fenced ≡ false → would_exhaust i s ≡ false → i.sender < length d.lines
-    → IsKept s d room
-    → IsKept (with_queued i s) (record (with_place i.sender d) { untold = d.untold + 1; used = d.used + charge_of i }) room
+    → IsKept s d
+    → IsKept (with_queued i s) (record (with_place i.sender d) { untold = d.untold + 1; used = d.used + charge_of i })
 unfolding used
-gained_kept {s} {d} {room} i held may going free fits there k =
+gained_kept {s} {d} i held may going free fits there k =
     let c = covers-gained (untold_of s) (untold_of (with_queued i s)) i d (gains i s may) there (covered k) in
     record {
       order = order_queued i s held may going free fits k.order;
@@ -101,14 +99,13 @@ gained_kept {s} {d} {room} i held may going free fits there k =
       untold = omega (arith, k.untold, count_untold s, count_untold (with_queued i s), queued_accounted (λ (j : Item). 1) i s may);
       used = omega (arith, k.used, queued_accounted charge_of i s may);
       limit = k.limit;
-      room = k.room;
     }
 
 -- it is turned away
-pub turned_kept : {s : Core} {d : Desk} {room : ℕ} (why : Reason) (i : Item) → i.sender < length d.lines → IsKept s d room
-    → IsKept (turn_away why i s).after (tell_free (told_all (Unsent why) (i ∷ [])) (with_place i.sender d)) room
+pub turned_kept : {s : Core} {d : Desk} (why : Reason) (i : Item) → i.sender < length d.lines → IsKept s d
+    → IsKept (turn_away why i s).after (tell_free (told_all (Unsent why) (i ∷ [])) (with_place i.sender d))
 unfolding used
-turned_kept {s} {d} {room} why i there k = record {
+turned_kept {s} {d} why i there k = record {
   order = order_turned why i s k.order;
   places = record {
     places = λ sender. omega (arith, k.places.places sender, room-turned (Unsent why) i sender d there);
@@ -116,5 +113,4 @@ turned_kept {s} {d} {room} why i there k = record {
   untold = k.untold;
   used = k.used;
   limit = k.limit;
-  room = k.room;
 }

@@ -1,31 +1,31 @@
 -- What each step leaves: a core in order, of which what was told and what is left are what was there.
-use Rattle.std.proofs.Common.{◌≡◌, ℕ, ◌<◌, true, false, not, List, [], length, Some, refl, ap, arith}
-use Rattle.std.specs.Prelude.{Option, map, slice_set, sum_by, if◌then◌else◌}
-use Rattle.std.specs.List.{AllByRecursion}
+use Rattle.std.proofs.Common.{◌≡◌, ℕ, ◌<◌, true, false, not, List, [], length, Some, refl, ap, ◌∙◌, arith}
+use Rattle.std.specs.Prelude.{Option, filter, map, slice_set, sum_by, if◌then◌else◌, ◌&&◌}
+use Rattle.std.specs.List.{AllByRecursion, list_any}
 use Rattle.std.proofs.lemmas.List.{length-set}
 use Rattle.kp_frames.specs.declared.produce.ProduceResponse.{ProduceResponse}
 use Rattle.kp_frames.specs.declared.producer_id.InitProducerIdResponse.{InitProducerIdResponse}
 use Rattle.kp_rules.specs.declared.outcome.Report.{Report}
 use Rattle.kp_rules.specs.declared.outcome.Reason.TheVariants.{Ended}
 use Rattle.kp_rules.specs.Closing.{end_all}
-use Rattle.kp_rules.specs.Dropping.{drop_attempts, drop_requests}
+use Rattle.kp_rules.specs.Dropping.{drop_led, drop_requests}
 use Rattle.kp_rules.specs.Fence.{give_up}
 use Rattle.kp_rules.specs.Flush.{flush_step, mark}
 use Rattle.kp_rules.specs.InOrder.{AreDistinct, IsInOrder}
+use Rattle.kp_rules.specs.Leading.{led_by, lead_step}
 use Rattle.kp_rules.specs.Mismatch.{answers_id}
 use Rattle.kp_rules.specs.Next.{Sending, next_demand}
-use Rattle.kp_rules.specs.Partitions.{all_untold, untold}
-use Rattle.kp_rules.specs.Attempts.{asks_for_id, is_id_asked}
+use Rattle.kp_rules.specs.Partitions.{all_untold, partition_at, untold}
+use Rattle.kp_rules.specs.Attempts.{asks_for_id, goes_to, is_live}
 use Rattle.kp_rules.specs.Records.{Core, Demand, Partition, Produce, InitProducerId, Request}
 use Rattle.kp_rules.specs.Replies.{settle_batches, settle_id}
 use Rattle.kp_rules.specs.Requesting.{sent_out}
 use Rattle.kp_rules.specs.Telling.{at_each, at_these, with_partitions}
 use Rattle.kp_rules.specs.Tick.{heed_deadlines}
-use Rattle.kp_rules.proofs.AccountingLemmas.{dropped_same, id_same, keeps_each, sent_same, settled_keeps}
+use Rattle.kp_rules.proofs.AccountingLemmas.{dropped_same, id_same, keeps_each, led_same, sent_same, settled_keeps}
 use Rattle.kp_rules.proofs.CallLemmas.{at_id, idle}
 use Rattle.kp_rules.proofs.ListLemmas.{flat_map_mapped}
-use Rattle.kp_rules.proofs.OrderLemmas.{Same, left_filter}
-use Rattle.kp_rules.proofs.OrderedCallLemmas.{IsId, order_alike, order_all_ended, order_dropped, order_flushed, order_id, order_out, order_passed, order_settled, same_requests}
+use Rattle.kp_rules.proofs.OrderedCallLemmas.{IsId, order_alike, order_all_ended, order_dropped, order_flushed, order_id, order_led, order_out, order_passed, order_settled, same_requests, without_id}
 use Rattle.kp_rules.proofs.RuleLemmas.{give_up_keeps, heed_keeps, mark_keeps}
 use Rattle.kp_core.proofs.KeepingLemmas.{Leaves}
 
@@ -54,14 +54,18 @@ pub flushed_left : (s : Core) → IsInOrder s → Leaves s [] (flush_step s)
 unfolding flush_step
 flushed_left s h = quietly_left s (flush_step s) (order_flushed s h) refl (flat_map_mapped untold mark untold mark_keeps s.partitions)
 
-pub dropped_left : (now : ℕ) (s : Core) → IsInOrder s → Leaves s [] (drop_requests now s)
+pub dropped_left : (node now : ℕ) (s : Core) → IsInOrder s → Leaves s [] (drop_requests node now s)
 unfolding drop_requests
-dropped_left now s h = quietly_left s (drop_requests now s) (order_dropped now s h) refl (dropped_same now s)
+dropped_left node now s h = quietly_left s (drop_requests node now s) (order_dropped node now s h) refl (dropped_same node now s)
 
-pub sent_left : (now : ℕ) (s : Core) (d : Demand Sending) → s.ended ≡ false → next_demand now s ≡ Some d → IsInOrder s → Leaves s [] (sent_out now s d)
-sent_left now s d going is h = quietly_left s (sent_out now s d) (order_out now s d going is h) (same_config d) (sent_same now s d)
+pub led_left : (p leader now : ℕ) (s : Core) → IsInOrder s → Leaves s [] (lead_step p leader now s)
+unfolding lead_step
+led_left p leader now s h = quietly_left s (lead_step p leader now s) (order_led p leader now s h) refl (led_same p leader now s)
+
+pub sent_left : (node now : ℕ) (s : Core) (d : Demand Sending) → s.ended ≡ false → next_demand node now s ≡ Some d → IsInOrder s → Leaves s [] (sent_out node now s d)
+sent_left node now s d going is h = quietly_left s (sent_out node now s d) (order_out node now s d going is h) (same_config d) (sent_same node now s d)
   where
-    same_config : (e : Demand Sending) → (sent_out now s e).config ≡ s.config
+    same_config : (e : Demand Sending) → (sent_out node now s e).config ≡ s.config
     same_config (Produce xs) = refl
     same_config (InitProducerId p) = refl
 
@@ -74,7 +78,7 @@ id_left now p x s id fits going h =
 pub refusal_left : (now : ℕ) (s : Core) → IsInOrder s → Leaves s [] (record (idle s) { id_waits = Some now })
 refusal_left now s h =
     quietly_left s (record (idle s) { id_waits = Some now })
-    (order_alike {s = s} refl refl refl refl refl refl (left_filter Same (λ r. refl) (λ r. not (asks_for_id r)) s.requests) h) refl refl
+    (order_alike {s = s} refl refl refl refl refl refl (without_id s) h) refl refl
 
 -- ---- steps that tell
 
@@ -106,8 +110,19 @@ settled_left now k ps x s there once h = record {
 
 -- ---- dropped requests, field by field
 
-pub dropped-is : (now : ℕ) (s : Core) (ts : List Partition) (requests : List Request) (waits : Option ℕ)
-    → ts ≡ map (drop_attempts now) s.partitions → requests ≡ [] → waits ≡ (if is_id_asked s then Some now else s.id_waits)
-    → record s { partitions = ts; requests = requests; id_waits = waits } ≡ drop_requests now s
+pub dropped-is : (node now : ℕ) (s : Core) (ts : List Partition) (requests : List Request) (waits : Option ℕ)
+    → ts ≡ map (drop_led node now) s.partitions → requests ≡ filter (λ r. not (goes_to node r)) s.requests
+    → waits ≡ (if list_any (λ r. goes_to node r && asks_for_id r) s.requests then Some now else s.id_waits)
+    → record s { partitions = ts; requests = requests; id_waits = waits } ≡ drop_requests node now s
 unfolding drop_requests
-dropped-is now s ts requests waits dropped none since = cc
+dropped-is node now s ts requests waits dropped none since = cc
+
+-- ---- a partition that another node leads, field by field
+
+pub led-is : (p leader now : ℕ) (s : Core) (ts : List Partition) (requests : List Request)
+    → ts ≡ slice_set s.partitions p (led_by leader now (partition_at p s.partitions)) → requests ≡ filter (is_live ts) s.requests
+    → record s { partitions = ts; requests = requests } ≡ lead_step p leader now s
+unfolding lead_step
+led-is p leader now s ts requests led live =
+    ap (λ (r : List Request). let u : Core = record s { partitions = ts; requests = r } in u) live
+    ∙ ap (λ (us : List Partition). let u : Core = record s { partitions = us; requests = filter (is_live us) s.requests } in u) led

@@ -13,6 +13,7 @@ pub mod ChoosingLemmas
 pub mod MatchingLemmas
 pub mod OpeningLemmas
 pub mod TurnLemmas
+pub mod TurnedLemmas
 pub mod SentLemmas
 pub mod DueLemmas
 pub mod EntryLemmas

@@ -1,7 +1,6 @@
 -- The call for the next request, answer by answer.
-use Rattle.std.proofs.Common.{◌≡◌, ◌∙◌, ℕ, ◌<◌, length, arith, Bool, true, false, not, List, [], ◌∷◌, Some, None, Ok, Err, refl, sym, ap, subst, rules}
-use Rattle.std.proofs.lemmas.Bool.Decides.{nat_tests}
-use Rattle.std.specs.Prelude.{Option, IsOkAnd, IsSome, nat_lt, if◌then◌else◌}
+use Rattle.std.proofs.Common.{◌≡◌, ◌∙◌, ℕ, Bool, true, false, not, List, [], ◌∷◌, Some, None, Ok, Err, refl, sym, ap, subst, rules}
+use Rattle.std.specs.Prelude.{Option, IsOkAnd, IsSome, if◌then◌else◌}
 use Rattle.kp_rules.specs.declared.fault.CoreFault.TheVariants.{CorrelationSpent, Ended, OutOfMemory}
 use Rattle.kp_rules.specs.Attempts.{has_window}
 use Rattle.kp_rules.specs.Calls.{Request, Step, answered_as}
@@ -22,24 +21,24 @@ by_asking xs o = elim o [ Some p ↦ Some (InitProducerId p) | None ↦ by_batch
 abbrev by_window : List Sending → Option ℕ → Bool → Option (Demand Sending)
 by_window xs o b = if not b then None else by_asking xs o
 
-pub no_window : (now : ℕ) (s : Core) → has_window s ≡ false → next_demand now s ≡ None
+pub no_window : (node now : ℕ) (s : Core) → has_window node s ≡ false → next_demand node now s ≡ None
 unfolding next_demand
-no_window now s e = ap (by_window (next_batches now s) (next_asking now s)) e
+no_window node now s e = ap (by_window (next_batches node now s) (next_asking node now s)) e
 
-pub an_id : (now p : ℕ) (s : Core) → has_window s ≡ true → next_asking now s ≡ Some p → next_demand now s ≡ Some (InitProducerId p)
+pub an_id : (node now p : ℕ) (s : Core) → has_window node s ≡ true → next_asking node now s ≡ Some p → next_demand node now s ≡ Some (InitProducerId p)
 unfolding next_demand
-an_id now p s e f = ap (by_window (next_batches now s) (next_asking now s)) e ∙ ap (by_asking (next_batches now s)) f
+an_id node now p s e f = ap (by_window (next_batches node now s) (next_asking node now s)) e ∙ ap (by_asking (next_batches node now s)) f
 
-batches : (now : ℕ) (s : Core) → has_window s ≡ true → next_asking now s ≡ None → next_demand now s ≡ by_batches (next_batches now s)
+batches : (node now : ℕ) (s : Core) → has_window node s ≡ true → next_asking node now s ≡ None → next_demand node now s ≡ by_batches (next_batches node now s)
 unfolding next_demand
-batches now s e f = ap (by_window (next_batches now s) (next_asking now s)) e ∙ ap (by_asking (next_batches now s)) f
+batches node now s e f = ap (by_window (next_batches node now s) (next_asking node now s)) e ∙ ap (by_asking (next_batches node now s)) f
 
-pub no_batches : (now : ℕ) (s : Core) → has_window s ≡ true → next_asking now s ≡ None → next_batches now s ≡ [] → next_demand now s ≡ None
-no_batches now s e f g = batches now s e f ∙ ap by_batches g
+pub no_batches : (node now : ℕ) (s : Core) → has_window node s ≡ true → next_asking node now s ≡ None → next_batches node now s ≡ [] → next_demand node now s ≡ None
+no_batches node now s e f g = batches node now s e f ∙ ap by_batches g
 
-pub some_batches : (now : ℕ) (s : Core) → has_window s ≡ true → next_asking now s ≡ None → (next_batches now s ≡ [] → ⊥)
-    → next_demand now s ≡ Some (Produce (next_batches now s))
-some_batches now s e f some = batches now s e f ∙ at_list (next_batches now s) some
+pub some_batches : (node now : ℕ) (s : Core) → has_window node s ≡ true → next_asking node now s ≡ None → (next_batches node now s ≡ [] → ⊥)
+    → next_demand node now s ≡ Some (Produce (next_batches node now s))
+some_batches node now s e f some = batches node now s e f ∙ at_list (next_batches node now s) some
   where
     at_list : (xs : List Sending) → (xs ≡ [] → ⊥) → by_batches xs ≡ Some (Produce xs)
     at_list [] some = absurd (some refl)
@@ -47,78 +46,65 @@ some_batches now s e f some = batches now s e f ∙ at_list (next_batches now s)
 
 -- ---- the step
 
-abbrev by_end : ℕ → Core → Option (Demand Sending) → Bool → Requested
-by_end now s wanted b = if b then (record { after = s; told = []; answer = Err Ended }) else elim wanted [
+abbrev by_end : ℕ → ℕ → Core → Option (Demand Sending) → Bool → Requested
+by_end node now s wanted b = if b then (record { after = s; told = []; answer = Err Ended }) else elim wanted [
   | None ↦ (record { after = s; told = []; answer = Ok None })
-  | Some d ↦ if is_spent s then (record { after = s; told = []; answer = Err CorrelationSpent }) else go_out now s d
+  | Some d ↦ if is_spent s then (record { after = s; told = []; answer = Err CorrelationSpent }) else go_out node now s d
 ]
 
-going : (now : ℕ) (s : Core) → s.ended ≡ false → request_step now s ≡ by_end now s (next_demand now s) false
+going : (node now : ℕ) (s : Core) → s.ended ≡ false → request_step node now s ≡ by_end node now s (next_demand node now s) false
 unfolding request_step
-going now s e = ap (by_end now s (next_demand now s)) e
+going node now s e = ap (by_end node now s (next_demand node now s)) e
 
-is_ended : (now : ℕ) (s : Core) → s.ended ≡ true → request_step now s ≡ by_end now s (next_demand now s) true
+is_ended : (node now : ℕ) (s : Core) → s.ended ≡ true → request_step node now s ≡ by_end node now s (next_demand node now s) true
 unfolding request_step
-is_ended now s e = ap (by_end now s (next_demand now s)) e
+is_ended node now s e = ap (by_end node now s (next_demand node now s)) e
 
-abbrev by_spent : ℕ → Core → Demand Sending → Bool → Requested
-by_spent now s d b = if b then (record { after = s; told = []; answer = Err CorrelationSpent }) else go_out now s d
+abbrev by_spent : ℕ → ℕ → Core → Demand Sending → Bool → Requested
+by_spent node now s d b = if b then (record { after = s; told = []; answer = Err CorrelationSpent }) else go_out node now s d
 
-pub idle : (now : ℕ) (s : Core) → s.ended ≡ false → next_demand now s ≡ None
-    → request_step now s ≡ record { after = s; told = []; answer = Ok None }
-idle now s e f = going now s e ∙ ap (λ (o : Option (Demand Sending)). by_end now s o false) f
+pub idle : (node now : ℕ) (s : Core) → s.ended ≡ false → next_demand node now s ≡ None
+    → request_step node now s ≡ record { after = s; told = []; answer = Ok None }
+idle node now s e f = going node now s e ∙ ap (λ (o : Option (Demand Sending)). by_end node now s o false) f
 
-pub spent : (now : ℕ) (s : Core) (d : Demand Sending) → s.ended ≡ false → next_demand now s ≡ Some d → is_spent s ≡ true
-    → request_step now s ≡ record { after = s; told = []; answer = Err CorrelationSpent }
-spent now s d e f g = going now s e ∙ ap (λ (o : Option (Demand Sending)). by_end now s o false) f ∙ ap (by_spent now s d) g
+pub spent : (node now : ℕ) (s : Core) (d : Demand Sending) → s.ended ≡ false → next_demand node now s ≡ Some d → is_spent s ≡ true
+    → request_step node now s ≡ record { after = s; told = []; answer = Err CorrelationSpent }
+spent node now s d e f g = going node now s e ∙ ap (λ (o : Option (Demand Sending)). by_end node now s o false) f ∙ ap (by_spent node now s d) g
 
-pub out : (now : ℕ) (s : Core) (d : Demand Sending) → s.ended ≡ false → next_demand now s ≡ Some d → is_spent s ≡ false
-    → request_step now s ≡ go_out now s d
-out now s d e f g = going now s e ∙ ap (λ (o : Option (Demand Sending)). by_end now s o false) f ∙ ap (by_spent now s d) g
+pub out : (node now : ℕ) (s : Core) (d : Demand Sending) → s.ended ≡ false → next_demand node now s ≡ Some d → is_spent s ≡ false
+    → request_step node now s ≡ go_out node now s d
+out node now s d e f g = going node now s e ∙ ap (λ (o : Option (Demand Sending)). by_end node now s o false) f ∙ ap (by_spent node now s d) g
 
 -- ---- the call
 
-pub answers_ended : (now : ℕ) (s : Core) → s.ended ≡ true → Step s (Request now (Err Ended)) s
-answers_ended now s e =
-    let is = is_ended now s e in
+pub answers_ended : (node now : ℕ) (s : Core) → s.ended ≡ true → Step s (Request node now (Err Ended)) s
+answers_ended node now s e =
+    let is = is_ended node now s e in
     (ap (λ (x : Requested). answered_as s x.answer) is, ap (λ (x : Requested). x.after) (sym is))
 
-pub answers_none : (now : ℕ) (s : Core) → s.ended ≡ false → next_demand now s ≡ None → Step s (Request now (Ok None)) s
-answers_none now s e f =
-    let is = idle now s e f in
+pub answers_none : (node now : ℕ) (s : Core) → s.ended ≡ false → next_demand node now s ≡ None → Step s (Request node now (Ok None)) s
+answers_none node now s e f =
+    let is = idle node now s e f in
     (ap (λ (x : Requested). answered_as s x.answer) is, ap (λ (x : Requested). x.after) (sym is))
 
-pub answers_spent : (now : ℕ) (s : Core) (d : Demand Sending) → s.ended ≡ false → next_demand now s ≡ Some d → is_spent s ≡ true
-    → Step s (Request now (Err CorrelationSpent)) s
-answers_spent now s d e f g =
-    let is = spent now s d e f g in
+pub answers_spent : (node now : ℕ) (s : Core) (d : Demand Sending) → s.ended ≡ false → next_demand node now s ≡ Some d → is_spent s ≡ true
+    → Step s (Request node now (Err CorrelationSpent)) s
+answers_spent node now s d e f g =
+    let is = spent node now s d e f g in
     (ap (λ (x : Requested). answered_as s x.answer) is, ap (λ (x : Requested). x.after) (sym is))
 
-pub answers_memory : (now : ℕ) (s : Core) (d : Demand Sending) → s.ended ≡ false → next_demand now s ≡ Some d → is_spent s ≡ false
-    → Step s (Request now (Err OutOfMemory)) s
-answers_memory now s d e f g = (subst (λ (x : Requested). IsOkAnd x.answer IsSome) (sym (out now s d e f g)) (search rules), refl)
+pub answers_memory : (node now : ℕ) (s : Core) (d : Demand Sending) → s.ended ≡ false → next_demand node now s ≡ Some d → is_spent s ≡ false
+    → Step s (Request node now (Err OutOfMemory)) s
+answers_memory node now s d e f g = (subst (λ (x : Requested). IsOkAnd x.answer IsSome) (sym (out node now s d e f g)) (search rules), refl)
 
-pub answers_out : (now : ℕ) (s t : Core) (d : Demand Sending) (bytes : List ℕ) → s.ended ≡ false → next_demand now s ≡ Some d → is_spent s ≡ false
-    → bytes ≡ frame_of s.config s.names (record { correlation = s.correlation; demand = d }) → t ≡ sent_out now s d
-    → Step s (Request now (Ok (Some (record { correlation = s.correlation; bytes = bytes })))) t
-answers_out now s t d bytes e f g written after =
-    let is = out now s d e f g in (
+pub answers_out : (node now : ℕ) (s t : Core) (d : Demand Sending) (bytes : List ℕ) → s.ended ≡ false → next_demand node now s ≡ Some d → is_spent s ≡ false
+    → bytes ≡ frame_of s.config s.names (record { correlation = s.correlation; demand = d }) → t ≡ sent_out node now s d
+    → Step s (Request node now (Ok (Some (record { correlation = s.correlation; bytes = bytes })))) t
+answers_out node now s t d bytes e f g written after =
+    let is = out node now s d e f g in (
       ap (λ (x : Requested). answered_as s x.answer) is ∙ ap (λ (b : List ℕ). Ok (Some (record { correlation = s.correlation; bytes = b }))) (sym written),
       after ∙ ap (λ (x : Requested). x.after) (sym is),
     )
-
--- ---- where something is asked for, there is room for a request
-
-within : (n m : ℕ) → nat_lt n m ≡ true → n < m
-within n m f = grind (arith, nat_tests)
-
-pub has_room : (now : ℕ) (s : Core) (d : Demand Sending) → next_demand now s ≡ Some d → length s.requests < s.config.max_in_flight_requests_per_connection
-unfolding has_window
-has_room now s d e = at_window (has_window s) refl
-  where
-    at_window : (b : Bool) → has_window s ≡ b → length s.requests < s.config.max_in_flight_requests_per_connection
-    at_window true is = within (length s.requests) s.config.max_in_flight_requests_per_connection is
-    at_window false is = let none = no_window now s is in absurd cc
 
 -- where there are batches or none, by the test
 pub some_if : (xs : List Sending) → not (is_empty xs) ≡ true → xs ≡ [] → ⊥

@@ -1,9 +1,10 @@
 -- Calls that tell or only change the core, case by case: closing, a lost connection, the time and the end.
 use Rattle.std.proofs.Common.{◌≡◌, ◌∙◌, ℕ, Bool, true, false, sym, ap}
-use Rattle.std.specs.Prelude.{if◌then◌else◌}
+use Rattle.std.specs.Prelude.{if◌then◌else◌, ◌&&◌}
 use Rattle.std.specs.List.{list_any}
 use Rattle.kp_accum.specs.Ready.{is_over}
 use Rattle.kp_rules.specs.declared.ticked.Ticked.{Ticked}
+use Rattle.kp_rules.specs.Attempts.{goes_to}
 use Rattle.kp_rules.specs.Calls.{Gives}
 use Rattle.kp_rules.specs.Closing.{close_step, end_all, end_step}
 use Rattle.kp_rules.specs.Dropping.{disconnect_step, drop_requests}
@@ -23,13 +24,13 @@ closes_no_more s e = sym (ap (λ (b : Bool). if b then s else record s { closing
 
 -- ---- a lost connection
 
-pub disconnects : (now : ℕ) (s : Core) → s.ended ≡ false → drop_requests now s ≡ disconnect_step now s
+pub disconnects : (node now : ℕ) (s : Core) → s.ended ≡ false → drop_requests node now s ≡ disconnect_step node now s
 unfolding disconnect_step
-disconnects now s e = sym (ap (λ (b : Bool). if b then s else drop_requests now s) e)
+disconnects node now s e = sym (ap (λ (b : Bool). if b then s else drop_requests node now s) e)
 
-pub disconnects_no_more : (now : ℕ) (s : Core) → s.ended ≡ true → s ≡ disconnect_step now s
+pub disconnects_no_more : (node now : ℕ) (s : Core) → s.ended ≡ true → s ≡ disconnect_step node now s
 unfolding disconnect_step
-disconnects_no_more now s e = sym (ap (λ (b : Bool). if b then s else drop_requests now s) e)
+disconnects_no_more node now s e = sym (ap (λ (b : Bool). if b then s else drop_requests node now s) e)
 
 -- ---- the end
 
@@ -47,48 +48,48 @@ ends_no_more s e =
 
 -- ---- the time
 
-abbrev by_time : ℕ → Core → Bool → Ticks
-by_time now s b =
-    if b then tick_partitions heed_deadlines now true (drop_requests now s)
+abbrev by_time : ℕ → ℕ → Core → Bool → Ticks
+by_time node now s b =
+    if b then tick_partitions heed_deadlines now true (drop_requests node now s)
     else tick_partitions heed_deadlines now false s
 
-abbrev by_end : ℕ → Core → Bool → Ticks
-by_end now s b = if b then quietly s (record { reports = 0; reconnect = false }) else by_time now s (has_timed_out now s)
+abbrev by_end : ℕ → ℕ → Core → Bool → Ticks
+by_end node now s b = if b then quietly s (record { reports = 0; reconnect = false }) else by_time node now s (has_timed_out node now s)
 
-pub ticks_no_more : (now : ℕ) (s : Core) → s.ended ≡ true → Gives (tick_step now s) (record { reports = 0; reconnect = false }) s
+pub ticks_no_more : (node now : ℕ) (s : Core) → s.ended ≡ true → Gives (tick_step node now s) (record { reports = 0; reconnect = false }) s
 unfolding tick_step
-ticks_no_more now s e =
-    let is : tick_step now s ≡ quietly s (record { reports = 0; reconnect = false }) = ap (by_end now s) e in
+ticks_no_more node now s e =
+    let is : tick_step node now s ≡ quietly s (record { reports = 0; reconnect = false }) = ap (by_end node now s) e in
     (ap (λ (x : Ticks). x.answer) is, ap (λ (x : Ticks). x.after) (sym is))
 
 -- the partitions of this core are looked at, which is the core, or what dropping its requests left
-looked_at : (now : ℕ) (s u t : Core) (reports : ℕ) (reconnect : Bool) → tick_step now s ≡ tick_partitions heed_deadlines now reconnect u
+looked_at : (node now : ℕ) (s u t : Core) (reports : ℕ) (reconnect : Bool) → tick_step node now s ≡ tick_partitions heed_deadlines now reconnect u
     → reports ≡ (at_each (heed_deadlines u.config now) u).answer → t ≡ (at_each (heed_deadlines u.config now) u).after
-    → Gives (tick_step now s) (record { reports = reports; reconnect = reconnect }) t
-looked_at now s u t reports reconnect is answer after = (
+    → Gives (tick_step node now s) (record { reports = reports; reconnect = reconnect }) t
+looked_at node now s u t reports reconnect is answer after = (
   ap (λ (x : Ticks). x.answer) is ∙ ap (λ (n : ℕ). let x : Ticked = record { reports = n; reconnect = reconnect } in x) (sym answer),
   after ∙ ap (λ (x : Ticks). x.after) (sym is),
 )
 
-timed_out-is : (now : ℕ) (s : Core) (late : Bool) → late ≡ list_any (λ r. is_over r.sent s.config.request_timeout_ms now) s.requests
-    → has_timed_out now s ≡ late
+timed_out-is : (node now : ℕ) (s : Core) (late : Bool) → late ≡ list_any (λ r. goes_to node r && is_over r.sent s.config.request_timeout_ms now) s.requests
+    → has_timed_out node now s ≡ late
 unfolding has_timed_out
-timed_out-is now s late e = sym e
+timed_out-is node now s late e = sym e
 
-pub ticks_late : (now : ℕ) (s u t : Core) (reports : ℕ) → s.ended ≡ false
-    → true ≡ list_any (λ r. is_over r.sent s.config.request_timeout_ms now) s.requests → u ≡ drop_requests now s
+pub ticks_late : (node now : ℕ) (s u t : Core) (reports : ℕ) → s.ended ≡ false
+    → true ≡ list_any (λ r. goes_to node r && is_over r.sent s.config.request_timeout_ms now) s.requests → u ≡ drop_requests node now s
     → reports ≡ (at_each (heed_deadlines u.config now) u).answer → t ≡ (at_each (heed_deadlines u.config now) u).after
-    → Gives (tick_step now s) (record { reports = reports; reconnect = true }) t
+    → Gives (tick_step node now s) (record { reports = reports; reconnect = true }) t
 unfolding tick_step
-ticks_late now s u t reports e late dropped answer after =
-    looked_at now s u t reports true
-    (ap (by_end now s) e ∙ ap (by_time now s) (timed_out-is now s true late)
+ticks_late node now s u t reports e late dropped answer after =
+    looked_at node now s u t reports true
+    (ap (by_end node now s) e ∙ ap (by_time node now s) (timed_out-is node now s true late)
     ∙ ap (tick_partitions heed_deadlines now true) (sym dropped)) answer after
 
-pub ticks_in_time : (now : ℕ) (s t : Core) (reports : ℕ) → s.ended ≡ false
-    → false ≡ list_any (λ r. is_over r.sent s.config.request_timeout_ms now) s.requests
+pub ticks_in_time : (node now : ℕ) (s t : Core) (reports : ℕ) → s.ended ≡ false
+    → false ≡ list_any (λ r. goes_to node r && is_over r.sent s.config.request_timeout_ms now) s.requests
     → reports ≡ (at_each (heed_deadlines s.config now) s).answer → t ≡ (at_each (heed_deadlines s.config now) s).after
-    → Gives (tick_step now s) (record { reports = reports; reconnect = false }) t
+    → Gives (tick_step node now s) (record { reports = reports; reconnect = false }) t
 unfolding tick_step
-ticks_in_time now s t reports e early answer after =
-    looked_at now s s t reports false (ap (by_end now s) e ∙ ap (by_time now s) (timed_out-is now s false early)) answer after
+ticks_in_time node now s t reports e early answer after =
+    looked_at node now s s t reports false (ap (by_end node now s) e ∙ ap (by_time node now s) (timed_out-is node now s false early)) answer after

@@ -44,11 +44,11 @@ take-min n xs = elim (cases_lt n (length xs)) [
 
 -- ---- in turn
 
-pub in_turn-is : (s : Core) (first : ℕ) → first ≡ min (used_up_to s.last_used) (length s.partitions)
-    → enumerate_from first (drop first s.partitions) ++ enumerate_from 0 (take first s.partitions) ≡ in_turn s
-in_turn-is s first is =
+pub in_turn-is : (node : ℕ) (s : Core) (first : ℕ) → first ≡ min (used_up_to node s.turns) (length s.partitions)
+    → enumerate_from first (drop first s.partitions) ++ enumerate_from 0 (take first s.partitions) ≡ in_turn node s
+in_turn-is node s first is =
     let all : List (ℕ × Partition) = enumerate_from 0 s.partitions in
-    let n = used_up_to s.last_used in
+    let n = used_up_to node s.turns in
     let zero-first : 0 + first ≡ first = omega arith in
     let at : first ≡ min n (length all) = is ∙ ap (min n) (sym (length-enumerate_from 0 s.partitions)) in
     ap (λ (m : ℕ). enumerate_from m (drop first s.partitions) ++ enumerate_from 0 (take first s.partitions)) (sym zero-first)
@@ -60,17 +60,17 @@ in_turn-is s first is =
 
 -- ---- what is sent
 
-abbrev pub all_sendings : ℕ → Core → List Sending
-all_sendings now s = filter_map (sends_in s.config (flags_of s) now) (in_turn s)
+abbrev pub all_sendings : ℕ → ℕ → Core → List Sending
+all_sendings node now s = filter_map (sends_in node s.config (flags_of s) now) (in_turn node s)
 
-pub next_batches-is : (now : ℕ) (s : Core) (xs : List Sending) → xs ≡ all_sendings now s → fitting s.config.max_request_size xs ≡ next_batches now s
+pub next_batches-is : (node now : ℕ) (s : Core) (xs : List Sending) → xs ≡ all_sendings node now s → fitting s.config.max_request_size xs ≡ next_batches node now s
 unfolding next_batches
-next_batches-is now s xs is = ap (fitting s.config.max_request_size) is
+next_batches-is node now s xs is = ap (fitting s.config.max_request_size) is
 
 -- where a partition may send, something goes out
-pub some_fit : (now : ℕ) (s : Core) → IsInOrder s → (all_sendings now s ≡ [] → ⊥) → next_batches now s ≡ [] → ⊥
+pub some_fit : (node now : ℕ) (s : Core) → IsInOrder s → (all_sendings node now s ≡ [] → ⊥) → next_batches node now s ≡ [] → ⊥
 unfolding next_batches fitting
-some_fit now s order some none = at_list (all_sendings now s) (all_sending now s) some none
+some_fit node now s order some none = at_list (all_sendings node now s) (all_sending node now s) some none
   where
     within : (n m : ℕ) → n ≤ m → nat_le n m ≡ true
     within n m le = grind (arith, nat_tests)
@@ -97,20 +97,20 @@ none_second (x ∷ xs) ys e = absurd cc
 whole_tail : {A : Type 0} (n : ℕ) (xs : List A) → take (length xs - n) (drop n xs) ≡ drop n xs
 whole_tail n xs = take_all (length xs - n) (drop n xs) (omega (arith, length-drop n xs))
 
-abbrev pub behind : ℕ → Core → ℕ → List Partition → Flags → List Sending
-behind now s first ts flags = filter_map (sends_in s.config flags now) (enumerate_from first (take (length ts - first) (drop first ts)))
+abbrev pub behind : ℕ → ℕ → Core → ℕ → List Partition → Flags → List Sending
+behind node now s first ts flags = filter_map (sends_in node s.config flags now) (enumerate_from first (take (length ts - first) (drop first ts)))
 
-abbrev pub before : ℕ → Core → ℕ → List Partition → Flags → List Sending
-before now s first ts flags = filter_map (sends_in s.config flags now) (enumerate_from 0 (take first ts))
+abbrev pub before : ℕ → ℕ → Core → ℕ → List Partition → Flags → List Sending
+before node now s first ts flags = filter_map (sends_in node s.config flags now) (enumerate_from 0 (take first ts))
 
-pub gathered : (now : ℕ) (s : Core) (first : ℕ) (ts us : List Partition) (flags : Flags) → first ≡ min (used_up_to s.last_used) (length s.partitions)
+pub gathered : (node now : ℕ) (s : Core) (first : ℕ) (ts us : List Partition) (flags : Flags) → first ≡ min (used_up_to node s.turns) (length s.partitions)
     → ts ≡ s.partitions → us ≡ s.partitions → flags ≡ flags_of s
-    → behind now s first ts flags ++ before now s first us flags ≡ all_sendings now s
-gathered now s first ts us flags is here there pressed =
-    ap (λ (f : Flags). behind now s first ts f ++ before now s first us f) pressed
-    ∙ ap (λ (xs : List Partition). behind now s first xs (flags_of s) ++ before now s first us (flags_of s)) here
-    ∙ ap (λ (xs : List Partition). behind now s first s.partitions (flags_of s) ++ before now s first xs (flags_of s)) there
-    ∙ ap (λ (xs : List Partition). filter_map (sends_in s.config (flags_of s) now) (enumerate_from first xs) ++ before now s first s.partitions (flags_of s))
+    → behind node now s first ts flags ++ before node now s first us flags ≡ all_sendings node now s
+gathered node now s first ts us flags is here there pressed =
+    ap (λ (f : Flags). behind node now s first ts f ++ before node now s first us f) pressed
+    ∙ ap (λ (xs : List Partition). behind node now s first xs (flags_of s) ++ before node now s first us (flags_of s)) here
+    ∙ ap (λ (xs : List Partition). behind node now s first s.partitions (flags_of s) ++ before node now s first xs (flags_of s)) there
+    ∙ ap (λ (xs : List Partition). filter_map (sends_in node s.config (flags_of s) now) (enumerate_from first xs) ++ before node now s first s.partitions (flags_of s))
     (whole_tail first s.partitions)
-    ∙ sym (filter_map-append (sends_in s.config (flags_of s) now) (enumerate_from first (drop first s.partitions)) (enumerate_from 0 (take first s.partitions)))
-    ∙ ap (filter_map (sends_in s.config (flags_of s) now)) (in_turn-is s first is)
+    ∙ sym (filter_map-append (sends_in node s.config (flags_of s) now) (enumerate_from first (drop first s.partitions)) (enumerate_from 0 (take first s.partitions)))
+    ∙ ap (filter_map (sends_in node s.config (flags_of s) now)) (in_turn-is node s first is)

@@ -13,10 +13,11 @@ use Rattle.kp_core.specs.declared.calls.Answered.TheVariants as answered
 -- the call with its arguments alone
 abbrev pub asked_by : Call → Asked
 asked_by (call.Append i answer) = asked.Append i
-asked_by (call.Request now answer) = asked.Request now
+asked_by (call.Request node now answer) = asked.Request node now
 asked_by (call.Reply now content answer) = asked.Reply content now
-asked_by (call.Tick now answer) = asked.Tick now
-asked_by (call.Disconnect now) = asked.Disconnect now
+asked_by (call.Tick node now answer) = asked.Tick node now
+asked_by (call.Disconnect node now) = asked.Disconnect node now
+asked_by (call.Lead partition node now) = asked.Lead partition node now
 asked_by call.Close = asked.Close
 asked_by call.Flush = asked.Flush
 asked_by (call.End reports) = asked.End
@@ -30,10 +31,11 @@ with_item i (Err fault) = Err (fault, i)
 -- its answer alone
 abbrev pub answered_by : Call → Answered
 answered_by (call.Append i answer) = answered.Append (with_item i answer)
-answered_by (call.Request now answer) = answered.Request answer
+answered_by (call.Request node now answer) = answered.Request answer
 answered_by (call.Reply now content answer) = answered.Reply answer
-answered_by (call.Tick now answer) = answered.Tick answer
-answered_by (call.Disconnect now) = answered.Disconnect
+answered_by (call.Tick node now answer) = answered.Tick answer
+answered_by (call.Disconnect node now) = answered.Disconnect
+answered_by (call.Lead partition node now) = answered.Lead
 answered_by call.Close = answered.Close
 answered_by call.Flush = answered.Flush
 answered_by (call.End reports) = answered.End reports

@@ -1,5 +1,5 @@
 -- What a core is seen as, and what is true of it beside.
-use Rattle.std.specs.Prelude.{◌≡◌, ℕ, ◌≤◌, length}
+use Rattle.std.specs.Prelude.{◌≡◌, length}
 use Rattle.kp_core.specs.declared.machine.Core.TheInside.{Inside}
 use Rattle.kp_parts.specs.Desk.{Desk, HavePlaces, all_reports}
 use Rattle.kp_rules.specs.declared.outcome.Outcome.TheVariants.{Unknown}
@@ -16,7 +16,7 @@ seen_of c = record {
   requests = c.requests.items;
   id_waits = c.id_waits;
   correlation = c.correlation;
-  last_used = c.last_used;
+  turns = c.turns.items;
   exhausted = c.exhausted;
   closing = c.closing;
   ended = c.ended;
@@ -24,11 +24,10 @@ seen_of c = record {
 }
 
 -- The core is in order; its desk keeps a place for the report of each item that is not told, and
--- counts them and their charges; and there is room for as many requests as may be in flight.
-pub record IsKept (s : Core) (desk : Desk) (capacity : ℕ) : Type 0 where
+-- counts them and their charges.
+pub record IsKept (s : Core) (desk : Desk) : Type 0 where
   pub order : IsInOrder s
   pub places : HavePlaces desk.lines (told_all Unknown (all_untold s))
   pub untold : desk.untold ≡ length (all_untold s)
   pub used : desk.used ≡ used s
   pub limit : desk.limit ≡ s.config.buffer_memory
-  pub room : s.config.max_in_flight_requests_per_connection ≤ capacity

@@ -8,13 +8,16 @@ use kp_wire::Blob;
 #[derive(Debug, Drop)]
 pub enum Asked {
     Append(Item),
-    /// The next request, at this moment.
-    Request(u64),
+    /// The next request to this node, at this moment.
+    Request(u32, u64),
     /// The content of a response is heard, at this moment.
     Reply(Blob, u64),
-    Tick(u64),
-    /// The connection was lost, at this moment.
-    Disconnect(u64),
+    /// For this node, at this moment.
+    Tick(u32, u64),
+    /// The connection to this node was lost, at this moment.
+    Disconnect(u32, u64),
+    /// This partition is led by this node, at this moment.
+    Lead(u32, u32, u64),
     Close,
     Flush,
     End,
@@ -30,6 +33,7 @@ pub enum Answered {
     Reply(Result<Replied, CoreFault>),
     Tick(Ticked),
     Disconnect,
+    Lead,
     Close,
     Flush,
     End(usize),

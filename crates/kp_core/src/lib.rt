@@ -5,6 +5,7 @@
 mod calls;
 mod machine;
 mod requests;
+mod turns;
 
 pub use calls::{Answered, Asked};
 pub use kp_rules::{

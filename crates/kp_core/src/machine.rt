@@ -3,7 +3,7 @@
 ghost use Rattle.std.specs.Prelude.{◌≡◌, ◌<◌, true, length, IfOk, IfErr};
 ghost use Rattle.kp_rules.specs.Appending.{may_append};
 ghost use Rattle.kp_rules.specs.Auditing.{opened};
-ghost use Rattle.kp_rules.specs.Calls.{Append, Close, Disconnect, End, Fetch, Flush, Reply, Request as Requested, Tick, Step};
+ghost use Rattle.kp_rules.specs.Calls.{Append, Close, Disconnect, End, Fetch, Flush, Lead, Reply, Request as Requested, Tick, Step};
 ghost use Rattle.kp_rules.specs.Opening.{MayOpen, new_core};
 ghost use Rattle.kp_core.specs.Answers.{answer_of};
 
@@ -14,12 +14,14 @@ mod committing;
 mod counting;
 mod due;
 mod ending;
+mod leading;
 mod matching;
 mod opening;
 mod replying;
 mod ticking;
 
 use crate::requests::Request;
+use crate::turns::Turn;
 use kp_accum::{AppendFault, Config, Item};
 use kp_parts::{Desk, Partition};
 use kp_rules::{CoreFault, Names, Outgoing, Replied, Report, Ticked};
@@ -33,14 +35,14 @@ pub struct Core {
     config: Config,
     names: Names,
     partitions: Vec<Partition>,
-    /// Those in flight. There is room for as many as may be from the beginning.
+    /// Those in flight.
     requests: Vec<Request>,
     /// The moment at which an id was refused, or its request dropped.
     id_waits: Option<u64>,
     /// The next request's.
     correlation: u32,
-    /// The partition whose batch was the last to go out.
-    last_used: Option<u32>,
+    /// Where the turn of each node's partitions begins, of those nodes that batches went out to.
+    turns: Vec<Turn>,
     /// An append was refused for want of buffer memory; none was given back since.
     exhausted: bool,
     closing: bool,
@@ -53,12 +55,11 @@ impl Model for Core {
 
     ghost Value = { seen.Core };
 
-    ghost use Rattle.std.specs.Prelude.{vec_capacity};
     ghost use Rattle.kp_core.specs.Keeping.{IsKept, seen_of};
 
     ghost view = { seen_of };
 
-    ghost invariant = { λ c. IsKept (seen_of c) c.desk (vec_capacity c.requests) };
+    ghost invariant = { λ c. IsKept (seen_of c) c.desk };
 }
 
 impl Core {
@@ -117,16 +118,16 @@ impl Core {
         self.append_item(item)
     }
 
-    /// The next request that is to go out at this moment: for a fresh producer id, or for the batches of all partitions
-    /// that may send. Ended where the core has ended; None where there is none; CorrelationSpent where each correlation
-    /// id was used; OutOfMemory, where a request would go out. After a fault nothing has changed.
-    pub fn next_request(&mut self, now: u64) -> Result<Option<Outgoing>, CoreFault>
-        ensures { Step self.old (Requested now result) self.new }
+    /// The next request that is to go out to this node at this moment: for a fresh producer id, or for the batches of
+    /// all its partitions that may send. Ended where the core has ended; None where there is none; CorrelationSpent where
+    /// each correlation id was used; OutOfMemory, where a request would go out. After a fault nothing has changed.
+    pub fn next_request(&mut self, node: u32, now: u64) -> Result<Option<Outgoing>, CoreFault>
+        ensures { Step self.old (Requested node now result) self.new }
     {
         if self.ended {
             return Err(CoreFault::Ended);
         }
-        self.request(now)
+        self.request(node, now)
     }
 
     /// Hears the content of a response, without its size, at this moment. Ended where the core has ended; Short where
@@ -139,9 +140,9 @@ impl Core {
         self.hear(content, now)
     }
 
-    /// The time is this: requests time out, and what is late is given up.
-    pub fn tick(&mut self, now: u64) -> Ticked
-        ensures { Step self.old (Tick now result) self.new }
+    /// The time is this: requests to this node time out, and what is late is given up, at each partition.
+    pub fn tick(&mut self, node: u32, now: u64) -> Ticked
+        ensures { Step self.old (Tick node now result) self.new }
     {
         if self.ended {
             return Ticked {
@@ -149,16 +150,25 @@ impl Core {
                 reconnect: false,
             };
         }
-        self.look_at(now)
+        self.look_at(node, now)
     }
 
-    /// The connection is lost: what was in flight is sent again, once `retry.backoff.ms` has passed from this moment.
-    pub fn on_disconnect(&mut self, now: u64)
-        ensures { Step self.old (Disconnect now) self.new }
+    /// The connection to this node is lost: what was in flight there is sent again, once `retry.backoff.ms` has passed from
+    /// this moment.
+    pub fn on_disconnect(&mut self, node: u32, now: u64)
+        ensures { Step self.old (Disconnect node now) self.new }
     {
         if !self.ended {
-            self.drop_requests(now);
+            self.drop_requests(node, now);
         }
+    }
+
+    /// This node leads the partition from now on: its batches go there, what was in flight once `retry.backoff.ms` has
+    /// passed from this moment. Where the node leads it already, or there is no such partition, nothing changes.
+    pub fn lead(&mut self, partition: u32, node: u32, now: u64)
+        ensures { Step self.old (Lead partition node now) self.new }
+    {
+        self.lead_by(partition, node, now);
     }
 
     /// Every batch is ready from now on, however short it has lingered.

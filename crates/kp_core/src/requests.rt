@@ -1,11 +1,11 @@
 //! Requests in flight.
 
-ghost use Rattle.std.specs.Prelude.{◌≡◌, ◌≤◌, ◌+◌, pos, not, filter, find, map, is_some, vec_capacity};
+ghost use Rattle.std.specs.Prelude.{◌≡◌, ◌+◌, ◌&&◌, pos, not, filter, find, length, map, is_some};
 ghost use Rattle.std.specs.List.{list_any};
 ghost use Rattle.std.specs.Option.{option_copied};
 ghost use Rattle.std.specs.Ordering.{int_eq};
 ghost use Rattle.kp_accum.specs.Ready.{is_over};
-ghost use Rattle.kp_rules.specs.Attempts.{asks_for_id, awaiting, is_live};
+ghost use Rattle.kp_rules.specs.Attempts.{asks_for_id, awaiting, goes_to, is_live, to_node};
 ghost use Rattle.kp_rules.specs.Due.{earliest};
 ghost use Rattle.kp_rules.specs.Partitions.{partition_at};
 ghost use Rattle.kp_rules.specs.Replies.{api_of};
@@ -29,6 +29,8 @@ pub(crate) enum Demand {
 #[derive(Debug, Drop)]
 pub(crate) struct Request {
     correlation: u32,
+    /// The node that it went to.
+    node: u32,
     /// The moment at which it went out.
     sent: u64,
     demand: Demand,
@@ -43,22 +45,25 @@ impl Model for Request {
 
     ghost view = { λ r. record {
       correlation = r.correlation;
+      node = r.node;
       sent = r.sent;
       demand = demand_of r.demand;
     } };
 }
 
 impl Request {
-    /// The request under this correlation id, which goes out at this moment.
-    pub(crate) fn new(correlation: u32, sent: u64, demand: Demand) -> Request
+    /// The request under this correlation id, which goes out to this node at this moment.
+    pub(crate) fn new(correlation: u32, node: u32, sent: u64, demand: Demand) -> Request
         ensures { result ≡ record {
           correlation = correlation;
+          node = node;
           sent = sent;
           demand = demand_of demand;
         } }
     {
         Request {
             correlation,
+            node,
             sent,
             demand,
         }
@@ -76,6 +81,13 @@ impl Request {
         ensures { result ≡ int_eq (pos self.now.correlation) correlation }
     {
         i64::from(self.correlation) == i64::from(correlation)
+    }
+
+    /// Whether it went to this node.
+    pub(crate) fn goes_to(&self, node: u32) -> bool
+        ensures { result ≡ goes_to node self.now }
+    {
+        self.node == node
     }
 
     /// The moment at which it went out.
@@ -154,13 +166,30 @@ pub(crate) fn any_asks_for_id(requests: &[Request]) -> bool
     requests.iter().any(|request| request.asks_for_id())
 }
 
-/// Whether one of the requests has waited for `request.timeout.ms`.
-pub(crate) fn any_timed_out(requests: &[Request], config: &Config, now: u64) -> bool
-    ensures { result ≡ list_any (λ r. is_over r.sent config.now.request_timeout_ms now) requests.now }
+/// Whether one of the requests to this node is one for an id.
+pub(crate) fn any_asks_there(requests: &[Request], node: u32) -> bool
+    ensures { result ≡ list_any (λ r. goes_to node r && asks_for_id r) requests.now }
 {
     requests
         .iter()
-        .any(|request| request.has_timed_out(config, now))
+        .any(|request| request.goes_to(node) && request.asks_for_id())
+}
+
+/// Whether one of the requests to this node has waited for `request.timeout.ms`.
+pub(crate) fn any_timed_out(requests: &[Request], node: u32, config: &Config, now: u64) -> bool
+    ensures { result ≡ list_any (λ r. goes_to node r && is_over r.sent config.now.request_timeout_ms now) requests.now }
+{
+    requests.iter().any(|request| request.goes_to(node) && request.has_timed_out(config, now))
+}
+
+/// How many requests are in flight to this node.
+pub(crate) fn count_to(requests: &[Request], node: u32) -> usize
+    ensures { result ≡ length (to_node node requests.now) }
+{
+    requests
+        .iter()
+        .filter(|request| request.goes_to(node))
+        .count()
 }
 
 /// The request with this correlation id.
@@ -174,16 +203,21 @@ pub(crate) fn find_awaited(requests: &[Request], correlation: i32) -> Option<&Re
 
 /// The requests of which an attempt is in flight stay, and those for an id.
 pub(crate) fn keep_live(requests: &mut Vec<Request>, partitions: &[Partition])
-    ensures items { requests.new.items ≡ filter (is_live partitions.now) requests.old.items }
-    ensures capacity { vec_capacity requests.old ≤ vec_capacity requests.new }
+    ensures { requests.new.items ≡ filter (is_live partitions.now) requests.old.items }
 {
     requests.retain(|request| request.is_live(partitions));
 }
 
+/// The requests to other nodes stay.
+pub(crate) fn drop_there(requests: &mut Vec<Request>, node: u32)
+    ensures { requests.new.items ≡ filter (λ r. not (goes_to node r)) requests.old.items }
+{
+    requests.retain(|request| !request.goes_to(node));
+}
+
 /// The requests for batches stay.
 pub(crate) fn keep_batches(requests: &mut Vec<Request>)
-    ensures items { requests.new.items ≡ filter (λ r. not (asks_for_id r)) requests.old.items }
-    ensures capacity { vec_capacity requests.old ≤ vec_capacity requests.new }
+    ensures { requests.new.items ≡ filter (λ r. not (asks_for_id r)) requests.old.items }
 {
     requests.retain(|request| !request.asks_for_id());
 }

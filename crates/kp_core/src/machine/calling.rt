@@ -33,12 +33,16 @@ impl Core {
     {
         match asked {
             Asked::Append(item) => Answered::Append(self.append_if_it_may_be(item)),
-            Asked::Request(now) => Answered::Request(self.next_request(now)),
+            Asked::Request(node, now) => Answered::Request(self.next_request(node, now)),
             Asked::Reply(content, now) => Answered::Reply(self.on_reply(content.as_slice(), now)),
-            Asked::Tick(now) => Answered::Tick(self.tick(now)),
-            Asked::Disconnect(now) => {
-                self.on_disconnect(now);
+            Asked::Tick(node, now) => Answered::Tick(self.tick(node, now)),
+            Asked::Disconnect(node, now) => {
+                self.on_disconnect(node, now);
                 Answered::Disconnect
+            }
+            Asked::Lead(partition, node, now) => {
+                self.lead(partition, node, now);
+                Answered::Lead
             }
             Asked::Close => {
                 self.close();

@@ -1,14 +1,15 @@
 //! What the next request asks for.
 
-ghost use Rattle.std.specs.Prelude.{◌≡◌, ◌<◌, ◌^◌, ◌+◌, ◌++◌, [], not, filter_map, find, take, option_map, length, min, OnOk, IfOk, IfErr};
+ghost use Rattle.std.specs.Prelude.{◌≡◌, ◌<◌, ◌^◌, ◌+◌, ◌++◌, ◌&&◌, [], not, filter_map, find, take, option_map, length, min, OnOk, IfOk, IfErr};
 ghost use Rattle.std.specs.List.{enumerate_from};
 ghost use Rattle.kp_rules.specs.MaySend.{wants_id};
 ghost use Rattle.kp_rules.specs.Next.{flags_of, fitting, next_asking, next_batches, used_up_to};
-ghost use Rattle.kp_rules.specs.Partitions.{is_empty};
+ghost use Rattle.kp_rules.specs.Partitions.{is_empty, leads};
 ghost use Rattle.kp_core.specs.Choosing.{sends_in};
 
 use crate::machine::Core;
 use crate::requests::any_asks_for_id;
+use crate::turns::used_up_to;
 use kp_accum::{Config, Flags};
 use kp_parts::{Partition, Sending, is_over};
 use std::alloc::AllocError;
@@ -25,9 +26,9 @@ impl Core {
         }
     }
 
-    /// The partition for which a fresh producer id is asked for.
-    pub(super) fn next_asking(&self, now: u64) -> Option<u32>
-        ensures { result ≡ next_asking now self.now }
+    /// The node's partition for which a fresh producer id is asked for.
+    pub(super) fn next_asking(&self, node: u32, now: u64) -> Option<u32>
+        ensures { result ≡ next_asking node now self.now }
     {
         if any_asks_for_id(&self.requests) {
             return None;
@@ -37,32 +38,30 @@ impl Core {
                 return None;
             }
         }
-        first_wanting(&self.partitions, &self.config)
+        first_wanting(&self.partitions, node, &self.config)
     }
 
-    /// The place of the first partition behind the last one used.
-    fn first_in_turn(&self) -> usize
-        ensures { result ≡ min (used_up_to self.now.last_used) (length self.now.partitions) }
+    /// The place of the first partition behind the last one used for this node.
+    fn first_in_turn(&self, node: u32) -> usize
+        ensures { result ≡ min (used_up_to node self.now.turns) (length self.now.partitions) }
     {
-        match self.last_used {
-            None => 0,
-            Some(last) => (last as usize + 1).min(self.partitions.len()),
-        }
+        used_up_to(&self.turns, node).min(self.partitions.len())
     }
 
-    /// The batches of all partitions that may send, cyclically after the last one used, as far as they fit into a
-    /// request. It takes memory only where there are some.
-    pub(super) fn next_batches(&self, now: u64) -> Result<Vec<Sending<'_>>, AllocError>
-        ensures all { IfOk result (λ sendings. sendings.items ≡ next_batches now self.now) }
-        ensures some { IfErr result (λ e. next_batches now self.now ≡ [] → ⊥) }
+    /// The batches of all partitions that may send to this node, cyclically after the last one used for it, as far as
+    /// they fit into a request. It takes memory only where there are some.
+    pub(super) fn next_batches(&self, node: u32, now: u64) -> Result<Vec<Sending<'_>>, AllocError>
+        ensures all { IfOk result (λ sendings. sendings.items ≡ next_batches node now self.now) }
+        ensures some { IfErr result (λ e. next_batches node now self.now ≡ [] → ⊥) }
     {
         let flags = self.flags();
-        let first = self.first_in_turn();
+        let first = self.first_in_turn(node);
         let mut sendings = Vec::new(self.alloc);
         gather(
             &mut sendings,
             &self.partitions[first..],
             first,
+            node,
             &self.config,
             flags,
             now,
@@ -71,6 +70,7 @@ impl Core {
             &mut sendings,
             &self.partitions[..first],
             0,
+            node,
             &self.config,
             flags,
             now,
@@ -81,10 +81,10 @@ impl Core {
     }
 
     /// Whether there are batches that would go out.
-    pub(super) fn has_batches(&self, now: u64) -> bool
-        ensures { result ≡ not (is_empty (next_batches now self.now)) }
+    pub(super) fn has_batches(&self, node: u32, now: u64) -> bool
+        ensures { result ≡ not (is_empty (next_batches node now self.now)) }
     {
-        match self.next_batches(now) {
+        match self.next_batches(node, now) {
             Ok(sendings) => !sendings.is_empty(),
             // Memory is asked for only where there are some.
             Err(_) => true,
@@ -92,35 +92,37 @@ impl Core {
     }
 }
 
-/// The number of the first partition that wants a fresh id.
-fn first_wanting(partitions: &[Partition], config: &Config) -> Option<u32>
+/// The number of the node's first partition that wants a fresh id.
+fn first_wanting(partitions: &[Partition], node: u32, config: &Config) -> Option<u32>
     requires { length partitions.now < 2 ^ 32 }
-    ensures { result ≡ option_map (λ x. x.0) (find (λ x. wants_id config.now x.1) (enumerate_from 0 partitions.now)) }
+    ensures { result ≡ option_map (λ x. x.0) (find (λ x. leads node x.1 && wants_id config.now x.1) (enumerate_from 0 partitions.now)) }
 {
     for place in 0..partitions.len() {
-        if partitions[place].wants_id(config) {
+        let partition = &partitions[place];
+        if partition.is_led_by(node) && partition.wants_id(config) {
             return Some(place as u32);
         }
     }
     None
 }
 
-/// What these partitions send, numbered from `first`, behind what there is.
+/// What these partitions send to this node, numbered from `first`, behind what there is.
 fn gather<'a>(
     sendings: &mut Vec<Sending<'a>>,
     partitions: &'a [Partition],
     first: usize,
+    node: u32,
     config: &Config,
     flags: Flags,
     now: u64,
 ) -> Result<(), AllocError>
     requires { first + length partitions.now < 2 ^ 32 }
     ensures ok { OnOk result (sendings.new.items ≡
-        sendings.old.items ++ filter_map (sends_in config.now flags now) (enumerate_from first partitions.now)) }
-    ensures some { IfErr result (λ e. filter_map (sends_in config.now flags now) (enumerate_from first partitions.now) ≡ [] → ⊥) }
+        sendings.old.items ++ filter_map (sends_in node config.now flags now) (enumerate_from first partitions.now)) }
+    ensures some { IfErr result (λ e. filter_map (sends_in node config.now flags now) (enumerate_from first partitions.now) ≡ [] → ⊥) }
 {
     for (place, partition) in partitions.iter().enumerate() {
-        if let Some(batch) = partition.sends(config, flags, now) {
+        if let Some(batch) = partition.sends_to(node, config, flags, now) {
             sendings.push(Sending {
                 partition: (first + place) as u32,
                 batch,

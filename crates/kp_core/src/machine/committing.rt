@@ -1,7 +1,7 @@
 //! A request goes out.
 
-ghost use Rattle.std.specs.Prelude.{◌≡◌, ◌<◌, ◌^◌, [], Some, None, false, true, length, option_map, IfOk, IfErr};
-ghost use Rattle.std.specs.List.{AllByRecursion, last_or};
+ghost use Rattle.std.specs.Prelude.{◌≡◌, ◌<◌, ◌^◌, [], Some, None, false, true, length, option_map, IfOk, IfErr, OnErr, OnOk};
+ghost use Rattle.std.specs.List.{AllByRecursion};
 ghost use Rattle.kp_rules.specs.Attempts.{has_window};
 ghost use Rattle.kp_rules.specs.Calls.{Request as Requested, Step};
 ghost use Rattle.kp_rules.specs.HandingOver.{send_in};
@@ -13,7 +13,8 @@ ghost use Rattle.kp_rules.specs.Requesting.{is_spent, partitions_in, sent_out};
 ghost use Rattle.kp_core.specs.Choosing.{FramesBatches, MayGoOut};
 
 use crate::machine::Core;
-use crate::requests::{Demand, Request};
+use crate::requests::{Demand, Request, count_to};
+use crate::turns::turn_to;
 use kp_parts::{Partition, Sending, id_frame, produce_frame};
 use kp_rules::{CoreFault, Outgoing};
 use kp_wire::Blob;
@@ -24,25 +25,25 @@ const CORRELATION_LIMIT: u32 = 2_147_483_647;
 
 impl Core {
     /// The next request, where the core has not ended.
-    pub(super) fn request(&mut self, now: u64) -> Result<Option<Outgoing>, CoreFault>
+    pub(super) fn request(&mut self, node: u32, now: u64) -> Result<Option<Outgoing>, CoreFault>
         requires { self.old.ended ≡ false }
-        ensures { Step self.old (Requested now result) self.new }
+        ensures { Step self.old (Requested node now result) self.new }
     {
-        if !self.has_window() {
+        if !self.has_window(node) {
             return Ok(None);
         }
-        match self.next_asking(now) {
-            Some(partition) => self.ask_for_id(now, partition),
-            None => self.send_batches(now),
+        match self.next_asking(node, now) {
+            Some(partition) => self.ask_for_id(node, now, partition),
+            None => self.send_batches(node, now),
         }
     }
 
-    /// Whether one request more may be in flight.
+    /// Whether one request more may be in flight to this node.
     #[tactic(auto, unfolding(kp_rules::specs::Attempts::has_window))]
-    fn has_window(&self) -> bool
-        ensures { result ≡ has_window self.now }
+    fn has_window(&self, node: u32) -> bool
+        ensures { result ≡ has_window node self.now }
     {
-        (self.requests.len() as u64) < self.config.max_in_flight_requests_per_connection
+        (count_to(&self.requests, node) as u64) < self.config.max_in_flight_requests_per_connection
     }
 
     /// Whether each correlation id was used.
@@ -53,51 +54,62 @@ impl Core {
     }
 
     /// A request for a fresh producer id goes out, for this partition.
-    fn ask_for_id(&mut self, now: u64, partition: u32) -> Result<Option<Outgoing>, CoreFault>
+    fn ask_for_id(
+        &mut self,
+        node: u32,
+        now: u64,
+        partition: u32,
+    ) -> Result<Option<Outgoing>, CoreFault>
         requires going { self.old.ended ≡ false }
-        requires demand { next_demand now self.old ≡ Some (InitProducerId partition) }
-        ensures { Step self.old (Requested now result) self.new }
+        requires demand { next_demand node now self.old ≡ Some (InitProducerId partition) }
+        ensures { Step self.old (Requested node now result) self.new }
     {
         if self.is_spent() {
             return Err(CoreFault::CorrelationSpent);
         }
         match id_frame(self.alloc, &self.names, self.correlation) {
             Err(_) => Err(CoreFault::OutOfMemory),
-            Ok(bytes) => Ok(Some(self.commit_asking(now, partition, bytes))),
+            Ok(bytes) => match self.commit_asking(node, now, partition, bytes) {
+                Err(_) => Err(CoreFault::OutOfMemory),
+                Ok(outgoing) => Ok(Some(outgoing)),
+            },
         }
     }
 
     /// The batches of all partitions that may send go out.
-    fn send_batches(&mut self, now: u64) -> Result<Option<Outgoing>, CoreFault>
+    fn send_batches(&mut self, node: u32, now: u64) -> Result<Option<Outgoing>, CoreFault>
         requires going { self.old.ended ≡ false }
-        requires window { has_window self.old ≡ true }
-        requires asking { next_asking now self.old ≡ None }
-        ensures { Step self.old (Requested now result) self.new }
+        requires window { has_window node self.old ≡ true }
+        requires asking { next_asking node now self.old ≡ None }
+        ensures { Step self.old (Requested node now result) self.new }
     {
         if self.is_spent() {
-            if self.has_batches(now) {
+            if self.has_batches(node, now) {
                 return Err(CoreFault::CorrelationSpent);
             }
             return Ok(None);
         }
-        match self.next_frame(now) {
+        match self.next_frame(node, now) {
             Err(_) => Err(CoreFault::OutOfMemory),
             Ok(None) => Ok(None),
-            Ok(Some((bytes, chosen))) => Ok(Some(self.commit_batches(now, chosen, bytes))),
+            Ok(Some((bytes, chosen))) => match self.commit_batches(node, now, chosen, bytes) {
+                Err(_) => Err(CoreFault::OutOfMemory),
+                Ok(outgoing) => Ok(Some(outgoing)),
+            },
         }
     }
 
     /// The frame of the request for the next batches, and the partitions whose they are; None where there are none, and
     /// then it takes no memory.
-    fn next_frame(&self, now: u64) -> Result<Option<(Blob, Vec<u32>)>, AllocError>
+    fn next_frame(&self, node: u32, now: u64) -> Result<Option<(Blob, Vec<u32>)>, AllocError>
         requires going { self.now.ended ≡ false }
-        requires window { has_window self.now ≡ true }
-        requires asking { next_asking now self.now ≡ None }
+        requires window { has_window node self.now ≡ true }
+        requires asking { next_asking node now self.now ≡ None }
         requires left { is_spent self.now ≡ false }
-        ensures ok { IfOk result (λ framed. FramesBatches now self.now (option_map (λ x. (x.0, x.1.items)) framed)) }
-        ensures err { IfErr result (λ e. next_batches now self.now ≡ [] → ⊥) }
+        ensures ok { IfOk result (λ framed. FramesBatches node now self.now (option_map (λ x. (x.0, x.1.items)) framed)) }
+        ensures err { IfErr result (λ e. next_batches node now self.now ≡ [] → ⊥) }
     {
-        let sendings = self.next_batches(now)?;
+        let sendings = self.next_batches(node, now)?;
         if sendings.is_empty() {
             return Ok(None);
         }
@@ -111,39 +123,55 @@ impl Core {
         Ok(Some((bytes, partitions_in(self.alloc, &sendings)?)))
     }
 
-    /// The request for an id is in flight.
-    fn commit_asking(&mut self, now: u64, partition: u32, bytes: Blob) -> Outgoing
+    /// The request for an id is in flight. Where memory is refused nothing has changed.
+    fn commit_asking(
+        &mut self,
+        node: u32,
+        now: u64,
+        partition: u32,
+        bytes: Blob,
+    ) -> Result<Outgoing, AllocError>
         requires going { self.old.ended ≡ false }
-        requires demand { next_demand now self.old ≡ Some (InitProducerId partition) }
+        requires demand { next_demand node now self.old ≡ Some (InitProducerId partition) }
         requires left { is_spent self.old ≡ false }
-        ensures after { self.new ≡ sent_out now self.old (InitProducerId partition) }
-        ensures out { result ≡ record { correlation = self.old.correlation; bytes = bytes } }
+        ensures after { OnOk result (self.new ≡ sent_out node now self.old (InitProducerId partition)) }
+        ensures out { IfOk result (λ out. out ≡ record { correlation = self.old.correlation; bytes = bytes }) }
+        ensures err { OnErr result (self.new ≡ self.old) }
     {
         let correlation = self.correlation;
         let demand = Demand::InitProducerId(partition);
+        self.requests.reserve(1)?;
         self.requests
-            .push_reserved(Request::new(correlation, now, demand));
+            .push_reserved(Request::new(correlation, node, now, demand));
         self.correlation += 1;
-        Outgoing { correlation, bytes }
+        Ok(Outgoing { correlation, bytes })
     }
 
-    /// The batches of these partitions are in flight.
-    fn commit_batches(&mut self, now: u64, chosen: Vec<u32>, bytes: Blob) -> Outgoing
+    /// The batches of these partitions are in flight. Where memory is refused nothing has changed.
+    fn commit_batches(
+        &mut self,
+        node: u32,
+        now: u64,
+        chosen: Vec<u32>,
+        bytes: Blob,
+    ) -> Result<Outgoing, AllocError>
         requires going { self.old.ended ≡ false }
-        requires demand { next_demand now self.old ≡ Some (Produce (next_batches now self.old)) }
-        requires chosen { chosen.items ≡ partitions_in (next_batches now self.old) }
+        requires demand { next_demand node now self.old ≡ Some (Produce (next_batches node now self.old)) }
+        requires chosen { chosen.items ≡ partitions_in (next_batches node now self.old) }
         requires left { is_spent self.old ≡ false }
-        ensures after { self.new ≡ sent_out now self.old (Produce (next_batches now self.old)) }
-        ensures out { result ≡ record { correlation = self.old.correlation; bytes = bytes } }
+        ensures after { OnOk result (self.new ≡ sent_out node now self.old (Produce (next_batches node now self.old))) }
+        ensures out { IfOk result (λ out. out ≡ record { correlation = self.old.correlation; bytes = bytes }) }
+        ensures err { OnErr result (self.new ≡ self.old) }
     {
         let correlation = self.correlation;
+        self.requests.reserve(1)?;
+        turn_to(&mut self.turns, node, &chosen)?;
         send_each(&mut self.partitions, &chosen, correlation);
-        self.last_used = last_chosen(&chosen, self.last_used);
         let demand = Demand::Produce(chosen);
         self.requests
-            .push_reserved(Request::new(correlation, now, demand));
+            .push_reserved(Request::new(correlation, node, now, demand));
         self.correlation += 1;
-        Outgoing { correlation, bytes }
+        Ok(Outgoing { correlation, bytes })
     }
 }
 
@@ -156,16 +184,6 @@ fn partitions_in(alloc: Global, sendings: &[Sending<'_>]) -> Result<Vec<u32>, Al
         chosen.push(sending.partition)?;
     }
     Ok(chosen)
-}
-
-/// The last of these partitions, or the last one used before.
-fn last_chosen(chosen: &[u32], last_used: Option<u32>) -> Option<u32>
-    ensures { result ≡ last_or last_used chosen.now }
-{
-    match chosen {
-        [] => last_used,
-        [.., last] => Some(*last),
-    }
 }
 
 /// What each of these partitions may send goes out in this request.

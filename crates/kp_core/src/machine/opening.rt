@@ -31,6 +31,7 @@ impl Core {
     {
         see_text(&names.topic);
         see_text(&names.client);
+        let turns = Vec::new(alloc);
         Ok(Core {
             alloc,
             config,
@@ -42,7 +43,7 @@ impl Core {
             )?,
             id_waits: None,
             correlation: first_correlation,
-            last_used: None,
+            turns,
             exhausted: false,
             closing: false,
             ended: false,

@@ -2,27 +2,28 @@
 
 ghost use Rattle.std.specs.Prelude.{◌≡◌, false, flat_map, map, Some, if◌then◌else◌, ◌&&◌, ◌==◌};
 ghost use Rattle.std.specs.List.{list_any};
-ghost use Rattle.kp_rules.specs.Attempts.{asks_for_id};
+ghost use Rattle.kp_rules.specs.Attempts.{asks_for_id, goes_to};
 ghost use Rattle.kp_rules.specs.Calls.{Step, Tick};
-ghost use Rattle.kp_rules.specs.Dropping.{drop_attempts, drop_requests};
+ghost use Rattle.kp_rules.specs.Dropping.{drop_led, drop_requests};
 ghost use Rattle.kp_rules.specs.Telling.{at_each};
 ghost use Rattle.kp_rules.specs.Tick.{heed_deadlines};
 ghost use Rattle.kp_parts.specs.Desk.{tell_desk, Covers};
 
 use crate::machine::Core;
-use crate::requests::{Request, any_asks_for_id, any_timed_out, keep_live};
+use crate::requests::{Request, any_asks_there, any_timed_out, drop_there, keep_live};
 use kp_accum::Config;
 use kp_parts::{Desk, Partition};
 use kp_rules::Ticked;
 
 impl Core {
-    /// Where a request has timed out, all attempts are dropped; then each partition is looked at, upwards.
-    pub(super) fn look_at(&mut self, now: u64) -> Ticked
+    /// Where a request to this node has timed out, all attempts there are dropped; then each partition is looked at,
+    /// upwards.
+    pub(super) fn look_at(&mut self, node: u32, now: u64) -> Ticked
         requires { self.old.ended ≡ false }
-        ensures { Step self.old (Tick now result) self.new }
+        ensures { Step self.old (Tick node now result) self.new }
     {
-        if any_timed_out(&self.requests, &self.config, now) {
-            self.drop_requests(now);
+        if any_timed_out(&self.requests, node, &self.config, now) {
+            self.drop_requests(node, now);
             return Ticked {
                 reports: self.heed_deadlines(now),
                 reconnect: true,
@@ -34,13 +35,13 @@ impl Core {
         }
     }
 
-    /// Nothing is in flight any more.
-    pub(super) fn drop_requests(&mut self, now: u64)
-        ensures { self.new ≡ drop_requests now self.old }
+    /// Nothing is in flight to this node any more.
+    pub(super) fn drop_requests(&mut self, node: u32, now: u64)
+        ensures { self.new ≡ drop_requests node now self.old }
     {
-        self.id_waits = waits_after(&self.requests, self.id_waits, now);
-        drop_each(&mut self.partitions, now);
-        self.requests.clear();
+        self.id_waits = waits_after(&self.requests, self.id_waits, node, now);
+        drop_each(&mut self.partitions, node, now);
+        drop_there(&mut self.requests, node);
     }
 
     /// What is late is given up, at each partition, upwards. How many items were told of.
@@ -57,11 +58,11 @@ impl Core {
     }
 }
 
-/// Since when an id may be asked for again, once these requests are dropped.
-fn waits_after(requests: &[Request], id_waits: Option<u64>, now: u64) -> Option<u64>
-    ensures { result ≡ (if list_any asks_for_id requests.now then Some now else id_waits) }
+/// Since when an id may be asked for again, once the requests to this node are dropped.
+fn waits_after(requests: &[Request], id_waits: Option<u64>, node: u32, now: u64) -> Option<u64>
+    ensures { result ≡ (if list_any (λ r. goes_to node r && asks_for_id r) requests.now then Some now else id_waits) }
 {
-    if any_asks_for_id(requests) {
+    if any_asks_there(requests, node) {
         Some(now)
     } else {
         id_waits
@@ -75,12 +76,12 @@ pub(super) fn is_still_exhausted(exhausted: bool, reports: u64) -> bool
     exhausted && reports == 0
 }
 
-fn drop_each(partitions: &mut Vec<Partition>, now: u64)
-    ensures { partitions.new.items ≡ map (drop_attempts now) partitions.old.items }
+fn drop_each(partitions: &mut Vec<Partition>, node: u32, now: u64)
+    ensures { partitions.new.items ≡ map (drop_led node now) partitions.old.items }
 {
     for place in 0..partitions.len() {
         let partition = &mut partitions[place];
-        partition.drop_attempts(now);
+        partition.drop_led(node, now);
     }
 }
 

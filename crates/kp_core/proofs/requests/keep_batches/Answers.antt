@@ -2,5 +2,5 @@ use Rattle.std.proofs.Common.{rules}
 use Rattle.std.proofs.lemmas.Fn.{filter_same}
 use Rattle.kp_core.proofs.requests.keep_batches.Goals as goal
 
-pub returns-clause-items : goal.returns-clause-items
-returns-clause-items c = filter_same _ _ _ (λ r b f k. search rules) _ _ c.retain.ensures.filtered
+pub returns : goal.returns
+returns c = filter_same _ _ _ (λ r b f k. search rules) _ _ c.retain.ensures.filtered

@@ -30,7 +30,7 @@ turn_away-requires-then-is_fenced-clause-turned c =
     ∙ sym c.is_fenced.ensures ∙ c.if-is_fenced.true)
 
 pub invariant_of-self : goal.invariant_of-self
-invariant_of-self c = quiet_kept c.self.invariant (exhausted_left (seen_of c.self.inside) c.self.invariant.order) (omega arith)
+invariant_of-self c = quiet_kept c.self.invariant (exhausted_left (seen_of c.self.inside) c.self.invariant.order)
 
 pub returns-then-not-has_room-clause-step : goal.returns-then-not-has_room-clause-step
 returns-then-not-has_room-clause-step c =

@@ -1,6 +1,5 @@
-use Rattle.std.proofs.Common.{◌≡◌, ◌∙◌, ℕ, ◌<◌, List, [], ◌∷◌, ◌++◌, length, Some, sym, ap, subst, rules, arith}
-use Rattle.std.specs.Prelude.{vec_capacity, vec_len}
-use Rattle.std.specs.List.{AllByRecursion, last_or}
+use Rattle.std.proofs.Common.{◌≡◌, ◌∙◌, ℕ, ◌<◌, List, [], ◌∷◌, ◌++◌, length, Some, sym, ap, subst}
+use Rattle.std.specs.List.{AllByRecursion}
 use Rattle.kp_core.specs.Choosing.{MayGoOut}
 use Rattle.kp_core.specs.Keeping.{IsKept, seen_of}
 use Rattle.kp_rules.specs.HandingOver.{send_in}
@@ -8,75 +7,68 @@ use Rattle.kp_rules.specs.InOrder.{AreDistinct}
 use Rattle.kp_rules.specs.Next.{Sending, next_batches, next_demand}
 use Rattle.kp_rules.specs.Partitions.{changed_at, partition_at}
 use Rattle.kp_rules.specs.Records.{Core, Produce, Request}
-use Rattle.kp_rules.specs.Requesting.{is_spent, partitions_in, request_of, sent_out}
+use Rattle.kp_rules.specs.Requesting.{is_spent, partitions_in, request_of, sent_out, turned}
 use Rattle.kp_core.proofs.KeepingLemmas.{quiet_kept}
 use Rattle.kp_core.proofs.LeavingLemmas.{sent_left}
-use Rattle.kp_core.proofs.RequestStepLemmas.{has_room}
 use Rattle.kp_core.proofs.SentLemmas.{all_once, all_placed, all_there, sent-is}
 use Rattle.kp_core.proofs.machine.Core.commit_batches.Goals as goal
 
 pub send_each-requires-clause-there : goal.send_each-requires-clause-there
 send_each-requires-clause-there c =
     let s = seen_of c.self.inside in
-    let demand : next_demand c.args.now s ≡ Some (Produce (next_batches c.args.now s)) = rw (c.self.view_is) c.requires.demand in
-    let chosen : c.deref.result.now ≡ partitions_in (next_batches c.args.now s) = c.deref.ensures.value ∙ c.requires.chosen ∙ ap (λ (x : Core). partitions_in (next_batches c.args.now x)) (sym c.self.view_is) in
-    subst (AllByRecursion (λ p. p < length s.partitions)) (sym chosen) (all_there c.args.now s (next_batches c.args.now s) demand)
+    let demand : next_demand c.args.node c.args.now s ≡ Some (Produce (next_batches c.args.node c.args.now s)) = rw (c.self.view_is) c.requires.demand in
+    let chosen : c.deref-2.result.now ≡ partitions_in (next_batches c.args.node c.args.now s) = c.deref-2.ensures.value ∙ c.requires.chosen ∙ ap (λ (x : Core). partitions_in (next_batches c.args.node c.args.now x)) (sym c.self.view_is) in
+    subst (AllByRecursion (λ p. p < length s.partitions)) (sym chosen) (all_there c.args.node c.args.now s (next_batches c.args.node c.args.now s) demand)
 
 pub send_each-requires-clause-once : goal.send_each-requires-clause-once
 send_each-requires-clause-once c =
     let s = seen_of c.self.inside in
-    let demand : next_demand c.args.now s ≡ Some (Produce (next_batches c.args.now s)) = rw (c.self.view_is) c.requires.demand in
-    let chosen : c.deref.result.now ≡ partitions_in (next_batches c.args.now s) = c.deref.ensures.value ∙ c.requires.chosen ∙ ap (λ (x : Core). partitions_in (next_batches c.args.now x)) (sym c.self.view_is) in
-    subst AreDistinct (sym chosen) (all_once c.args.now s (next_batches c.args.now s) demand)
+    let demand : next_demand c.args.node c.args.now s ≡ Some (Produce (next_batches c.args.node c.args.now s)) = rw (c.self.view_is) c.requires.demand in
+    let chosen : c.deref-2.result.now ≡ partitions_in (next_batches c.args.node c.args.now s) = c.deref-2.ensures.value ∙ c.requires.chosen ∙ ap (λ (x : Core). partitions_in (next_batches c.args.node c.args.now x)) (sym c.self.view_is) in
+    subst AreDistinct (sym chosen) (all_once c.args.node c.args.now s (next_batches c.args.node c.args.now s) demand)
 
 pub send_each-requires-clause-place : goal.send_each-requires-clause-place
 send_each-requires-clause-place c =
     let s = seen_of c.self.inside in
-    let demand : next_demand c.args.now s ≡ Some (Produce (next_batches c.args.now s)) = rw (c.self.view_is) c.requires.demand in
-    let chosen : c.deref.result.now ≡ partitions_in (next_batches c.args.now s) = c.deref.ensures.value ∙ c.requires.chosen ∙ ap (λ (x : Core). partitions_in (next_batches c.args.now x)) (sym c.self.view_is) in
+    let demand : next_demand c.args.node c.args.now s ≡ Some (Produce (next_batches c.args.node c.args.now s)) = rw (c.self.view_is) c.requires.demand in
+    let chosen : c.deref-2.result.now ≡ partitions_in (next_batches c.args.node c.args.now s) = c.deref-2.ensures.value ∙ c.requires.chosen ∙ ap (λ (x : Core). partitions_in (next_batches c.args.node c.args.now x)) (sym c.self.view_is) in
     subst (AllByRecursion (λ p. MayGoOut (partition_at p s.partitions))) (sym chosen)
-    (all_placed c.args.now s (next_batches c.args.now s) c.self.invariant.order (ap is_spent c.self.view_is ∙ c.requires.left) demand)
+    (all_placed c.args.node c.args.now s (next_batches c.args.node c.args.now s) c.self.invariant.order (ap is_spent c.self.view_is ∙ c.requires.left) demand)
 
-pub push_reserved-requires : goal.push_reserved-requires
-push_reserved-requires c =
+pub invariant_of-self-2 : goal.invariant_of-self-2
+invariant_of-self-2 c =
     let s = seen_of c.self.inside in
-    let demand : next_demand c.args.now s ≡ Some (Produce (next_batches c.args.now s)) = rw (c.self.view_is) c.requires.demand in
-    let room = has_room c.args.now s (Produce (next_batches c.args.now s)) demand in
-    let len : vec_len c.self.inside.requests ≡ length c.self.inside.requests.items = search rules in
-    omega (arith, room, len, c.self.invariant.room)
-
-pub invariant_of-self : goal.invariant_of-self
-invariant_of-self c =
-    let s = seen_of c.self.inside in
-    let xs : List Sending = next_batches c.args.now s in
-    let demand : next_demand c.args.now s ≡ Some (Produce xs) = rw (c.self.view_is) c.requires.demand in
-    let items : c.args.chosen.items ≡ partitions_in xs = c.requires.chosen ∙ ap (λ (x : Core). partitions_in (next_batches c.args.now x)) (sym c.self.view_is) in
-    let chosen : c.deref.result.now ≡ partitions_in xs = c.deref.ensures.value ∙ items in
+    let xs : List Sending = next_batches c.args.node c.args.now s in
+    let demand : next_demand c.args.node c.args.now s ≡ Some (Produce xs) = rw (c.self.view_is) c.requires.demand in
+    let items : c.args.chosen.items ≡ partitions_in xs = c.requires.chosen ∙ ap (λ (x : Core). partitions_in (next_batches c.args.node c.args.now x)) (sym c.self.view_is) in
+    let chosen : c.deref-2.result.now ≡ partitions_in xs = c.deref-2.ensures.value ∙ items in
     let changed : c.send_each.new.partitions.items ≡ changed_at (partitions_in xs) (λ p t. send_in s.correlation t) s.partitions =
     c.send_each.ensures ∙ ap (λ (ps : List ℕ). changed_at ps (λ p t. send_in s.correlation t) s.partitions) chosen in
-    let requests : c.push_reserved.new.self.items ≡ s.requests ++ request_of c.args.now s (Produce (partitions_in xs)) ∷ [] =
-    c.push_reserved.ensures.items ∙ ap (λ (r : Request). s.requests ++ r ∷ []) c.new.ensures
-    ∙ ap (λ (ps : List ℕ). s.requests ++ request_of c.args.now s (Produce ps) ∷ []) items in
-    let last : c.last_chosen-self-inside.result ≡ last_or s.last_used (partitions_in xs) =
-    c.last_chosen-self-inside.ensures ∙ ap (last_or s.last_used) (c.deref-2.ensures.value ∙ items) in
-    let is = sent-is c.args.now s xs c.send_each.new.partitions.items c.push_reserved.new.self.items c.last_chosen-self-inside.result changed requests last in
+    let requests : c.push_reserved.new.self.items ≡ s.requests ++ request_of c.args.node c.args.now s (Produce (partitions_in xs)) ∷ [] =
+    c.push_reserved.ensures.items ∙ ap (λ (rs : List Request). rs ++ c.new.result ∷ []) c.reserve.ensures.items
+    ∙ ap (λ (r : Request). s.requests ++ r ∷ []) c.new.ensures
+    ∙ ap (λ (ps : List ℕ). s.requests ++ request_of c.args.node c.args.now s (Produce ps) ∷ []) items in
+    let turns : c.turn_to.new.turns.items ≡ turned c.args.node (partitions_in xs) s.turns =
+    c.in_ok-turn_to.ensures.ok ∙ ap (λ (ps : List ℕ). turned c.args.node ps s.turns) (c.deref.ensures.value ∙ items) in
+    let is = sent-is c.args.node c.args.now s xs c.send_each.new.partitions.items c.push_reserved.new.self.items c.turn_to.new.turns.items changed requests turns in
     let going = ap (λ (x : Core). x.ended) c.self.view_is ∙ c.requires.going in
-    subst (λ (x : Core). IsKept x c.self.inside.desk (vec_capacity c.push_reserved.new.self)) (sym is)
-    (quiet_kept c.self.invariant (sent_left c.args.now s (Produce xs) going demand c.self.invariant.order) (omega (arith, c.push_reserved.ensures.capacity)))
+    subst (λ (x : Core). IsKept x c.self.inside.desk) (sym is)
+    (quiet_kept c.self.invariant (sent_left c.args.node c.args.now s (Produce xs) going demand c.self.invariant.order))
 
 pub returns-clause-after : goal.returns-clause-after
 returns-clause-after c =
     let s = seen_of c.self.inside in
-    let xs : List Sending = next_batches c.args.now s in
-    let demand : next_demand c.args.now s ≡ Some (Produce xs) = rw (c.self.view_is) c.requires.demand in
-    let items : c.args.chosen.items ≡ partitions_in xs = c.requires.chosen ∙ ap (λ (x : Core). partitions_in (next_batches c.args.now x)) (sym c.self.view_is) in
-    let chosen : c.deref.result.now ≡ partitions_in xs = c.deref.ensures.value ∙ items in
+    let xs : List Sending = next_batches c.args.node c.args.now s in
+    let demand : next_demand c.args.node c.args.now s ≡ Some (Produce xs) = rw (c.self.view_is) c.requires.demand in
+    let items : c.args.chosen.items ≡ partitions_in xs = c.requires.chosen ∙ ap (λ (x : Core). partitions_in (next_batches c.args.node c.args.now x)) (sym c.self.view_is) in
+    let chosen : c.deref-2.result.now ≡ partitions_in xs = c.deref-2.ensures.value ∙ items in
     let changed : c.send_each.new.partitions.items ≡ changed_at (partitions_in xs) (λ p t. send_in s.correlation t) s.partitions =
     c.send_each.ensures ∙ ap (λ (ps : List ℕ). changed_at ps (λ p t. send_in s.correlation t) s.partitions) chosen in
-    let requests : c.push_reserved.new.self.items ≡ s.requests ++ request_of c.args.now s (Produce (partitions_in xs)) ∷ [] =
-    c.push_reserved.ensures.items ∙ ap (λ (r : Request). s.requests ++ r ∷ []) c.new.ensures
-    ∙ ap (λ (ps : List ℕ). s.requests ++ request_of c.args.now s (Produce ps) ∷ []) items in
-    let last : c.last_chosen-self-inside.result ≡ last_or s.last_used (partitions_in xs) =
-    c.last_chosen-self-inside.ensures ∙ ap (last_or s.last_used) (c.deref-2.ensures.value ∙ items) in
-    let is = sent-is c.args.now s xs c.send_each.new.partitions.items c.push_reserved.new.self.items c.last_chosen-self-inside.result changed requests last in
-    is ∙ ap (λ (x : Core). sent_out c.args.now x (Produce (next_batches c.args.now x))) c.self.view_is
+    let requests : c.push_reserved.new.self.items ≡ s.requests ++ request_of c.args.node c.args.now s (Produce (partitions_in xs)) ∷ [] =
+    c.push_reserved.ensures.items ∙ ap (λ (rs : List Request). rs ++ c.new.result ∷ []) c.reserve.ensures.items
+    ∙ ap (λ (r : Request). s.requests ++ r ∷ []) c.new.ensures
+    ∙ ap (λ (ps : List ℕ). s.requests ++ request_of c.args.node c.args.now s (Produce ps) ∷ []) items in
+    let turns : c.turn_to.new.turns.items ≡ turned c.args.node (partitions_in xs) s.turns =
+    c.in_ok-turn_to.ensures.ok ∙ ap (λ (ps : List ℕ). turned c.args.node ps s.turns) (c.deref.ensures.value ∙ items) in
+    let is = sent-is c.args.node c.args.now s xs c.send_each.new.partitions.items c.push_reserved.new.self.items c.turn_to.new.turns.items changed requests turns in
+    is ∙ ap (λ (x : Core). sent_out c.args.node c.args.now x (Produce (next_batches c.args.node c.args.now x))) c.self.view_is

@@ -1,5 +1,5 @@
 use Rattle.std.proofs.Common.{◌∙◌, refl, sym, ap, subst, arith}
-use Rattle.std.specs.Prelude.{vec_capacity, ◌&&◌, ◌==◌}
+use Rattle.std.specs.Prelude.{◌&&◌, ◌==◌}
 use Rattle.kp_core.specs.Keeping.{IsKept, seen_of}
 use Rattle.kp_rules.specs.Closing.{end_all}
 use Rattle.kp_rules.specs.Records.{Core}
@@ -23,8 +23,8 @@ invariant_of-self c =
     let is = ended-is s c.give_up_each.new.partitions.items c.clear.new.self.items c.is_still_exhausted-self-inside.result c.self.inside.desk c.give_up_each.new.desk
     refl covers c.give_up_each.ensures.after c.give_up_each.ensures.told c.clear.ensures.items
     (c.is_still_exhausted-self-inside.ensures ∙ ap (λ n. c.self.inside.exhausted && (n == 0)) (omega (arith, c.untold-untold.ensures, c.untold.ensures))) in
-    subst (λ (x : Core). IsKept x c.give_up_each.new.desk (vec_capacity c.clear.new.self)) (sym is)
-    (told_kept c.self.invariant left c.give_up_each.ensures.told (omega (arith, c.clear.ensures.capacity)))
+    subst (λ (x : Core). IsKept x c.give_up_each.new.desk) (sym is)
+    (told_kept c.self.invariant left c.give_up_each.ensures.told)
 
 pub returns-clause-after : goal.returns-clause-after
 unfolding at_each with_partitions

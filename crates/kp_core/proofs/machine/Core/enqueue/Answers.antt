@@ -1,5 +1,4 @@
 use Rattle.std.proofs.Common.{◌≡◌, ◌∙◌, ℕ, ◌+◌, ◌<◌, true, false, length, set, refl, sym, ap, subst, rules, arith}
-use Rattle.std.specs.Prelude.{vec_capacity}
 use Rattle.std.proofs.lemmas.List.{get_or_default, set-get_or}
 use Rattle.kp_accum.specs.Queue.{charge_of}
 use Rattle.kp_core.specs.Keeping.{IsKept, seen_of}
@@ -55,8 +54,8 @@ invariant_of-self-in-Err c =
     ap (set s.partitions c.args.item.partition) (same ∙ c.index_mut-partition.ensures.value ∙ get_or_default s.partitions c.args.item.partition c.index_mut-partition.result.now (new_partition 0) there)
     ∙ set-get_or s.partitions c.args.item.partition (new_partition 0) in
     let is = restored s (set s.partitions c.args.item.partition c.enqueue.new.self) d c.give_back_place.new.self refl ts back in
-    subst (λ (x : Core). IsKept x c.give_back_place.new.self (vec_capacity c.self.inside.requests)) (sym is)
-    (subst (λ (x : Desk). IsKept s x (vec_capacity c.self.inside.requests)) (sym back) c.self.invariant)
+    subst (λ (x : Core). IsKept x c.give_back_place.new.self) (sym is)
+    (subst (λ (x : Desk). IsKept s x) (sym back) c.self.invariant)
 
 pub returns-in-Err-clause-step : goal.returns-in-Err-clause-step
 returns-in-Err-clause-step c =
@@ -107,8 +106,8 @@ invariant_of-self-2 c =
     let going : s.ended ≡ false = ap (λ (x : Core). x.ended) c.self.view_is ∙ c.requires.going in
     let free : (partition_at i.partition s.partitions).fenced ≡ false = ap (λ (x : Core). (partition_at i.partition x.partitions).fenced) c.self.view_is ∙ c.requires.free in
     let room : would_exhaust i s ≡ false = ap (would_exhaust i) c.self.view_is ∙ c.requires.room in
-    subst (λ (x : Core). IsKept x c.take.new.self (vec_capacity c.self.inside.requests)) (sym is)
-    (subst (λ (x : Desk). IsKept (with_queued i s) x (vec_capacity c.self.inside.requests)) (sym told)
+    subst (λ (x : Core). IsKept x c.take.new.self) (sym is)
+    (subst (λ (x : Desk). IsKept (with_queued i s) x) (sym told)
     (gained_kept i (record { moment = c.see_record.ensures.moment; keys = c.see_record.ensures.keys }) may going free room (line_there i s d refl may) c.self.invariant))
 
 pub returns-clause-step : goal.returns-clause-step

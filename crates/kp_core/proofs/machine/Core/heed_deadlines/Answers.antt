@@ -1,5 +1,5 @@
 use Rattle.std.proofs.Common.{◌∙◌, ℕ, List, refl, sym, ap, subst, arith}
-use Rattle.std.specs.Prelude.{filter, vec_capacity, ◌&&◌, ◌==◌}
+use Rattle.std.specs.Prelude.{filter, ◌&&◌, ◌==◌}
 use Rattle.kp_core.specs.Keeping.{IsKept, seen_of}
 use Rattle.kp_rules.specs.Attempts.{is_live}
 use Rattle.kp_rules.specs.Records.{Core, Partition}
@@ -23,10 +23,10 @@ invariant_of-self c =
     let covers : Covers c.self.inside.desk (at_each (heed_deadlines s.config c.args.now) s).told = covers_told c.self.invariant left in
     let is = heeded-is c.args.now s c.heed_each.new.partitions.items c.keep_live.new.requests.items c.is_still_exhausted-self-inside.result c.self.inside.desk c.heed_each.new.desk
     refl covers c.heed_each.ensures.after c.heed_each.ensures.told
-    (c.keep_live.ensures.items ∙ ap (λ (ts : List Partition). filter (is_live ts) s.requests) c.deref.ensures.value)
+    (c.keep_live.ensures ∙ ap (λ (ts : List Partition). filter (is_live ts) s.requests) c.deref.ensures.value)
     (c.is_still_exhausted-self-inside.ensures ∙ ap (λ (n : ℕ). c.self.inside.exhausted && (n == 0)) (omega (arith, c.untold-untold.ensures, c.untold.ensures))) in
-    subst (λ (x : Core). IsKept x c.heed_each.new.desk (vec_capacity c.keep_live.new.requests)) (sym is)
-    (told_kept c.self.invariant left c.heed_each.ensures.told (omega (arith, c.keep_live.ensures.capacity)))
+    subst (λ (x : Core). IsKept x c.heed_each.new.desk) (sym is)
+    (told_kept c.self.invariant left c.heed_each.ensures.told)
 
 pub returns-clause-after : goal.returns-clause-after
 unfolding at_each with_partitions
@@ -35,7 +35,7 @@ returns-clause-after c =
     let covers : Covers c.self.inside.desk (at_each (heed_deadlines s.config c.args.now) s).told = covers_told c.self.invariant (heeded_left c.args.now s c.self.invariant.order) in
     heeded-is c.args.now s c.heed_each.new.partitions.items c.keep_live.new.requests.items c.is_still_exhausted-self-inside.result c.self.inside.desk c.heed_each.new.desk
     refl covers c.heed_each.ensures.after c.heed_each.ensures.told
-    (c.keep_live.ensures.items ∙ ap (λ (ts : List Partition). filter (is_live ts) s.requests) c.deref.ensures.value)
+    (c.keep_live.ensures ∙ ap (λ (ts : List Partition). filter (is_live ts) s.requests) c.deref.ensures.value)
     (c.is_still_exhausted-self-inside.ensures ∙ ap (λ (n : ℕ). c.self.inside.exhausted && (n == 0)) (omega (arith, c.untold-untold.ensures, c.untold.ensures)))
     ∙ ap (λ (x : Core). (at_each (heed_deadlines x.config c.args.now) x).after) c.self.view_is
 

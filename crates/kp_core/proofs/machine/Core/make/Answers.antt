@@ -15,7 +15,7 @@ returns-in-Append c = record {
 }
 
 pub returns-in-Request : goal.returns-in-Request
-returns-in-Request c = record { call = call.Request c.in-Request.now c.next_request.result; asks = sym c.in-Request.is; answers = refl; step = c.next_request.ensures }
+returns-in-Request c = record { call = call.Request c.in-Request.node c.in-Request.now c.next_request.result; asks = sym c.in-Request.is; answers = refl; step = c.next_request.ensures }
 
 pub returns-in-Reply : goal.returns-in-Reply
 returns-in-Reply c = record {
@@ -26,10 +26,13 @@ returns-in-Reply c = record {
 }
 
 pub returns-in-Tick : goal.returns-in-Tick
-returns-in-Tick c = record { call = call.Tick c.in-Tick.now c.tick.result; asks = sym c.in-Tick.is; answers = refl; step = c.tick.ensures }
+returns-in-Tick c = record { call = call.Tick c.in-Tick.node c.in-Tick.now c.tick.result; asks = sym c.in-Tick.is; answers = refl; step = c.tick.ensures }
 
 pub returns-in-Disconnect : goal.returns-in-Disconnect
-returns-in-Disconnect c = record { call = call.Disconnect c.in-Disconnect.now; asks = sym c.in-Disconnect.is; answers = refl; step = c.on_disconnect.ensures }
+returns-in-Disconnect c = record { call = call.Disconnect c.in-Disconnect.node c.in-Disconnect.now; asks = sym c.in-Disconnect.is; answers = refl; step = c.on_disconnect.ensures }
+
+pub returns-in-Lead : goal.returns-in-Lead
+returns-in-Lead c = record { call = call.Lead c.in-Lead.partition c.in-Lead.node c.in-Lead.now; asks = sym c.in-Lead.is; answers = refl; step = c.lead.ensures }
 
 pub returns-in-Close : goal.returns-in-Close
 returns-in-Close c = record { call = call.Close; asks = sym c.in-Close.is; answers = refl; step = c.close.ensures }

@@ -14,12 +14,12 @@ use Rattle.kp_core.proofs.machine.Core.next_frame.Goals as goal
 pub produce_frame-requires : goal.produce_frame-requires
 produce_frame-requires c =
     let s = seen_of c.self.inside in
-    let all : c.in_ok-sendings.sendings.items ≡ next_batches c.args.now s = c.in_ok-sendings.ensures.all ∙ ap (next_batches c.args.now) (sym c.self.view_is) in
-    let some : next_batches c.args.now s ≡ [] → ⊥ =
+    let all : c.in_ok-sendings.sendings.items ≡ next_batches c.args.node c.args.now s = c.in_ok-sendings.ensures.all ∙ ap (next_batches c.args.node c.args.now) (sym c.self.view_is) in
+    let some : next_batches c.args.node c.args.now s ≡ [] → ⊥ =
     λ e.
     let none : length c.in_ok-sendings.sendings.items ≡ 0 = ap (λ (xs : List Sending). length xs) (all ∙ e) in
     let len : vec_len c.in_ok-sendings.sendings ≡ length c.in_ok-sendings.sendings.items = search rules in
     grind (arith, nat_tests) in
-    let demand = some_batches c.args.now s (ap has_window c.self.view_is ∙ c.requires.window) (ap (next_asking c.args.now) c.self.view_is ∙ c.requires.asking) some in
+    let demand = some_batches c.args.node c.args.now s (ap (has_window c.args.node) c.self.view_is ∙ c.requires.window) (ap (next_asking c.args.node c.args.now) c.self.view_is ∙ c.requires.asking) some in
     subst (λ (xs : List Sending). FitsPacket s.config s.names (produce_packet s.correlation xs)) (sym (c.deref.ensures.value ∙ all))
-    (batches_fit c.args.now s c.self.invariant.order (ap is_spent c.self.view_is ∙ c.requires.left) demand)
+    (batches_fit c.args.node c.args.now s c.self.invariant.order (ap is_spent c.self.view_is ∙ c.requires.left) demand)

@@ -4,4 +4,4 @@ use Rattle.kp_core.proofs.RequestStepLemmas.{answers_ended}
 use Rattle.kp_core.proofs.machine.Core.next_request.Goals as goal
 
 pub returns-then-self : goal.returns-then-self
-returns-then-self c = answers_ended c.args.now c.args.self.now (ap (λ (s : Core). s.ended) (sym c.self.view_is) ∙ c.if-self.true)
+returns-then-self c = answers_ended c.args.node c.args.now c.args.self.now (ap (λ (s : Core). s.ended) (sym c.self.view_is) ∙ c.if-self.true)

@@ -1,5 +1,4 @@
-use Rattle.std.proofs.Common.{◌∙◌, ◌≤◌, ap, rules}
-use Rattle.std.specs.Prelude.{vec_capacity}
+use Rattle.std.proofs.Common.{◌∙◌, ap}
 use Rattle.kp_rules.specs.Opening.{new_core}
 use Rattle.kp_parts.specs.Desk.{all_reports}
 use Rattle.kp_parts.proofs.DeskKeeping.{all_reports-new}
@@ -9,14 +8,13 @@ use Rattle.kp_core.proofs.machine.Core.open.Goals as goal
 pub invariant_of-result : goal.invariant_of-result
 unfolding new_core
 invariant_of-result c =
-    let room : c.args.config.max_in_flight_requests_per_connection ≤ vec_capacity c.in_ok-with_capacity.field-0 = search rules in
     opened_kept c.args.audits c.args.config c.args.names c.args.partitions c.args.senders c.args.producer_id c.args.first_correlation
-    c.in_ok-new_partitions.field-0.items c.in_ok-with_capacity.field-0.items c.in_ok-new.field-0 (vec_capacity c.in_ok-with_capacity.field-0) c.requires c.see_text.ensures c.see_text-2.ensures
-    c.in_ok-new_partitions.ensures c.in_ok-with_capacity.ensures.items c.in_ok-new.ensures room
+    c.in_ok-new_partitions.field-0.items c.in_ok-with_capacity.field-0.items c.new-turns.result.items c.in_ok-new.field-0 c.requires c.see_text.ensures c.see_text-2.ensures
+    c.in_ok-new_partitions.ensures c.in_ok-with_capacity.ensures.items c.new-turns.ensures.items c.in_ok-new.ensures
 
 pub returns : goal.returns
 unfolding new_core
 returns c =
     opened-is c.args.audits c.args.config c.args.names c.args.partitions c.args.senders c.args.producer_id c.args.first_correlation
-    c.in_ok-new_partitions.field-0.items c.in_ok-with_capacity.field-0.items (all_reports c.in_ok-new.field-0) c.in_ok-new_partitions.ensures c.in_ok-with_capacity.ensures.items
+    c.in_ok-new_partitions.field-0.items c.in_ok-with_capacity.field-0.items c.new-turns.result.items (all_reports c.in_ok-new.field-0) c.in_ok-new_partitions.ensures c.in_ok-with_capacity.ensures.items c.new-turns.ensures.items
     (ap all_reports c.in_ok-new.ensures ∙ all_reports-new c.args.senders c.args.config.buffer_memory)

@@ -175,10 +175,10 @@ invariant_of-self c =
       reports = refl;
       changed = c.settle_each.ensures.after;
       told = c.settle_each.ensures.told;
-      live = c.keep_live.ensures.items ∙ ap (λ (ts : List Partition). filter (is_live ts) s.requests) c.deref-in-Produce-Produce-6.ensures.value;
+      live = c.keep_live.ensures ∙ ap (λ (ts : List Partition). filter (is_live ts) s.requests) c.deref-in-Produce-Produce-6.ensures.value;
       memory = c.is_still_exhausted-self-inside.ensures ∙ ap (λ (n : ℕ). c.self.inside.exhausted && (n == 0)) (omega (arith, c.untold-untold.ensures, c.untold.ensures));
     } in
-    batches_kept c.self.invariant answered were (omega (arith, c.keep_live.ensures.capacity))
+    batches_kept c.self.invariant answered were
 
 pub returns-else-not-answers_each : goal.returns-else-not-answers_each
 returns-else-not-answers_each c =
@@ -214,7 +214,7 @@ returns-else-not-answers_each c =
       reports = refl;
       changed = c.settle_each.ensures.after;
       told = c.settle_each.ensures.told;
-      live = c.keep_live.ensures.items ∙ ap (λ (ts : List Partition). filter (is_live ts) s.requests) c.deref-in-Produce-Produce-6.ensures.value;
+      live = c.keep_live.ensures ∙ ap (λ (ts : List Partition). filter (is_live ts) s.requests) c.deref-in-Produce-Produce-6.ensures.value;
       memory = c.is_still_exhausted-self-inside.ensures ∙ ap (λ (n : ℕ). c.self.inside.exhausted && (n == 0)) (omega (arith, c.untold-untold.ensures, c.untold.ensures));
     } in
     let is = batches_heard c.args.now x s k r ps y heard has c.in-Produce-Produce.is-1 (each_says k ps s y topic count ∙ answered.each) in

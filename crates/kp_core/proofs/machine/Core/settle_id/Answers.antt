@@ -1,5 +1,5 @@
-use Rattle.std.proofs.Common.{◌≡◌, ◌∙◌, ◌≤◌, false, not, w16, w64, sym, ap, subst, rules}
-use Rattle.std.specs.Prelude.{filter, nat_abs, vec_capacity}
+use Rattle.std.proofs.Common.{◌≡◌, ◌∙◌, false, not, w16, w64, sym, ap, subst, rules}
+use Rattle.std.specs.Prelude.{filter, nat_abs}
 use mir.Val.{SFits}
 use Rattle.std.proofs.lemmas.Int.{to_z-of_z}
 use Rattle.kp_rules.specs.Attempts.{asks_for_id}
@@ -24,14 +24,12 @@ invariant_of-self-2 c =
           let id : w.unsigned_abs-id.result ≡ nat_abs x.producer_id = w.unsigned_abs-id.ensures.value ∙ ap nat_abs (to_z-of_z w64 x.producer_id small) in
           let after : w.give_id.new.partitions.items ≡ id_given s.config w.unsigned_abs-id.result c.args.partition s.partitions =
           was_given w.give_id.result w.give_id.ensures.ok (sym w.is_err.ensures.value ∙ w.if-is_err.false) in
-          subst (λ (i : Inside). IsKept (seen_of (record i { requests = requests })) i.desk (vec_capacity requests)) (sym w.self-inside-is)
+          subst (λ (i : Inside). IsKept (seen_of (record i { requests = requests })) i.desk) (sym w.self-inside-is)
           (id_kept c.args.now c.args.partition x w.give_id.new.partitions.items requests.items small c.requires.answers
           (code_gives x coded w.if-response-eq0.true) going (after ∙ ap (λ n. id_given s.config n c.args.partition s.partitions) id)
-          (c.keep_batches.ensures.items ∙ ap (λ (i : Inside). filter (λ r. not (asks_for_id r)) i.requests.items) w.self-inside-is)
-          (subst (λ (i : Inside). vec_capacity i.requests ≤ vec_capacity requests) w.self-inside-is c.keep_batches.ensures.capacity) c.self.invariant)
+          (c.keep_batches.ensures ∙ ap (λ (i : Inside). filter (λ r. not (asks_for_id r)) i.requests.items) w.self-inside-is) c.self.invariant)
       | else-response-eq0 w ↦
-          subst (λ (i : Inside). IsKept (seen_of (record i { requests = requests })) i.desk (vec_capacity requests)) (sym w.self-inside-is)
+          subst (λ (i : Inside). IsKept (seen_of (record i { requests = requests })) i.desk) (sym w.self-inside-is)
           (refusal_kept c.args.now requests.items
-          (c.keep_batches.ensures.items ∙ ap (λ (i : Inside). filter (λ r. not (asks_for_id r)) i.requests.items) w.self-inside-is)
-          (subst (λ (i : Inside). vec_capacity i.requests ≤ vec_capacity requests) w.self-inside-is c.keep_batches.ensures.capacity) c.self.invariant)
+          (c.keep_batches.ensures ∙ ap (λ (i : Inside). filter (λ r. not (asks_for_id r)) i.requests.items) w.self-inside-is) c.self.invariant)
     ]

@@ -4,4 +4,4 @@ use Rattle.kp_core.proofs.StepLemmas.{ticks_no_more}
 use Rattle.kp_core.proofs.machine.Core.tick.Goals as goal
 
 pub returns-then-self : goal.returns-then-self
-returns-then-self c = ticks_no_more c.args.now c.args.self.now (ap (λ (s : Core). s.ended) (sym c.self.view_is) ∙ c.if-self.true)
+returns-then-self c = ticks_no_more c.args.node c.args.now c.args.self.now (ap (λ (s : Core). s.ended) (sym c.self.view_is) ∙ c.if-self.true)

@@ -1,5 +1,4 @@
 use Rattle.std.proofs.Common.{◌≡◌, ◌∙◌, [], ◌∷◌, refl, sym, ap, subst, rules}
-use Rattle.std.specs.Prelude.{vec_capacity}
 use Rattle.kp_core.specs.Keeping.{IsKept, seen_of}
 use Rattle.kp_rules.specs.declared.outcome.Outcome.TheVariants.{Unsent}
 use Rattle.kp_rules.specs.Appending.{turn_away}
@@ -26,8 +25,8 @@ invariant_of-self-2 c =
     let told : c.turn_away.new.self ≡ tell_free (told_all (Unsent c.args.why) (c.args.item ∷ [])) (with_place c.args.item.sender c.self.inside.desk) =
     c.turn_away.ensures ∙ ap (tell_free (told_all (Unsent c.args.why) (c.args.item ∷ []))) kept in
     let is = turned-is c.args.why c.args.item (seen_of c.self.inside) c.self.inside.desk c.turn_away.new.self refl told in
-    subst (λ (x : Core). IsKept x c.turn_away.new.self (vec_capacity c.self.inside.requests)) (sym is)
-    (subst (λ (d : Desk). IsKept (turn_away c.args.why c.args.item (seen_of c.self.inside)).after d (vec_capacity c.self.inside.requests)) (sym told)
+    subst (λ (x : Core). IsKept x c.turn_away.new.self) (sym is)
+    (subst (λ (d : Desk). IsKept (turn_away c.args.why c.args.item (seen_of c.self.inside)).after d) (sym told)
     (turned_kept c.args.why c.args.item there c.self.invariant))
 
 pub returns-clause-step : goal.returns-clause-step

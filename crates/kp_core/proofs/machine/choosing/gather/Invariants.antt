@@ -6,4 +6,4 @@ use Rattle.kp_core.proofs.machine.choosing.gather.Given as goal
 
 abbrev pub invariant-loop-place : goal.invariant-loop-place
 invariant-loop-place l =
-    l.sendings.items ≡ l.fn.sendings.items ++ filter_map (sends_in l.config l.flags l.now) (enumerate_from l.first (take l.place l.partitions))
+    l.sendings.items ≡ l.fn.sendings.items ++ filter_map (sends_in l.node l.config l.flags l.now) (enumerate_from l.first (take l.place l.partitions))
