@@ -258,7 +258,7 @@ by_client : (w : World) (e : WorldEvent) (v : World) → IsPlain w → client e 
 by_client w e v plain is = at_client (Comes w) w (plain_client w plain) e v is
 
 steps : {most : ℕ} (n : ℕ) (e : Event) (w v : World) → MayHappen e → IsLawfulWithin most n w → IsPlain w → stepped e w ≡ Some v → Goes w (meant w.moment e) v
-unfolding stepped Steps
+unfolding stepped Steps client
 steps n (schedule.Deliver k how) w v may g plain e = arrives n k how w v may g plain e
 steps n (schedule.Other p m) w v may g plain e = others p m w v e plain
 steps n (schedule.Accept s p value) w v may g plain e = (e, by_client w (event.Accept s p w.moment (record_at w.moment value)) v plain e)
@@ -271,7 +271,8 @@ steps n (schedule.SendNode node) w v may g plain e = (e, by_client w (event.Send
 steps n (schedule.Reply j) w v may g plain e = (e, by_client w (event.Reply j) v plain e)
 steps n schedule.Drop w v may g plain e = (e, by_client w (event.Drop 0) v plain e)
 steps n (schedule.DropNode node) w v may g plain e = (e, by_client w (event.Drop node) v plain e)
-steps n (schedule.Leader p node) w v may g plain e = (e, by_client w (event.Lead p node) v plain e)
+steps n (schedule.Leader p node) w v may g plain e =
+    at_only_if (Goes w (event.Lead p node)) (has_partition p w) _ v e (λ there. (refl, by_client w (event.Lead p node) _ plain refl))
 steps n schedule.Close w v may g plain e = (e, by_client w event.Close v plain e)
 steps n schedule.End w v may g plain e = (e, by_client w event.End v plain e)
 steps n schedule.Flush w v may g plain e = (e, by_client w event.Flush v plain e)

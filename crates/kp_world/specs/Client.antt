@@ -96,6 +96,9 @@ abbrev pub ticked_to : Ticks → World → World
 ticked_to step w =
     noted step.after (if step.answer.reconnect then Reconnect ∷ [] else []) step.told w
 
+abbrev pub leading : (partition node : ℕ) → World → World
+leading p node w = noted (lead_step p node w.moment w.core) [] [] w
+
 abbrev pub ticking : ℕ → World → World
 ticking node w = ticked_to (tick_step node w.moment w.core) w
 
@@ -117,7 +120,7 @@ client (event.Send node) w =
     let step = request_step node w.moment w.core in Some (sending w step.after step.answer)
 client (event.Reply j) w = replying j (slice_get w.replies j) w
 client (event.Drop node) w = Some (noted (disconnect_step node w.moment w.core) [] [] w)
-client (event.Lead p node) w = Some (noted (lead_step p node w.moment w.core) [] [] w)
+client (event.Lead p node) w = Some (leading p node w)
 client event.Close w = Some (closing w)
 client event.End w = Some (ending w)
 client event.Flush w = Some (noted (flush_step w.core) (flush_line w.core ∷ []) [] w)

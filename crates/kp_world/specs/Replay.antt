@@ -3,10 +3,10 @@ use Rattle.std.specs.Prelude.{◌≢◌, ℤ, ℕ, ◌+◌, List, [], ◌∷◌,
 use Rattle.kp_log.specs.BrokerStep.{NO_ERROR, DUPLICATE_SEQUENCE_NUMBER}
 use Rattle.kp_rules.specs.Requesting.{Packet}
 use Rattle.kp_world.specs.declared.event.Event.{Event}
-use Rattle.kp_world.specs.declared.event.Event.TheVariants.{Deliver, Other}
+use Rattle.kp_world.specs.declared.event.Event.TheVariants.{Deliver, Leader, Other}
 use Rattle.kp_world.specs.declared.event.Treatment.{Treatment}
 use Rattle.kp_world.specs.declared.event.Treatment.TheVariants.{Judged, Refused, Late}
-use Rattle.kp_world.specs.Client.{client}
+use Rattle.kp_world.specs.Client.{client, has_partition, leading, only_if}
 use Rattle.kp_world.specs.Events.{other_records, meant}
 use Rattle.kp_world.specs.Loopback.{delivered}
 use Rattle.kp_world.specs.Message.{response_of}
@@ -39,6 +39,7 @@ arrived k how (Some o) w =
 unfoldable pub stepped : Event → World → Option World
 stepped (Deliver k how) w = arrived k how (slice_get w.packets k) w
 stepped (Other p n) w = with_others_at p (other_records n) w
+stepped (Leader p node) w = only_if (has_partition p w) (leading p node w)
 stepped e w = client (meant w.moment e) w
 
 -- The world after the events, or the number of the first that names what isn't there, from n on.
