@@ -1,12 +1,12 @@
 -- How often polls close the core.
-use Rattle.std.proofs.Common.{◌≡◌, ℕ, Bool, true, false, List, [], ◌∷◌, ◌++◌, map, refl, sym, ap, ◌∙◌, inl, inr, append-nil, append_assoc}
+use Rattle.std.proofs.Common.{◌≡◌, ℕ, Bool, true, false, List, [], ◌∷◌, ◌++◌, map, refl, sym, ap, subst, ◌∙◌, inl, inr, append-nil, append_assoc}
 use Rattle.std.specs.Prelude.{Option, Some, None, IsTrue, flat_map, ◌||◌}
 use Rattle.std.proofs.lemmas.Grind.{flat_map-append}
 use Rattle.futures.specs.declared.task.Poll.{Poll}
 use Rattle.futures.specs.declared.task.Poll.TheVariants.{Ready, Pending}
 use Rattle.kp_connection.specs.Wire.{Told, Wired}
 use Rattle.kp_frames.specs.declared.fault.FrameFault.{FrameFault}
-use Rattle.kp_rules.specs.Calls.{Call, Close, End}
+use Rattle.kp_rules.specs.Calls.{Call, Close, End, Lead}
 use Rattle.kp_rules.specs.declared.outgoing.Outgoing.{Outgoing}
 use Rattle.kp_engine.specs.Closing.{ClosedBetween, ClosesOnce, Polled, calls_of_poll, calls_of_turn, closing}
 use Rattle.kp_engine.specs.Engine.{Polls}
@@ -21,7 +21,7 @@ use Rattle.kp_engine.specs.declared.stop.Cause.{Cause}
 use Rattle.kp_engine.specs.declared.stop.Stop.{Stop}
 use Rattle.kp_engine.specs.declared.stop.Stop.TheVariants.{Done, NeedStream, OutOfMemory}
 use Rattle.kp_engine.proofs.RunLemmas.{nothing_lived}
-use Rattle.kp_engine.proofs.ServedLemmas.{end_serves, joined, only_core_serves, poll_serves_its}
+use Rattle.kp_engine.proofs.ServedLemmas.{end_serves, lead_serves, joined, only_core_serves, poll_serves_its}
 use Rattle.kp_engine.proofs.ServingLemmas.{before_nothing, items_until_none, none_asked, none_of, parts_none, reports_none, reports_until_none}
 use Rattle.kp_engine.proofs.TalkLemmas.{only_same}
 
@@ -39,19 +39,19 @@ items_close x y closes items p =
     ∙ ap (λ (cs : List Call). cs ++ flat_map closing (if_so closes Close)) (parts_none closing (λ i answer. refl) refl (senders_of x) (side_of x) (side_of y) p.of_senders p.parts)
     ∙ only_so closes
 
-asked_none : (now : ℕ) (sent : List Outgoing) (asked : List Call) → RequestsPart now sent asked → flat_map closing asked ≡ []
-asked_none now sent asked p = ap (flat_map closing) p.made ∙ none_asked closing (λ n answer. refl) now sent p.last
+asked_none : (node now : ℕ) (sent : List Outgoing) (asked : List Call) → RequestsPart node now sent asked → flat_map closing asked ≡ []
+asked_none node now sent asked p = ap (flat_map closing) p.made ∙ none_asked closing (λ node n answer. refl) node now sent p.last
 
 heard_none : (now : ℕ) (heard : List Heard) (replied : List Call) → replied ≡ map (hears now) heard → flat_map closing replied ≡ []
 heard_none now heard replied is = ap (flat_map closing) is ∙ none_of closing (hears now) (λ reply. refl) heard
 
-ticked_none : (now : ℕ) (ticked : _) (tick : List Call) → TickPart now ticked tick → flat_map closing tick ≡ []
-ticked_none now ticked tick is = ap (flat_map closing) is
+ticked_none : (node now : ℕ) (ticked : _) (tick : List Call) → TickPart node now ticked tick → flat_map closing tick ≡ []
+ticked_none node now ticked tick is = ap (flat_map closing) is
 
-talked_none : (now : ℕ) (sent : List Outgoing) (heard : List Heard) (calls : List Call) → TalkUntil now sent heard calls → flat_map closing calls ≡ []
-talked_none now _ _ _ (TalkUntil.in_requests sent asked p) = ap (flat_map closing) p.made ∙ none_asked closing (λ n answer. refl) now sent p.last
-talked_none now _ _ _ (TalkUntil.in_replies sent heard asked replied p q) =
-    before_nothing closing asked replied [] (asked_none now sent asked p) (heard_none now heard replied q.made)
+talked_none : (node now : ℕ) (sent : List Outgoing) (heard : List Heard) (calls : List Call) → TalkUntil node now sent heard calls → flat_map closing calls ≡ []
+talked_none node now _ _ _ (TalkUntil.in_requests sent asked p) = ap (flat_map closing) p.made ∙ none_asked closing (λ node n answer. refl) node now sent p.last
+talked_none node now _ _ _ (TalkUntil.in_replies sent heard asked replied p q) =
+    before_nothing closing asked replied [] (asked_none node now sent asked p) (heard_none now heard replied q.made)
 
 -- behind what closes nothing more does
 behind : (items tick talk : List Call) (closes : Bool) → flat_map closing items ≡ if_so closes Close → flat_map closing tick ≡ [] → flat_map closing talk ≡ []
@@ -64,16 +64,16 @@ record Closes (x : Exchange) (calls : List Call) (y : Exchange) : Type 0 where
   stands : flat_map closing calls ≡ if_so closes Close
   closed : Closed x closes y
 
-turn_closes : (now : ℕ) (x y : Exchange) (sent : List Outgoing) (heard : List Heard) (refused : Option (List ℕ × FrameFault)) (cut : Option Cause) (calls : List Call)
-    → Turn now x sent heard refused cut calls y → Closes x calls y
-turn_closes now x y sent heard refused cut calls t = record {
+turn_closes : (node now : ℕ) (x y : Exchange) (sent : List Outgoing) (heard : List Heard) (refused : Option (List ℕ × FrameFault)) (cut : Option Cause) (calls : List Call)
+    → Turn node now x sent heard refused cut calls y → Closes x calls y
+turn_closes node now x y sent heard refused cut calls t = record {
   closes = t.closes;
   stands =
       ap (flat_map closing) t.made
       ∙ before_nothing closing (t.items ++ t.tick ++ (t.asked ++ t.replied)) t.reports (if_so t.closes Close)
-      (behind t.items t.tick (t.asked ++ t.replied) t.closes (items_close x y t.closes t.items t.of_items) (ticked_none now t.ticked t.tick t.of_tick)
-      (before_nothing closing t.asked t.replied [] (asked_none now sent t.asked t.of_requests) (heard_none now heard t.replied t.of_replies.made)))
-      (reports_none closing (λ i answer. refl) (senders_of x) now (is_cut cut) (mail_of x) (mail_of y) t.reports refl t.of_reports);
+      (behind t.items t.tick (t.asked ++ t.replied) t.closes (items_close x y t.closes t.items t.of_items) (ticked_none node now t.ticked t.tick t.of_tick)
+      (before_nothing closing t.asked t.replied [] (asked_none node now sent t.asked t.of_requests) (heard_none now heard t.replied t.of_replies.made)))
+      (reports_none closing (λ i answer. refl) (senders_of x) node now (is_cut cut) (mail_of x) (mail_of y) t.reports refl t.of_reports);
   closed = record { closed = t.closed; only = t.only };
 }
 
@@ -84,35 +84,35 @@ still_open false = refl
 never : IsTrue false → ⊥
 never so = cc
 
-until_closes : (now : ℕ) (x y : Exchange) (sent : List Outgoing) (heard : List Heard) (calls : List Call) → TurnUntil now x y sent heard calls → Closes x calls y
-until_closes now x y _ _ _ (TurnUntil.in_items calls p same mail) = record {
+until_closes : (node now : ℕ) (x y : Exchange) (sent : List Outgoing) (heard : List Heard) (calls : List Call) → TurnUntil node now x y sent heard calls → Closes x calls y
+until_closes node now x y _ _ _ (TurnUntil.in_items calls p same mail) = record {
   closes = false;
   stands = items_until_none closing (λ i answer. refl) refl (side_of x) (side_of y) calls p;
   closed = record { closed = same ∙ still_open x.closed; only = λ so. absurd (never so) };
 }
-until_closes now x y _ _ _ (TurnUntil.before_the_tick closes items p closed same) = record { closes = closes; stands = items_close x y closes items p; closed = closed }
-until_closes now x y _ _ _ (TurnUntil.in_talk closes ticked items tick talked sent heard p closed t q same) = record {
+until_closes node now x y _ _ _ (TurnUntil.before_the_tick closes items p closed same) = record { closes = closes; stands = items_close x y closes items p; closed = closed }
+until_closes node now x y _ _ _ (TurnUntil.in_talk closes ticked items tick talked sent heard p closed t q same) = record {
   closes = closes;
-  stands = behind items tick talked closes (items_close x y closes items p) (ticked_none now ticked tick t) (talked_none now sent heard talked q);
+  stands = behind items tick talked closes (items_close x y closes items p) (ticked_none node now ticked tick t) (talked_none node now sent heard talked q);
   closed = closed;
 }
-until_closes now x y _ _ _ (TurnUntil.in_reports closes ticked items tick asked replied reports sent heard refused cut p closed t q r s) = record {
+until_closes node now x y _ _ _ (TurnUntil.in_reports closes ticked items tick asked replied reports sent heard refused cut p closed t q r s) = record {
   closes = closes;
   stands =
       before_nothing closing (items ++ tick ++ (asked ++ replied)) reports (if_so closes Close)
-      (behind items tick (asked ++ replied) closes (items_close x y closes items p) (ticked_none now ticked tick t)
-      (before_nothing closing asked replied [] (asked_none now sent asked q) (heard_none now heard replied r.made)))
-      (reports_until_none closing (λ i answer. refl) now cut (mail_of x) (mail_of y) reports refl s);
+      (behind items tick (asked ++ replied) closes (items_close x y closes items p) (ticked_none node now ticked tick t)
+      (before_nothing closing asked replied [] (asked_none node now sent asked q) (heard_none now heard replied r.made)))
+      (reports_until_none closing (λ i answer. refl) node now cut (mail_of x) (mail_of y) reports refl s);
   closed = closed;
 }
 
-turns_close : {S : Type 0} (answers : Told S) (now : ℕ) (x : Exchange) (w : Wired S) (result : Poll Stop) (y : Exchange) (v : Wired S)
-    → (turns : Turns answers now x w result y v) → Closes x (calls_of_turn answers now x w result y v turns) y
-turns_close answers now x w Pending y v t = turn_closes now x y t.sent t.heard None None t.calls t.turn
-turns_close answers now x w (Ready Done) y v (done, inl t) = turn_closes now x y t.sent t.heard None None t.calls t.turn
-turns_close answers now x w (Ready Done) y v (done, inr (cause, t)) = turn_closes now x y t.sent t.heard t.refused (Some cause) t.calls t.turn
-turns_close answers now x w (Ready (NeedStream cause)) y v t = turn_closes now x y t.sent t.heard t.refused (Some cause) t.calls t.turn
-turns_close answers now x w (Ready OutOfMemory) y v t = until_closes now x y t.sent t.heard t.calls t.turn
+turns_close : {S : Type 0} (answers : Told S) (node now : ℕ) (x : Exchange) (w : Wired S) (result : Poll Stop) (y : Exchange) (v : Wired S)
+    → (turns : Turns answers node now x w result y v) → Closes x (calls_of_turn answers node now x w result y v turns) y
+turns_close answers node now x w Pending y v t = turn_closes node now x y t.sent t.heard None None t.calls t.turn
+turns_close answers node now x w (Ready Done) y v (done, inl t) = turn_closes node now x y t.sent t.heard None None t.calls t.turn
+turns_close answers node now x w (Ready Done) y v (done, inr (cause, t)) = turn_closes node now x y t.sent t.heard t.refused (Some cause) t.calls t.turn
+turns_close answers node now x w (Ready (NeedStream cause)) y v t = turn_closes node now x y t.sent t.heard t.refused (Some cause) t.calls t.turn
+turns_close answers node now x w (Ready OutOfMemory) y v t = until_closes node now x y t.sent t.heard t.calls t.turn
 
 -- ---- polls, one after the other
 
@@ -221,8 +221,8 @@ module _ {S : Type 0} (answers : Told S) where
   poll_closes : (line : Line S) (x : Exchange) (result : Poll Stop) (y : Exchange) (left : Line S) → HasPlaces x → (poll : Polls answers line x result y left)
       → ClosesOnce x (calls_of_poll answers line x result y left poll) y
   poll_closes (Open wire) x result y left places p =
-      let turn = turns_close answers p.now p.begun wire result y p.after p.turns in
-      closes_here x y (calls_of_turn answers p.now p.begun wire result y p.after p.turns) (poll_serves_its answers (Open wire) x result y left places p) (record {
+      let turn = turns_close answers p.node p.now p.begun wire result y p.after p.turns in
+      closes_here x y (calls_of_turn answers p.node p.now p.begun wire result y p.after p.turns) (poll_serves_its answers (Open wire) x result y left places p) (record {
         closes = turn.closes;
         stands = turn.stands;
         closed = record {
@@ -245,9 +245,27 @@ module _ {S : Type 0} (answers : Told S) where
         joined x y z calls (End told ∷ []) first.0 serves,
         closes_then x y z calls (End told ∷ []) first.0 serves first.1 (closes_never y z (End told ∷ []) serves refl only.closed),
       )
+  both x _ _ places (Polled.led y z calls partition leader now before step only) =
+      let first = both x y calls places before in
+      let its = Lead partition leader now ∷ [] in
+      let serves = lead_serves y z partition leader now first.0.places step only in
+      (joined x y z calls its first.0 serves, closes_then x y z calls its first.0 serves first.1 (closes_never y z its serves refl only.closed))
 
   pub polls_serve : (x y : Exchange) (calls : List Call) → HasPlaces x → Polled answers x calls y → Served x calls y
   polls_serve x y calls places polled = (both x y calls places polled).0
 
   pub polls_close : (x y : Exchange) (calls : List Call) → HasPlaces x → Polled answers x calls y → ClosesOnce x calls y
   polls_close x y calls places polled = (both x y calls places polled).1
+
+-- ---- polls behind polls
+
+pub polls_then : {S : Type 0} (answers : Told S) (x y z : Exchange) (a b : List Call) → Polled answers x a y → Polled answers y b z → Polled answers x (a ++ b) z
+polls_then answers x y _ a _ first Polled.not_yet = subst (λ (calls : List Call). Polled answers x calls y) (sym (append-nil a)) first
+polls_then answers x y _ a _ first (Polled.once_more u z b line left result before poll) =
+    let its = calls_of_poll answers line u result z left poll in
+    subst (λ (calls : List Call). Polled answers x calls z) (append_assoc a b its) (Polled.once_more u z (a ++ b) line left result (polls_then answers x y u a b first before) poll)
+polls_then answers x y _ a _ first (Polled.ended u z b told before step only) =
+    subst (λ (calls : List Call). Polled answers x calls z) (append_assoc a b (End told ∷ [])) (Polled.ended u z (a ++ b) told (polls_then answers x y u a b first before) step only)
+polls_then answers x y _ a _ first (Polled.led u z b partition leader now before step only) =
+    subst (λ (calls : List Call). Polled answers x calls z) (append_assoc a b (Lead partition leader now ∷ []))
+    (Polled.led u z (a ++ b) partition leader now (polls_then answers x y u a b first before) step only)

@@ -47,10 +47,10 @@ unless_each true true false untold is (inl e) = absurd cc
 unless_each true true true [] is (inl e) = inl is
 unless_each true true true (x ∷ xs) is (inl e) = inr (inr (inr (inl (λ none. absurd cc))))
 
-module _ (now : ℕ) (cut : Option Cause) (x y z : Exchange) (drops : Runs x (if_so (is_cut cut) (Disconnect now)) y) (only : OnlyCore x y) where
-  pub finished_until : SendsAllUntil y z → FinishesUntil now cut x z
+module _ (node now : ℕ) (cut : Option Cause) (x y z : Exchange) (drops : Runs x (if_so (is_cut cut) (Disconnect node now)) y) (only : OnlyCore x y) where
+  pub finished_until : SendsAllUntil y z → FinishesUntil node now cut x z
   finished_until h = record {
-    calls = if_so (is_cut cut) (Disconnect now) ++ h.calls;
+    calls = if_so (is_cut cut) (Disconnect node now) ++ h.calls;
     part = record {
       dropped = is_cut cut;
       only_cut = λ is. is;
@@ -60,20 +60,20 @@ module _ (now : ℕ) (cut : Option Cause) (x y z : Exchange) (drops : Runs x (if
       later = λ k far. mail_through (λ (old : ℕ → Mail). mail_of z k ≡ old k) x y only (h.later k far);
       made = refl;
     };
-    runs = runs_then x y z (if_so (is_cut cut) (Disconnect now)) h.calls drops h.runs;
+    runs = runs_then x y z (if_so (is_cut cut) (Disconnect node now)) h.calls drops h.runs;
   }
 
   pub finished : (idle all done : Bool) → SendsAll y z all → OnlyMails x z
-      → done ≡ (z.closed && idle && all && (length (all_untold z.core) == 0)) → FinishesAll now cut x idle done z
+      → done ≡ (z.closed && idle && all && (length (all_untold z.core) == 0)) → FinishesAll node now cut x idle done z
   finished idle all done h mails is = record {
-    calls = if_so (is_cut cut) (Disconnect now) ++ h.calls;
+    calls = if_so (is_cut cut) (Disconnect node now) ++ h.calls;
     part = record {
       of_senders = h.calls;
       parts = mail_through (λ (old : ℕ → Mail). MailParts (senders_of x) old h.calls (mail_of z)) x y only
           (subst (λ (n : ℕ). MailParts n (mail_of y) h.calls (mail_of z)) (ap length only.items) h.parts);
       made = refl;
     };
-    runs = runs_then x y z (if_so (is_cut cut) (Disconnect now)) h.calls drops h.runs;
+    runs = runs_then x y z (if_so (is_cut cut) (Disconnect node now)) h.calls drops h.runs;
     moved = h.moved;
     done = λ yes. let each = each_true z.closed idle all (all_untold z.core) (sym is ∙ yes) in (
       each.1,
@@ -90,5 +90,5 @@ module _ (now : ℕ) (cut : Option Cause) (x y z : Exchange) (drops : Runs x (if
   }
 
 -- nothing was dropped, where the turn was not cut
-pub drops_none : (now : ℕ) (cut : Option Cause) (x : Exchange) → cut ≡ None → Runs x [] x → Runs x (if_so (is_cut cut) (Disconnect now)) x
-drops_none now cut x none runs = subst (λ (o : Option Cause). Runs x (if_so (is_cut o) (Disconnect now)) x) (sym none) runs
+pub drops_none : (node now : ℕ) (cut : Option Cause) (x : Exchange) → cut ≡ None → Runs x [] x → Runs x (if_so (is_cut cut) (Disconnect node now)) x
+drops_none node now cut x none runs = subst (λ (o : Option Cause). Runs x (if_so (is_cut o) (Disconnect node now)) x) (sym none) runs

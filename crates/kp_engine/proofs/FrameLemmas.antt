@@ -19,22 +19,22 @@ use Rattle.kp_engine.proofs.ServingLemmas.{before_nothing, items_none, items_unt
 
 -- ---- requests
 
-none_given : (now : ℕ) (last : Option (Result (Option Outgoing) CoreFault)) → ForSome last GivesNone → flat_map asked_by (asks now last) ≡ []
-none_given now None none = refl
-none_given now (Some (Ok None)) none = refl
-none_given now (Some (Ok (Some request))) none = absurd (none (Ok (Some request)) refl)
-none_given now (Some (Err fault)) none = refl
+none_given : (node now : ℕ) (last : Option (Result (Option Outgoing) CoreFault)) → ForSome last GivesNone → flat_map asked_by (asks node now last) ≡ []
+none_given node now None none = refl
+none_given node now (Some (Ok None)) none = refl
+none_given node now (Some (Ok (Some request))) none = absurd (none (Ok (Some request)) refl)
+none_given node now (Some (Err fault)) none = refl
 
-all_given : (now : ℕ) (sent : List Outgoing) → flat_map asked_by (requests now sent) ≡ frames_of sent
-all_given now [] = refl
-all_given now (request ∷ sent) = ap (λ (frames : List (List ℕ)). request.bytes ∷ frames) (all_given now sent)
+all_given : (node now : ℕ) (sent : List Outgoing) → flat_map asked_by (requests node now sent) ≡ frames_of sent
+all_given node now [] = refl
+all_given node now (request ∷ sent) = ap (λ (frames : List (List ℕ)). request.bytes ∷ frames) (all_given node now sent)
 
-given : (now : ℕ) (sent : List Outgoing) (calls : List Call) → RequestsPart now sent calls → flat_map asked_by calls ≡ frames_of sent
-given now sent calls p =
-    ap (flat_map asked_by) p.made ∙ before_nothing asked_by (requests now sent) (asks now p.last) (frames_of sent) (all_given now sent) (none_given now p.last p.none)
+given : (node now : ℕ) (sent : List Outgoing) (calls : List Call) → RequestsPart node now sent calls → flat_map asked_by calls ≡ frames_of sent
+given node now sent calls p =
+    ap (flat_map asked_by) p.made ∙ before_nothing asked_by (requests node now sent) (asks node now p.last) (frames_of sent) (all_given node now sent) (none_given node now p.last p.none)
 
-unheard : (now : ℕ) (sent : List Outgoing) (calls : List Call) → RequestsPart now sent calls → flat_map replied_by calls ≡ []
-unheard now sent calls p = ap (flat_map replied_by) p.made ∙ none_asked replied_by (λ n answer. refl) now sent p.last
+unheard : (node now : ℕ) (sent : List Outgoing) (calls : List Call) → RequestsPart node now sent calls → flat_map replied_by calls ≡ []
+unheard node now sent calls p = ap (flat_map replied_by) p.made ∙ none_asked replied_by (λ node n answer. refl) node now sent p.last
 
 -- ---- replies
 
@@ -55,13 +55,13 @@ record Goes (calls : List Call) (frames more contents : List (List ℕ)) : Type 
 nothing_goes : (calls : List Call) → flat_map asked_by calls ≡ [] → flat_map replied_by calls ≡ [] → Goes calls [] [] []
 nothing_goes calls p q = record { out = p; back = q }
 
-both_go : (now : ℕ) (sent : List Outgoing) (heard : List Heard) (asked replied : List Call) → RequestsPart now sent asked → replied ≡ map (hears now) heard
+both_go : (node now : ℕ) (sent : List Outgoing) (heard : List Heard) (asked replied : List Call) → RequestsPart node now sent asked → replied ≡ map (hears now) heard
     → Goes (asked ++ replied) (frames_of sent) [] (contents_of heard)
-both_go now sent heard asked replied p is = record {
-  out = before_nothing asked_by asked replied (frames_of sent) (given now sent asked p) (ap (flat_map asked_by) is ∙ none_asked_in now heard) ∙ sym (append-nil (frames_of sent));
+both_go node now sent heard asked replied p is = record {
+  out = before_nothing asked_by asked replied (frames_of sent) (given node now sent asked p) (ap (flat_map asked_by) is ∙ none_asked_in now heard) ∙ sym (append-nil (frames_of sent));
   back =
       flat_map-append replied_by asked replied
-      ∙ ap (λ (contents : List (List ℕ)). contents ++ flat_map replied_by replied) (unheard now sent asked p)
+      ∙ ap (λ (contents : List (List ℕ)). contents ++ flat_map replied_by replied) (unheard node now sent asked p)
       ∙ ap (flat_map replied_by) is
       ∙ all_heard now heard;
 }
@@ -70,15 +70,15 @@ record Talked (sent : List Outgoing) (heard : List Heard) (calls : List Call) : 
   more : List (List ℕ)
   goes : Goes calls (frames_of sent) more (contents_of heard)
 
-talked : (now : ℕ) (sent : List Outgoing) (heard : List Heard) (calls : List Call) → TalkUntil now sent heard calls → Talked sent heard calls
-talked now _ _ _ (TalkUntil.in_requests sent asked p) = record {
-  more = flat_map asked_by (asks now p.last);
+talked : (node now : ℕ) (sent : List Outgoing) (heard : List Heard) (calls : List Call) → TalkUntil node now sent heard calls → Talked sent heard calls
+talked node now _ _ _ (TalkUntil.in_requests sent asked p) = record {
+  more = flat_map asked_by (asks node now p.last);
   goes = record {
-    out = ap (flat_map asked_by) p.made ∙ flat_map-append asked_by (requests now sent) (asks now p.last) ∙ ap (λ (frames : List (List ℕ)). frames ++ flat_map asked_by (asks now p.last)) (all_given now sent);
-    back = ap (flat_map replied_by) p.made ∙ none_asked replied_by (λ n answer. refl) now sent p.last;
+    out = ap (flat_map asked_by) p.made ∙ flat_map-append asked_by (requests node now sent) (asks node now p.last) ∙ ap (λ (frames : List (List ℕ)). frames ++ flat_map asked_by (asks node now p.last)) (all_given node now sent);
+    back = ap (flat_map replied_by) p.made ∙ none_asked replied_by (λ node n answer. refl) node now sent p.last;
   };
 }
-talked now _ _ _ (TalkUntil.in_replies sent heard asked replied p q) = record { more = []; goes = both_go now sent heard asked replied p q.made }
+talked node now _ _ _ (TalkUntil.in_replies sent heard asked replied p q) = record { more = []; goes = both_go node now sent heard asked replied p q.made }
 
 -- ---- with the other parts around them
 
@@ -88,8 +88,8 @@ around {A = A} f items tick talk reports p q r =
     before_nothing f (items ++ tick ++ talk) reports (flat_map f talk)
     (flat_map-append f (items ++ tick) talk ∙ ap (λ (zs : List A). zs ++ flat_map f talk) (before_nothing f items tick [] p q)) r
 
-tick_none : {A : Type 0} (f : Call → List A) (now : ℕ) (ticked : Ticked) (tick : List Call) → TickPart now ticked tick → f (Tick now ticked) ≡ [] → flat_map f tick ≡ []
-tick_none {A = A} f now ticked tick is none = ap (flat_map f) is ∙ ap (λ (zs : List A). zs ++ []) none
+tick_none : {A : Type 0} (f : Call → List A) (node now : ℕ) (ticked : Ticked) (tick : List Call) → TickPart node now ticked tick → f (Tick node now ticked) ≡ [] → flat_map f tick ≡ []
+tick_none {A = A} f node now ticked tick is none = ap (flat_map f) is ∙ ap (λ (zs : List A). zs ++ []) none
 
 goes_around : (items tick talk reports : List Call) (frames more contents : List (List ℕ))
     → Goes items [] [] [] → Goes tick [] [] [] → Goes reports [] [] [] → Goes talk frames more contents → Goes (items ++ tick ++ talk ++ reports) frames more contents
@@ -98,8 +98,8 @@ goes_around items tick talk reports frames more contents p q r s = record {
   back = around replied_by items tick talk reports p.back q.back r.back ∙ s.back;
 }
 
-tick_goes : (now : ℕ) (ticked : Ticked) (tick : List Call) → TickPart now ticked tick → Goes tick [] [] []
-tick_goes now ticked tick is = nothing_goes tick (tick_none asked_by now ticked tick is refl) (tick_none replied_by now ticked tick is refl)
+tick_goes : (node now : ℕ) (ticked : Ticked) (tick : List Call) → TickPart node now ticked tick → Goes tick [] [] []
+tick_goes node now ticked tick is = nothing_goes tick (tick_none asked_by node now ticked tick is refl) (tick_none replied_by node now ticked tick is refl)
 
 module _ (x y : Exchange) (closes : Bool) (items : List Call) (p : ItemsPart (senders_of x) (side_of x) closes items (side_of y)) where
   items_go : Goes items [] [] []
@@ -107,38 +107,38 @@ module _ (x y : Exchange) (closes : Bool) (items : List Call) (p : ItemsPart (se
       (items_none asked_by (λ i answer. refl) refl refl (senders_of x) (side_of x) (side_of y) closes items p)
       (items_none replied_by (λ i answer. refl) refl refl (senders_of x) (side_of x) (side_of y) closes items p)
 
-pub turn_goes : (now : ℕ) (x y : Exchange) (sent : List Outgoing) (heard : List Heard) (refused : Option (List ℕ × FrameFault)) (cut : Option Cause) (calls : List Call)
-    → Turn now x sent heard refused cut calls y → (flat_map asked_by calls ≡ frames_of sent) × (flat_map replied_by calls ≡ contents_of heard)
-turn_goes now x y sent heard refused cut calls t =
+pub turn_goes : (node now : ℕ) (x y : Exchange) (sent : List Outgoing) (heard : List Heard) (refused : Option (List ℕ × FrameFault)) (cut : Option Cause) (calls : List Call)
+    → Turn node now x sent heard refused cut calls y → (flat_map asked_by calls ≡ frames_of sent) × (flat_map replied_by calls ≡ contents_of heard)
+turn_goes node now x y sent heard refused cut calls t =
     let goes = goes_around t.items t.tick (t.asked ++ t.replied) t.reports (frames_of sent) [] (contents_of heard)
-    (items_go x y t.closes t.items t.of_items) (tick_goes now t.ticked t.tick t.of_tick)
+    (items_go x y t.closes t.items t.of_items) (tick_goes node now t.ticked t.tick t.of_tick)
     (nothing_goes t.reports
-    (reports_none asked_by (λ i answer. refl) (senders_of x) now (is_cut cut) (mail_of x) (mail_of y) t.reports refl t.of_reports)
-    (reports_none replied_by (λ i answer. refl) (senders_of x) now (is_cut cut) (mail_of x) (mail_of y) t.reports refl t.of_reports))
-    (both_go now sent heard t.asked t.replied t.of_requests t.of_replies.made) in
+    (reports_none asked_by (λ i answer. refl) (senders_of x) node now (is_cut cut) (mail_of x) (mail_of y) t.reports refl t.of_reports)
+    (reports_none replied_by (λ i answer. refl) (senders_of x) node now (is_cut cut) (mail_of x) (mail_of y) t.reports refl t.of_reports))
+    (both_go node now sent heard t.asked t.replied t.of_requests t.of_replies.made) in
     (ap (flat_map asked_by) t.made ∙ goes.out ∙ append-nil (frames_of sent), ap (flat_map replied_by) t.made ∙ goes.back)
 
-pub until_goes : (now : ℕ) (x y : Exchange) (sent : List Outgoing) (heard : List Heard) (calls : List Call) → TurnUntil now x y sent heard calls
+pub until_goes : (node now : ℕ) (x y : Exchange) (sent : List Outgoing) (heard : List Heard) (calls : List Call) → TurnUntil node now x y sent heard calls
     → (more : List (List ℕ)) × (flat_map asked_by calls ≡ frames_of sent ++ more) × (flat_map replied_by calls ≡ contents_of heard)
-until_goes now x y _ _ _ (TurnUntil.in_items calls p closed same) = (
+until_goes node now x y _ _ _ (TurnUntil.in_items calls p closed same) = (
   [],
   items_until_none asked_by (λ i answer. refl) refl (side_of x) (side_of y) calls p,
   items_until_none replied_by (λ i answer. refl) refl (side_of x) (side_of y) calls p,
 )
-until_goes now x y _ _ _ (TurnUntil.before_the_tick closes items p closed same) = let goes = items_go x y closes items p in ([], goes.out, goes.back)
-until_goes now x y _ _ _ (TurnUntil.in_talk closes ticked items tick spoken sent heard p closed t q same) =
-    let spoke = talked now sent heard spoken q in
+until_goes node now x y _ _ _ (TurnUntil.before_the_tick closes items p closed same) = let goes = items_go x y closes items p in ([], goes.out, goes.back)
+until_goes node now x y _ _ _ (TurnUntil.in_talk closes ticked items tick spoken sent heard p closed t q same) =
+    let spoke = talked node now sent heard spoken q in
     let goes = goes_around items tick spoken [] (frames_of sent) spoke.more (contents_of heard)
-    (items_go x y closes items p) (tick_goes now ticked tick t) (nothing_goes [] refl refl) spoke.goes in (
+    (items_go x y closes items p) (tick_goes node now ticked tick t) (nothing_goes [] refl refl) spoke.goes in (
       spoke.more,
       ap (flat_map asked_by) (sym (append-nil (items ++ tick ++ spoken))) ∙ goes.out,
       ap (flat_map replied_by) (sym (append-nil (items ++ tick ++ spoken))) ∙ goes.back,
     )
-until_goes now x y _ _ _ (TurnUntil.in_reports closes ticked items tick asked replied reports sent heard refused cut p closed t q r s) =
+until_goes node now x y _ _ _ (TurnUntil.in_reports closes ticked items tick asked replied reports sent heard refused cut p closed t q r s) =
     let goes = goes_around items tick (asked ++ replied) reports (frames_of sent) [] (contents_of heard)
-    (items_go x y closes items p) (tick_goes now ticked tick t)
+    (items_go x y closes items p) (tick_goes node now ticked tick t)
     (nothing_goes reports
-    (reports_until_none asked_by (λ i answer. refl) now cut (mail_of x) (mail_of y) reports refl s)
-    (reports_until_none replied_by (λ i answer. refl) now cut (mail_of x) (mail_of y) reports refl s))
-    (both_go now sent heard asked replied q r.made) in
+    (reports_until_none asked_by (λ i answer. refl) node now cut (mail_of x) (mail_of y) reports refl s)
+    (reports_until_none replied_by (λ i answer. refl) node now cut (mail_of x) (mail_of y) reports refl s))
+    (both_go node now sent heard asked replied q r.made) in
     ([], goes.out, goes.back)

@@ -14,13 +14,13 @@ use Rattle.kp_engine.specs.declared.stop.Stop.{Stop}
 use Rattle.kp_engine.specs.declared.stop.Stop.TheVariants.{Done, NeedStream, OutOfMemory}
 
 module _ {S : Type 0} (answers : Told S) where
-  of_turn : (now : ℕ) (x : Exchange) (w : Wired S) (result : Poll Stop) (y : Exchange) (v : Wired S) → Turns answers now x w result y v → SameLanes x y
-  of_turn now x w Pending y v h = h.lanes
-  of_turn now x w (Ready Done) y v (done, inl on) = on.lanes
-  of_turn now x w (Ready Done) y v (done, inr (cause, cut)) = cut.lanes
-  of_turn now x w (Ready (NeedStream cause)) y v h = h.lanes
-  of_turn now x w (Ready OutOfMemory) y v h = h.lanes
+  of_turn : (node now : ℕ) (x : Exchange) (w : Wired S) (result : Poll Stop) (y : Exchange) (v : Wired S) → Turns answers node now x w result y v → SameLanes x y
+  of_turn node now x w Pending y v h = h.lanes
+  of_turn node now x w (Ready Done) y v (done, inl on) = on.lanes
+  of_turn node now x w (Ready Done) y v (done, inr (cause, cut)) = cut.lanes
+  of_turn node now x w (Ready (NeedStream cause)) y v h = h.lanes
+  of_turn node now x w (Ready OutOfMemory) y v h = h.lanes
 
   pub of_poll : (line : Line S) (x : Exchange) (result : Poll Stop) (y : Exchange) (left : Line S) → Polls answers line x result y left → lanes_of y.intake ≡ lanes_of x.intake
-  of_poll (Open wire) x result y left h = (of_turn _ _ _ _ _ _ h.turns).lanes ∙ ap lanes_of h.cleared.intake
+  of_poll (Open wire) x result y left h = (of_turn _ _ _ _ _ _ _ h.turns).lanes ∙ ap lanes_of h.cleared.intake
   of_poll (Stopped stop) x result y left h = ap lanes_of h.0.intake

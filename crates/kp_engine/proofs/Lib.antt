@@ -26,3 +26,4 @@ pub mod OpeningLemmas
 pub mod LaneLemmas
 pub mod StreamlessLemmas
 pub mod MadeLemmas
+pub mod LineLemmas

@@ -12,7 +12,7 @@ use Rattle.kp_connection.specs.Wire.{Told, Wired}
 use Rattle.kp_frames.specs.declared.fault.FrameFault.{FrameFault}
 use Rattle.kp_lanes.specs.Entries.{items_of}
 use Rattle.kp_wire.proofs.ListLemmas.{all_append}
-use Rattle.kp_rules.specs.Calls.{Call, End, Life, Lives, Step, appended_by, told_by}
+use Rattle.kp_rules.specs.Calls.{Call, End, Life, Lives, Step, appended_by, told_by, Lead}
 use Rattle.kp_rules.specs.Calls as call
 use Rattle.kp_rules.specs.InOrder.{IsHeld}
 use Rattle.kp_rules.specs.Records.{Core}
@@ -165,11 +165,11 @@ both_moved x y a b p q = record {
     nothing_before : (i : ℕ) → fetched_in i (a ++ b) ≡ fetched_in i b
     nothing_before i = flat_map-append (fetched_by i) a b ∙ ap (λ (rs : List Report). rs ++ fetched_in i b) (p.fetches i)
 
-of_asked : (now : ℕ) (sent : List Outgoing) (calls : List Call) → RequestsPart now sent calls → Silent calls
-of_asked now sent calls p = subst Silent (sym p.made) (asked_silent now sent p.last)
+of_asked : (node now : ℕ) (sent : List Outgoing) (calls : List Call) → RequestsPart node now sent calls → Silent calls
+of_asked node now sent calls p = subst Silent (sym p.made) (asked_silent node now sent p.last)
 
-of_asked_until : (now : ℕ) (sent : List Outgoing) (calls : List Call) → RequestsPartUntil now sent calls → Silent calls
-of_asked_until now sent calls p = subst Silent (sym p.made) (asked_silent now sent p.last)
+of_asked_until : (node now : ℕ) (sent : List Outgoing) (calls : List Call) → RequestsPartUntil node now sent calls → Silent calls
+of_asked_until node now sent calls p = subst Silent (sym p.made) (asked_silent node now sent p.last)
 
 of_replied : (now : ℕ) (heard : List Heard) (refused : Option (List ℕ × FrameFault)) (calls : List Call) → RepliesPart now heard refused calls → Silent calls
 of_replied now heard refused calls p = subst Silent (sym p.made) (replied_silent now heard)
@@ -177,66 +177,66 @@ of_replied now heard refused calls p = subst Silent (sym p.made) (replied_silent
 of_replied_until : (now : ℕ) (heard : List Heard) (calls : List Call) → RepliesPartUntil now heard calls → Silent calls
 of_replied_until now heard calls p = subst Silent (sym p.made) (replied_silent now heard)
 
-of_tick : (now : ℕ) (ticked : _) (calls : List Call) → TickPart now ticked calls → Silent calls
-of_tick now ticked calls is = subst Silent (sym is) (record { appends = refl; fetches = λ i. refl })
+of_tick : (node now : ℕ) (ticked : _) (calls : List Call) → TickPart node now ticked calls → Silent calls
+of_tick node now ticked calls is = subst Silent (sym is) (record { appends = refl; fetches = λ i. refl })
 
-of_talk : (now : ℕ) (sent : List Outgoing) (heard : List Heard) (calls : List Call) → TalkUntil now sent heard calls → Silent calls
-of_talk now _ _ _ (TalkUntil.in_requests sent asked p) = of_asked_until now sent asked p
-of_talk now _ _ _ (TalkUntil.in_replies sent heard asked replied p q) = silent_then asked replied (of_asked now sent asked p) (of_replied_until now heard replied q)
+of_talk : (node now : ℕ) (sent : List Outgoing) (heard : List Heard) (calls : List Call) → TalkUntil node now sent heard calls → Silent calls
+of_talk node now _ _ _ (TalkUntil.in_requests sent asked p) = of_asked_until node now sent asked p
+of_talk node now _ _ _ (TalkUntil.in_replies sent heard asked replied p q) = silent_then asked replied (of_asked node now sent asked p) (of_replied_until now heard replied q)
 
-turn_moves : (now : ℕ) (x y : Exchange) (sent : List Outgoing) (heard : List Heard) (refused : Option (List ℕ × FrameFault)) (cut : Option Cause) (calls : List Call)
-    → Turn now x sent heard refused cut calls y → Moves x calls y
-turn_moves now x y sent heard refused cut calls t =
+turn_moves : (node now : ℕ) (x y : Exchange) (sent : List Outgoing) (heard : List Heard) (refused : Option (List ℕ × FrameFault)) (cut : Option Cause) (calls : List Call)
+    → Turn node now x sent heard refused cut calls y → Moves x calls y
+turn_moves node now x y sent heard refused cut calls t =
     let n = senders_of x in
     subst (λ (cs : List Call). Moves x cs y) (sym t.made)
     (both_moved x y (t.items ++ t.tick ++ (t.asked ++ t.replied)) t.reports
     (items_then n (side_of x) (side_of y) (t.items ++ t.tick) (t.asked ++ t.replied)
-    (items_then n (side_of x) (side_of y) t.items t.tick (items_taken n (side_of x) (side_of y) t.closes t.items t.of_items) (of_tick now t.ticked t.tick t.of_tick))
-    (silent_then t.asked t.replied (of_asked now sent t.asked t.of_requests) (of_replied now heard refused t.replied t.of_replies)))
-    (reports_handed n now (is_cut cut) (mail_of x) (mail_of y) t.reports t.of_reports))
+    (items_then n (side_of x) (side_of y) t.items t.tick (items_taken n (side_of x) (side_of y) t.closes t.items t.of_items) (of_tick node now t.ticked t.tick t.of_tick))
+    (silent_then t.asked t.replied (of_asked node now sent t.asked t.of_requests) (of_replied now heard refused t.replied t.of_replies)))
+    (reports_handed n node now (is_cut cut) (mail_of x) (mail_of y) t.reports t.of_reports))
 
-until_moves : (now : ℕ) (x y : Exchange) (sent : List Outgoing) (heard : List Heard) (calls : List Call) → TurnUntil now x y sent heard calls → Moves x calls y
-until_moves now x y _ _ _ (TurnUntil.in_items calls p closed same) =
+until_moves : (node now : ℕ) (x y : Exchange) (sent : List Outgoing) (heard : List Heard) (calls : List Call) → TurnUntil node now x y sent heard calls → Moves x calls y
+until_moves node now x y _ _ _ (TurnUntil.in_items calls p closed same) =
     items_moved x y calls (items_until (senders_of x) (side_of x) (side_of y) calls p) same
-until_moves now x y _ _ _ (TurnUntil.before_the_tick closes items p closed same) =
+until_moves node now x y _ _ _ (TurnUntil.before_the_tick closes items p closed same) =
     items_moved x y items (items_taken (senders_of x) (side_of x) (side_of y) closes items p) same
-until_moves now x y _ _ _ (TurnUntil.in_talk closes ticked items tick talked sent heard p closed t q same) =
+until_moves node now x y _ _ _ (TurnUntil.in_talk closes ticked items tick talked sent heard p closed t q same) =
     let n = senders_of x in
     items_moved x y (items ++ tick ++ talked)
     (items_then n (side_of x) (side_of y) (items ++ tick) talked
-    (items_then n (side_of x) (side_of y) items tick (items_taken n (side_of x) (side_of y) closes items p) (of_tick now ticked tick t))
-    (of_talk now sent heard talked q))
+    (items_then n (side_of x) (side_of y) items tick (items_taken n (side_of x) (side_of y) closes items p) (of_tick node now ticked tick t))
+    (of_talk node now sent heard talked q))
     same
-until_moves now x y _ _ _ (TurnUntil.in_reports closes ticked items tick asked replied reports sent heard refused cut p closed t q r s) =
+until_moves node now x y _ _ _ (TurnUntil.in_reports closes ticked items tick asked replied reports sent heard refused cut p closed t q r s) =
     let n = senders_of x in
     both_moved x y (items ++ tick ++ (asked ++ replied)) reports
     (items_then n (side_of x) (side_of y) (items ++ tick) (asked ++ replied)
-    (items_then n (side_of x) (side_of y) items tick (items_taken n (side_of x) (side_of y) closes items p) (of_tick now ticked tick t))
-    (silent_then asked replied (of_asked now sent asked q) (of_replied now heard refused replied r)))
-    (reports_until n now cut (mail_of x) (mail_of y) reports s)
+    (items_then n (side_of x) (side_of y) items tick (items_taken n (side_of x) (side_of y) closes items p) (of_tick node now ticked tick t))
+    (silent_then asked replied (of_asked node now sent asked q) (of_replied now heard refused replied r)))
+    (reports_until n node now cut (mail_of x) (mail_of y) reports s)
 
 ran : (x y : Exchange) (calls : List Call) → Runs x calls y → HasPlaces x → SameLanes x y → Moves x calls y → Served x calls y
 ran x y calls runs places lanes moves = served x y calls runs.life runs.lives runs.held places lanes moves
 
-module _ {S : Type 0} (answers : Told S) (now : ℕ) (x : Exchange) (w : Wired S) (y : Exchange) (v : Wired S) (places : HasPlaces x) where
-  on : (p : TurnsOn answers now x w y v) → Served x p.calls y
-  on p = ran x y p.calls p.runs places p.lanes (turn_moves now x y p.sent p.heard None None p.calls p.turn)
+module _ {S : Type 0} (answers : Told S) (node now : ℕ) (x : Exchange) (w : Wired S) (y : Exchange) (v : Wired S) (places : HasPlaces x) where
+  on : (p : TurnsOn answers node now x w y v) → Served x p.calls y
+  on p = ran x y p.calls p.runs places p.lanes (turn_moves node now x y p.sent p.heard None None p.calls p.turn)
 
-  cut_off : (cause : Cause) (p : TurnsCut answers now x w cause y v) → Served x p.calls y
-  cut_off cause p = ran x y p.calls p.runs places p.lanes (turn_moves now x y p.sent p.heard p.refused (Some cause) p.calls p.turn)
+  cut_off : (cause : Cause) (p : TurnsCut answers node now x w cause y v) → Served x p.calls y
+  cut_off cause p = ran x y p.calls p.runs places p.lanes (turn_moves node now x y p.sent p.heard p.refused (Some cause) p.calls p.turn)
 
-  out : (p : TurnsOut answers now x w y v) → Served x p.calls y
-  out p = ran x y p.calls p.runs places p.lanes (until_moves now x y p.sent p.heard p.calls p.turn)
+  out : (p : TurnsOut answers node now x w y v) → Served x p.calls y
+  out p = ran x y p.calls p.runs places p.lanes (until_moves node now x y p.sent p.heard p.calls p.turn)
 
-  its_turn_serves : (result : Poll Stop) (turns : Turns answers now x w result y v) → Served x (calls_of_turn answers now x w result y v turns) y
+  its_turn_serves : (result : Poll Stop) (turns : Turns answers node now x w result y v) → Served x (calls_of_turn answers node now x w result y v turns) y
   its_turn_serves Pending p = on p
   its_turn_serves (Ready Done) (done, inl p) = on p
   its_turn_serves (Ready Done) (done, inr (cause, p)) = cut_off cause p
   its_turn_serves (Ready (NeedStream cause)) p = cut_off cause p
   its_turn_serves (Ready OutOfMemory) p = out p
 
-  pub turn_serves : (result : Poll Stop) → Turns answers now x w result y v → (calls : List Call) × Served x calls y
-  turn_serves result turns = (calls_of_turn answers now x w result y v turns, its_turn_serves result turns)
+  pub turn_serves : (result : Poll Stop) → Turns answers node now x w result y v → (calls : List Call) × Served x calls y
+  turn_serves result turns = (calls_of_turn answers node now x w result y v turns, its_turn_serves result turns)
 
 -- ---- the core alone
 
@@ -249,6 +249,10 @@ only_core_serves x y calls life lives held places only silent = served x y calls
 pub end_serves : (x y : Exchange) (reports : ℕ) → HasPlaces x → Step x.core (End reports) y.core → OnlyCore x y → Served x (End reports ∷ []) y
 end_serves x y reports places step only = only_core_serves x y (End reports ∷ []) _ (one_lived x.core y.core (End reports) step) (tt, tt) places only (record { appends = refl; fetches = λ i. refl })
 
+pub lead_serves : (x y : Exchange) (partition leader now : ℕ) → HasPlaces x → Step x.core (Lead partition leader now) y.core → OnlyCore x y → Served x (Lead partition leader now ∷ []) y
+lead_serves x y partition leader now places step only =
+    only_core_serves x y (Lead partition leader now ∷ []) _ (one_lived x.core y.core (Lead partition leader now) step) (tt, tt) places only (record { appends = refl; fetches = λ i. refl })
+
 cleared_serves : (x y : Exchange) → HasPlaces x → Cleared x y → Served x [] y
 cleared_serves x y places h =
     only_core_serves x y [] _ (nothing_lived x.core y.core h.core) tt places (record { intake = h.intake; items = h.items; reports = h.reports; closed = h.closed })
@@ -258,7 +262,7 @@ pub poll_serves_its : {S : Type 0} (answers : Told S) (line : Line S) (x : Excha
     → HasPlaces x → (poll : Polls answers line x result y left) → Served x (calls_of_poll answers line x result y left poll) y
 poll_serves_its answers (Open wire) x result y left places p =
     let begun = cleared_serves x p.begun places p.cleared in
-    joined x p.begun y [] (calls_of_turn answers p.now p.begun wire result y p.after p.turns) begun (its_turn_serves answers p.now p.begun wire y p.after begun.places result p.turns)
+    joined x p.begun y [] (calls_of_turn answers p.node p.now p.begun wire result y p.after p.turns) begun (its_turn_serves answers p.node p.now p.begun wire y p.after begun.places result p.turns)
 poll_serves_its answers (Stopped stop) x result y left places p = cleared_serves x y places p.0
 
 pub poll_serves : {S : Type 0} (answers : Told S) (line : Line S) (x : Exchange) (result : Poll Stop) (y : Exchange) (left : Line S)

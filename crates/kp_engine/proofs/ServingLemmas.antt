@@ -39,13 +39,13 @@ module _ {A : Type 0} (f : Call → List A) where
   if_none true x none = ap (λ (zs : List A). zs ++ []) none
   if_none false x none = refl
 
-  pub none_asked : ((now : ℕ) (answer : Result (Option Outgoing) CoreFault) → f (Request now answer) ≡ []) → (now : ℕ) (sent : List Outgoing)
-      (last : Option (Result (Option Outgoing) CoreFault)) → flat_map f (requests now sent ++ asks now last) ≡ []
-  none_asked none now sent last = before_nothing (requests now sent) (asks now last) [] (none_of (λ r. Request now (Ok (Some r))) (λ r. none now (Ok (Some r))) sent) (one last)
+  pub none_asked : ((node now : ℕ) (answer : Result (Option Outgoing) CoreFault) → f (Request node now answer) ≡ []) → (node now : ℕ) (sent : List Outgoing)
+      (last : Option (Result (Option Outgoing) CoreFault)) → flat_map f (requests node now sent ++ asks node now last) ≡ []
+  none_asked none node now sent last = before_nothing (requests node now sent) (asks node now last) [] (none_of (λ r. Request node now (Ok (Some r))) (λ r. none node now (Ok (Some r))) sent) (one last)
     where
-      one : (last : Option (Result (Option Outgoing) CoreFault)) → flat_map f (asks now last) ≡ []
+      one : (last : Option (Result (Option Outgoing) CoreFault)) → flat_map f (asks node now last) ≡ []
       one None = refl
-      one (Some answer) = ap (λ (zs : List A). zs ++ []) (none now answer)
+      one (Some answer) = ap (λ (zs : List A). zs ++ []) (none node now answer)
 
 -- ---- calls by which senders' items and reports go
 
@@ -94,15 +94,15 @@ module _ {A : Type 0} (f : Call → List A) (fetches_none : (i : ℕ) (answer : 
       ∙ before_nothing f parts.0 parts.1 [] (mails_none n old new parts.0 parts.3)
       (ap (flat_map f) parts.4.made ∙ none_of f (λ r. Fetch n (Some r)) (λ r. fetches_none n (Some r)) parts.4.fetched)
 
-  pub reports_none : (n now : ℕ) (cut : Bool) (old new : ℕ → Mail) (calls : List Call) → f (Disconnect now) ≡ [] → ReportsPart n now cut old calls new → flat_map f calls ≡ []
-  reports_none n now cut old new calls none p =
+  pub reports_none : (n node now : ℕ) (cut : Bool) (old new : ℕ → Mail) (calls : List Call) → f (Disconnect node now) ≡ [] → ReportsPart n node now cut old calls new → flat_map f calls ≡ []
+  reports_none n node now cut old new calls none p =
       ap (flat_map f) p.made
-      ∙ before_nothing f (if_so cut (Disconnect now)) p.of_senders [] (if_none f cut (Disconnect now) none) (mails_none n old new p.of_senders p.parts)
+      ∙ before_nothing f (if_so cut (Disconnect node now)) p.of_senders [] (if_none f cut (Disconnect node now) none) (mails_none n old new p.of_senders p.parts)
 
-  pub reports_until_none : (now : ℕ) (cut : Bool) (old new : ℕ → Mail) (calls : List Call) → f (Disconnect now) ≡ [] → ReportsPartUntil now cut old calls new → flat_map f calls ≡ []
-  reports_until_none now cut old new calls none p =
+  pub reports_until_none : (node now : ℕ) (cut : Bool) (old new : ℕ → Mail) (calls : List Call) → f (Disconnect node now) ≡ [] → ReportsPartUntil node now cut old calls new → flat_map f calls ≡ []
+  reports_until_none node now cut old new calls none p =
       ap (flat_map f) p.made
-      ∙ before_nothing f (if_so p.dropped (Disconnect now)) p.of_senders [] (if_none f p.dropped (Disconnect now) none) (mails_none p.senders old new p.of_senders p.parts)
+      ∙ before_nothing f (if_so p.dropped (Disconnect node now)) p.of_senders [] (if_none f p.dropped (Disconnect node now) none) (mails_none p.senders old new p.of_senders p.parts)
 
 -- ---- calls that append and fetch nothing
 
@@ -116,10 +116,10 @@ silent_then a b p q = record {
   fetches = λ i. before_nothing (fetched_by i) a b [] (p.fetches i) (q.fetches i);
 }
 
-pub asked_silent : (now : ℕ) (sent : List Outgoing) (last : Option (Result (Option Outgoing) CoreFault)) → Silent (requests now sent ++ asks now last)
-asked_silent now sent last = record {
-  appends = none_asked appended_by (λ n answer. refl) now sent last;
-  fetches = λ i. none_asked (fetched_by i) (λ n answer. refl) now sent last;
+pub asked_silent : (node now : ℕ) (sent : List Outgoing) (last : Option (Result (Option Outgoing) CoreFault)) → Silent (requests node now sent ++ asks node now last)
+asked_silent node now sent last = record {
+  appends = none_asked appended_by (λ node n answer. refl) node now sent last;
+  fetches = λ i. none_asked (fetched_by i) (λ node n answer. refl) node now sent last;
 }
 
 pub replied_silent : (now : ℕ) (heard : List Heard) → Silent (map (hears now) heard)
@@ -328,21 +328,21 @@ pub record HandReports (n : ℕ) (old : ℕ → Mail) (calls : List Call) (new :
   pub mails : (i : ℕ) → i < n → Handed (old i) (fetched_in i calls) (new i)
   pub appends : appended_in calls ≡ []
 
-behind_dropped : (n now : ℕ) (old new : ℕ → Mail) (dropped : Bool) (calls : List Call) → HandReports n old calls new
-    → HandReports n old (if_so dropped (Disconnect now) ++ calls) new
-behind_dropped n now old new true calls h = record { mails = h.mails; appends = h.appends }
-behind_dropped n now old new false calls h = h
+behind_dropped : (n node now : ℕ) (old new : ℕ → Mail) (dropped : Bool) (calls : List Call) → HandReports n old calls new
+    → HandReports n old (if_so dropped (Disconnect node now) ++ calls) new
+behind_dropped n node now old new true calls h = record { mails = h.mails; appends = h.appends }
+behind_dropped n node now old new false calls h = h
 
-pub reports_handed : (n now : ℕ) (cut : Bool) (old new : ℕ → Mail) (calls : List Call) → ReportsPart n now cut old calls new → HandReports n old calls new
-reports_handed n now cut old new calls p = subst (λ (cs : List Call). HandReports n old cs new) (sym p.made)
-    (behind_dropped n now old new cut p.of_senders (record {
+pub reports_handed : (n node now : ℕ) (cut : Bool) (old new : ℕ → Mail) (calls : List Call) → ReportsPart n node now cut old calls new → HandReports n old calls new
+reports_handed n node now cut old new calls p = subst (λ (cs : List Call). HandReports n old cs new) (sym p.made)
+    (behind_dropped n node now old new cut p.of_senders (record {
       mails = λ i near. each_handed n old new p.of_senders i near p.parts;
       appends = mails_none appended_by (λ i answer. refl) n old new p.of_senders p.parts;
     }))
 
-pub reports_until : (n now : ℕ) (cut : Bool) (old new : ℕ → Mail) (calls : List Call) → ReportsPartUntil now cut old calls new → HandReports n old calls new
-reports_until n now cut old new calls p = subst (λ (cs : List Call). HandReports n old cs new) (sym p.made)
-    (behind_dropped n now old new p.dropped p.of_senders (record {
+pub reports_until : (n node now : ℕ) (cut : Bool) (old new : ℕ → Mail) (calls : List Call) → ReportsPartUntil node now cut old calls new → HandReports n old calls new
+reports_until n node now cut old new calls p = subst (λ (cs : List Call). HandReports n old cs new) (sym p.made)
+    (behind_dropped n node now old new p.dropped p.of_senders (record {
       mails = λ i near. ⊎_elim
           (λ (below : i < p.senders). each_handed p.senders old new p.of_senders i below p.parts)
           (λ (far : p.senders ≤ i).

@@ -16,7 +16,7 @@ use Rattle.kp_rules.specs.Calls as call
 use Rattle.kp_rules.specs.Closing.{close_step, end_all, end_step}
 use Rattle.kp_rules.specs.declared.outcome.Reason.TheVariants.{Ended}
 use Rattle.kp_frames.specs.declared.producer_id.InitProducerIdResponse.{InitProducerIdResponse}
-use Rattle.kp_rules.specs.Dropping.{drop_attempts, drop_requests, disconnect_step}
+use Rattle.kp_rules.specs.Dropping.{drop_led, drop_requests, disconnect_step}
 use Rattle.kp_rules.specs.Fence.{give_up}
 use Rattle.kp_rules.specs.Flush.{mark, flush_step}
 use Rattle.kp_rules.specs.HandingOver.{send_in}
@@ -25,6 +25,7 @@ use Rattle.kp_rules.specs.Partitions.{changed_at, partition_at, with_partition}
 use Rattle.kp_rules.specs.Records.{Partition, Demand, Produce, InitProducerId, Core, Told, Called, Effect}
 use Rattle.kp_rules.specs.Replies.{Replies, settle_id, go_on_under, reply_step}
 use Rattle.kp_rules.specs.Reports.{reports_to, with_reports, fetch_step}
+use Rattle.kp_rules.specs.Leading.{lead_step}
 use Rattle.kp_rules.specs.Requesting.{Requested, partitions_in, go_out, request_step}
 use Rattle.kp_rules.specs.Telling.{with_partitions, at_each, at_these}
 use Rattle.kp_rules.specs.Tick.{Ticks, heed_deadlines, tick_step}
@@ -103,16 +104,16 @@ appends i s = at_append (λ (x : Appends). Telling s x) i s (record {
   room = λ m e f r. others s (with_queued i s) refl (length-set s.partitions i.partition _) refl;
 })
 
-goes_out : (now : ℕ) (s : Core) (d : Demand Sending) → Tells s [] (go_out now s d).after
-goes_out now s (Produce xs) = others s (go_out now s (Produce xs)).after refl (length-changed_at (partitions_in xs) (λ p t. send_in s.correlation t) s.partitions) refl
-goes_out now s (InitProducerId p) = others s (go_out now s (InitProducerId p)).after refl refl refl
+goes_out : (node now : ℕ) (s : Core) (d : Demand Sending) → Tells s [] (go_out node now s d).after
+goes_out node now s (Produce xs) = others s (go_out node now s (Produce xs)).after refl (length-changed_at (partitions_in xs) (λ p t. send_in s.correlation t) s.partitions) refl
+goes_out node now s (InitProducerId p) = others s (go_out node now s (InitProducerId p)).after refl refl refl
 
-asks : (now : ℕ) (s : Core) → Tells s [] (request_step now s).after
-asks now s = at_request (λ (x : Requested). Tells s [] x.after) now s (record {
+asks : (node now : ℕ) (s : Core) → Tells s [] (request_step node now s).after
+asks node now s = at_request (λ (x : Requested). Tells s [] x.after) node now s (record {
   ended = nothing s;
   idle = nothing s;
   spent = nothing s;
-  out = λ e d is spent. goes_out now s d;
+  out = λ e d is spent. goes_out node now s d;
 })
 
 settled_id : (now p : ℕ) (x : InitProducerIdResponse) (s : Core) → Tells s [] (settle_id now p x s)
@@ -130,22 +131,22 @@ hears now content s = at_reply (λ (x : Replies). Telling s x) now content s (λ
       id = λ r p x named demand body fits. settled_id now p x s;
     }))
 
-dropped : (now : ℕ) (s : Core) → Tells s [] (drop_requests now s)
+dropped : (node now : ℕ) (s : Core) → Tells s [] (drop_requests node now s)
 unfolding drop_requests
-dropped now s = others s (drop_requests now s) refl (length-map s.partitions (drop_attempts now)) refl
+dropped node now s = others s (drop_requests node now s) refl (length-map s.partitions (drop_led node now)) refl
 
 -- what is told of a core that has dropped its requests
-told_dropped : (now : ℕ) (s : Core) (told : List Told) (t : Core) → Tells (drop_requests now s) told t → Tells s told t
+told_dropped : (node now : ℕ) (s : Core) (told : List Told) (t : Core) → Tells (drop_requests node now s) told t → Tells s told t
 unfolding drop_requests
-told_dropped now s told t x = record {
-  shape = record { config = x.shape.config; partitions = x.shape.partitions ∙ length-map s.partitions (drop_attempts now); senders = x.shape.senders };
+told_dropped node now s told t x = record {
+  shape = record { config = x.shape.config; partitions = x.shape.partitions ∙ length-map s.partitions (drop_led node now); senders = x.shape.senders };
   waiting = x.waiting;
 }
 
-ticks : (now : ℕ) (s : Core) → Telling s (tick_step now s)
-ticks now s = at_tick (λ (x : Ticks). Telling s x) now s (record {
+ticks : (node now : ℕ) (s : Core) → Telling s (tick_step node now s)
+ticks node now s = at_tick (λ (x : Ticks). Telling s x) node now s (record {
   ended = nothing s;
-  timed_out = told_dropped now s _ _ (told_each (heed_deadlines (drop_requests now s).config now) (drop_requests now s));
+  timed_out = told_dropped node now s _ _ (told_each (heed_deadlines (drop_requests node now s).config now) (drop_requests node now s));
   on_time = told_each (heed_deadlines s.config now) s;
 })
 
@@ -158,8 +159,12 @@ ends s = at_end_step (λ (x : Called ℕ). Telling s x) s (nothing s) (ended_all
 closes : (s : Core) → Tells s [] (close_step s)
 closes s = at_close (λ (t : Core). Tells s [] t) s (nothing s) (others s (record s { closing = true }) refl refl refl)
 
-disconnects : (now : ℕ) (s : Core) → Tells s [] (disconnect_step now s)
-disconnects now s = at_disconnect (λ (t : Core). Tells s [] t) now s (nothing s) (dropped now s)
+disconnects : (node now : ℕ) (s : Core) → Tells s [] (disconnect_step node now s)
+disconnects node now s = at_disconnect (λ (t : Core). Tells s [] t) node now s (nothing s) (dropped node now s)
+
+leads : (p leader now : ℕ) (s : Core) → Tells s [] (lead_step p leader now s)
+unfolding lead_step
+leads p leader now s = others s (lead_step p leader now s) refl (length-set s.partitions p _) refl
 
 flushes : (s : Core) → Tells s [] (flush_step s)
 unfolding flush_step
@@ -238,12 +243,13 @@ fetched s t j answer gives = subst (λ (u : Core). Continues s (call.Fetch j ans
 pub each_call : (s t : Core) (x : Call) → Step s x t → Continues s x t
 each_call s t (call.Append i (Err append.OutOfMemory)) step = unfetched s t _ [] refl (λ i. refl) (stays s t step.1)
 each_call s t (call.Append i answer) step = unfetched s t (call.Append i answer) (append_step i s).told refl (λ i. refl) (to_after s t (append_step i s) step.1 (appends i s))
-each_call s t (call.Request now (Err fault.OutOfMemory)) step = unfetched s t _ [] refl (λ i. refl) (stays s t step.1)
-each_call s t (call.Request now answer) step = unfetched s t (call.Request now answer) [] refl (λ i. refl) (subst (λ (u : Core). Tells s [] u) (sym step.1) (asks now s))
+each_call s t (call.Request node now (Err fault.OutOfMemory)) step = unfetched s t _ [] refl (λ i. refl) (stays s t step.1)
+each_call s t (call.Request node now answer) step = unfetched s t (call.Request node now answer) [] refl (λ i. refl) (subst (λ (u : Core). Tells s [] u) (sym step.1) (asks node now s))
 each_call s t (call.Reply now content (Err fault.OutOfMemory)) step = unfetched s t _ [] refl (λ i. refl) (stays s t step.1)
 each_call s t (call.Reply now content answer) step = unfetched s t (call.Reply now content answer) (reply_step now content s).told refl (λ i. refl) (to_after s t (reply_step now content s) step.1 (hears now content s))
-each_call s t (call.Tick now answer) step = unfetched s t (call.Tick now answer) (tick_step now s).told refl (λ i. refl) (to_after s t (tick_step now s) step.1 (ticks now s))
-each_call s t (call.Disconnect now) step = unfetched s t (call.Disconnect now) [] refl (λ i. refl) (subst (λ (u : Core). Tells s [] u) (sym step) (disconnects now s))
+each_call s t (call.Tick node now answer) step = unfetched s t (call.Tick node now answer) (tick_step node now s).told refl (λ i. refl) (to_after s t (tick_step node now s) step.1 (ticks node now s))
+each_call s t (call.Disconnect node now) step = unfetched s t (call.Disconnect node now) [] refl (λ i. refl) (subst (λ (u : Core). Tells s [] u) (sym step) (disconnects node now s))
+each_call s t (call.Lead p leader now) step = unfetched s t (call.Lead p leader now) [] refl (λ i. refl) (subst (λ (u : Core). Tells s [] u) (sym step) (leads p leader now s))
 each_call s t call.Close step = unfetched s t call.Close [] refl (λ i. refl) (subst (λ (u : Core). Tells s [] u) (sym step) (closes s))
 each_call s t call.Flush step = unfetched s t call.Flush [] refl (λ i. refl) (subst (λ (u : Core). Tells s [] u) (sym step) (flushes s))
 each_call s t (call.End reports) step = unfetched s t (call.End reports) (end_step s).told refl (λ i. refl) (to_after s t (end_step s) step.1 (ends s))

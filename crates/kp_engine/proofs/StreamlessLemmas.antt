@@ -33,8 +33,8 @@ module _ {S : Type 0} where
     stops_so : (w v : Wired S) (sent heard : List (List ℕ)) (xs : List Answer) → Stops answers w sent heard xs v → Stops anything (no_wire w) sent heard xs (no_wire v)
     stops_so w v sent heard xs g = record { told = tt; unwritten = g.unwritten; written = g.written; unheard = g.unheard; read = g.read; contents = g.contents }
 
-    module _ (now : ℕ) (x : Exchange) (w : Wired S) (y : Exchange) (v : Wired S) where
-      on_so : TurnsOn answers now x w y v → TurnsOn anything now x (no_wire w) y (no_wire v)
+    module _ (node now : ℕ) (x : Exchange) (w : Wired S) (y : Exchange) (v : Wired S) where
+      on_so : TurnsOn answers node now x w y v → TurnsOn anything node now x (no_wire w) y (no_wire v)
       on_so t = record {
         sent = t.sent;
         heard = t.heard;
@@ -48,7 +48,7 @@ module _ {S : Type 0} where
         sound = t.sound;
       }
 
-      cut_so : (cause : Cause) → TurnsCut answers now x w cause y v → TurnsCut anything now x (no_wire w) cause y (no_wire v)
+      cut_so : (cause : Cause) → TurnsCut answers node now x w cause y v → TurnsCut anything node now x (no_wire w) cause y (no_wire v)
       cut_so cause t = record {
         sent = t.sent;
         heard = t.heard;
@@ -62,7 +62,7 @@ module _ {S : Type 0} where
         cut = t.cut;
       }
 
-      out_so : TurnsOut answers now x w y v → TurnsOut anything now x (no_wire w) y (no_wire v)
+      out_so : TurnsOut answers node now x w y v → TurnsOut anything node now x (no_wire w) y (no_wire v)
       out_so t = record {
         sent = t.sent;
         heard = t.heard;
@@ -74,7 +74,7 @@ module _ {S : Type 0} where
         stops = stops_so w v _ _ t.xs t.stops;
       }
 
-      turns_so : (result : Poll Stop) → Turns answers now x w result y v → Turns anything now x (no_wire w) result y (no_wire v)
+      turns_so : (result : Poll Stop) → Turns answers node now x w result y v → Turns anything node now x (no_wire w) result y (no_wire v)
       turns_so Pending t = on_so t
       turns_so (Ready Done) (done, inl t) = (done, inl (on_so t))
       turns_so (Ready Done) (done, inr (cause, t)) = (done, inr (cause, cut_so cause t))
@@ -84,11 +84,12 @@ module _ {S : Type 0} where
     pub poll_so : (line : Line S) (x : Exchange) (result : Poll Stop) (y : Exchange) (left : Line S) → Polls answers line x result y left
         → Polls anything (no_line line) x result y (no_line left)
     poll_so (Open wire) x result y left p = record {
+      node = p.node;
       now = p.now;
       begun = p.begun;
       cleared = p.cleared;
       after = no_wire p.after;
-      turns = turns_so p.now p.begun wire y p.after result p.turns;
+      turns = turns_so p.node p.now p.begun wire y p.after result p.turns;
       undone = p.undone;
       line = ap no_line p.line ∙ left_so result p.after;
     }

@@ -26,22 +26,22 @@ pub for_some : {A : Type 0} (P : A → Type 0) (x : A) → P x → (y : A) → S
 for_some P x p y is = subst P (some_same x y is) p
 
 -- an answer to a request under a pattern
-pub asked_by : (s t : Core) (now : ℕ) (given is : Option Outgoing) → given ≡ is → Step s (Request now (Ok given)) t → Step s (Request now (Ok is)) t
-asked_by s t now given is same step = subst (λ (o : Option Outgoing). Step s (Request now (Ok o)) t) same step
+pub asked_by : (s t : Core) (node now : ℕ) (given is : Option Outgoing) → given ≡ is → Step s (Request node now (Ok given)) t → Step s (Request node now (Ok is)) t
+asked_by s t node now given is same step = subst (λ (o : Option Outgoing). Step s (Request node now (Ok o)) t) same step
 
 -- the request that goes out, under a pattern
-pub went_out : (now : ℕ) (x y : Exchange) (r : Result (Option (Result (Vec ℕ) AllocError)) CoreFault) (o : Option (Result (Vec ℕ) AllocError)) (frame : Result (Vec ℕ) AllocError)
-    → r ≡ Ok o → o ≡ Some frame → Requested now x r y → Requested now x (Ok (Some frame)) y
-went_out now x y r o frame is some made =
-    subst (λ (p : Option (Result (Vec ℕ) AllocError)). Requested now x (Ok p) y) some
-    (subst (λ (q : Result (Option (Result (Vec ℕ) AllocError)) CoreFault). Requested now x q y) is made)
+pub went_out : (node now : ℕ) (x y : Exchange) (r : Result (Option (Result (Vec ℕ) AllocError)) CoreFault) (o : Option (Result (Vec ℕ) AllocError)) (frame : Result (Vec ℕ) AllocError)
+    → r ≡ Ok o → o ≡ Some frame → Requested node now x r y → Requested node now x (Ok (Some frame)) y
+went_out node now x y r o frame is some made =
+    subst (λ (p : Option (Result (Vec ℕ) AllocError)). Requested node now x (Ok p) y) some
+    (subst (λ (q : Result (Option (Result (Vec ℕ) AllocError)) CoreFault). Requested node now x q y) is made)
 
 -- the fault that was answered, under a pattern
-pub refused_out : (now : ℕ) (x y : Exchange) (r : Result (Option (Result (Vec ℕ) AllocError)) CoreFault) (f fault : CoreFault)
-    → r ≡ Err f → f ≡ fault → Requested now x r y → Runs x (Request now (Err fault) ∷ []) y
-refused_out now x y r f fault is same made =
-    subst (λ (p : CoreFault). Runs x (Request now (Err p) ∷ []) y) same
-    (subst (λ (q : Result (Option (Result (Vec ℕ) AllocError)) CoreFault). Requested now x q y) is made)
+pub refused_out : (node now : ℕ) (x y : Exchange) (r : Result (Option (Result (Vec ℕ) AllocError)) CoreFault) (f fault : CoreFault)
+    → r ≡ Err f → f ≡ fault → Requested node now x r y → Runs x (Request node now (Err fault) ∷ []) y
+refused_out node now x y r f fault is same made =
+    subst (λ (p : CoreFault). Runs x (Request node now (Err p) ∷ []) y) same
+    (subst (λ (q : Result (Option (Result (Vec ℕ) AllocError)) CoreFault). Requested node now x q y) is made)
 
 -- ---- stretches
 

@@ -36,8 +36,8 @@ module _ {S : Type 0} (answers : Told S) where
   }
 
   -- nothing was tried, since a request has waited too long
-  pub too_late : ((s : S) → answers s [] s) → (now : ℕ) (late : Bool) (x : Exchange) (w : Wired S) → late ≡ true → TalksCut answers now late x w TimedOut x w
-  too_late nothing now late x w is = record {
+  pub too_late : ((s : S) → answers s [] s) → (node now : ℕ) (late : Bool) (x : Exchange) (w : Wired S) → late ≡ true → TalksCut answers node now late x w TimedOut x w
+  too_late nothing node now late x w is = record {
     sent = [];
     heard = [];
     refused = None;
@@ -51,30 +51,30 @@ module _ {S : Type 0} (answers : Told S) where
   }
 
   -- a write failed
-  pub cut_by_write : (now : ℕ) (x y : Exchange) (w v : Wired S) → WritesCut answers now x w y v → TalksCut answers now false x w Io y v
-  cut_by_write now x y w v p = record {
+  pub cut_by_write : (node now : ℕ) (x y : Exchange) (w v : Wired S) → WritesCut answers node now x w y v → TalksCut answers node now false x w Io y v
+  cut_by_write node now x y w v p = record {
     sent = p.sent;
     heard = [];
     refused = None;
-    asked = requests now p.sent;
+    asked = requests node now p.sent;
     replied = [];
     xs = p.xs;
-    of_requests = record { last = None; few = omega (arith, p.few); none = λ answer some. absurd (none_some some); made = sym (append-nil (requests now p.sent)) };
+    of_requests = record { last = None; few = omega (arith, p.few); none = λ answer some. absurd (none_some some); made = sym (append-nil (requests node now p.sent)) };
     of_replies = no_replies now;
-    talks = subst (λ (c : List Call). TalksUntil answers x w p.sent [] c p.xs y v) (sym (append-nil (requests now p.sent)))
-        (talks_until x y w v p.sent [] (requests now p.sent) p.xs p.talks);
+    talks = subst (λ (c : List Call). TalksUntil answers x w p.sent [] c p.xs y v) (sym (append-nil (requests node now p.sent)))
+        (talks_until x y w v p.sent [] (requests node now p.sent) p.xs p.talks);
     cut = (refl, refl, inr p.failed);
   }
 
   -- memory was refused while requests were asked for
-  pub out_in_requests : (now : ℕ) (x y : Exchange) (w v : Wired S) → WritesUntil answers now x w y v → TalksOut answers now x w y v
-  out_in_requests now x y w v p = record {
+  pub out_in_requests : (node now : ℕ) (x y : Exchange) (w v : Wired S) → WritesUntil answers node now x w y v → TalksOut answers node now x w y v
+  out_in_requests node now x y w v p = record {
     sent = p.sent;
     heard = [];
-    calls = requests now p.sent ++ asks now p.last;
+    calls = requests node now p.sent ++ asks node now p.last;
     xs = p.xs;
-    until = TalkUntil.in_requests p.sent (requests now p.sent ++ asks now p.last) (record { last = p.last; few = p.few; lacking = p.lacking; made = refl });
-    talks = talks_until x y w v p.sent [] (requests now p.sent ++ asks now p.last) p.xs p.talks;
+    until = TalkUntil.in_requests p.sent (requests node now p.sent ++ asks node now p.last) (record { last = p.last; few = p.few; lacking = p.lacking; made = refl });
+    talks = talks_until x y w v p.sent [] (requests node now p.sent ++ asks node now p.last) p.xs p.talks;
   }
 
   module _ (in_order : (a : S) (xs : List Answer) (b : S) (ys : List Answer) (c : S) → answers a xs b → answers b ys c → answers a (xs ++ ys) c) where
@@ -88,15 +88,15 @@ module _ {S : Type 0} (answers : Told S) where
           (Stops-then answers in_order w v u (frames_of sent) (contents_of heard) (frames_of more) (contents_of news) xs ys p.goes q.stops);
     }
 
-    module _ (now : ℕ) (x y z : Exchange) (w v u : Wired S) (writes : WritesOn answers now x w y v) where
+    module _ (node now : ℕ) (x y z : Exchange) (w v u : Wired S) (writes : WritesOn answers node now x w y v) where
       abbrev asked : List Call
-      asked = requests now writes.sent ++ asks now writes.last
+      asked = requests node now writes.sent ++ asks node now writes.last
 
-      abbrev of_requests : RequestsPart now writes.sent asked
+      abbrev of_requests : RequestsPart node now writes.sent asked
       of_requests = record { last = writes.last; few = writes.few; none = writes.none; made = refl }
 
       -- requests were written, and replies heard
-      pub went_on : ListensOn answers now 16 y v z u → TalksOn answers now x w z u
+      pub went_on : ListensOn answers now 16 y v z u → TalksOn answers node now x w z u
       went_on p = record {
         sent = writes.sent;
         heard = p.heard;
@@ -156,7 +156,7 @@ module _ {S : Type 0} (answers : Told S) where
           (subst (λ (heard : List Heard). HeardAll 16 v.held ys heard) (sym (append-nil before)) h)
 
       -- requests were written, and the connection was of no use any more while replies were heard
-      pub cut_by_read : (cause : Cause) → ListensCut answers now 16 y v cause z u → TalksCut answers now false x w cause z u
+      pub cut_by_read : (cause : Cause) → ListensCut answers now 16 y v cause z u → TalksCut answers node now false x w cause z u
       cut_by_read cause p =
           let heard = p.before ++ refused_with p.refused in
           record {
@@ -174,7 +174,7 @@ module _ {S : Type 0} (answers : Told S) where
           }
 
       -- requests were written, and memory was refused while replies were heard
-      pub out_in_replies : ListensUntil answers now 16 y v z u → TalksOut answers now x w z u
+      pub out_in_replies : ListensUntil answers now 16 y v z u → TalksOut answers node now x w z u
       out_in_replies p =
           let heard = p.before ++ lacking_memory p.lacking in
           record {
@@ -189,13 +189,13 @@ module _ {S : Type 0} (answers : Told S) where
           }
 
       -- whatever listening answered
-      pub talked : (late : Bool) → late ≡ false → (r : Result (Option Cause) AllocError) → Listens answers now 16 y v r z u → TalksAll answers now late x w r z u
+      pub talked : (late : Bool) → late ≡ false → (r : Result (Option Cause) AllocError) → Listens answers now 16 y v r z u → TalksAll answers node now late x w r z u
       talked late on_time (Ok None) p = (on_time, went_on p)
-      talked late on_time (Ok (Some cause)) p = subst (λ (b : Bool). TalksCut answers now b x w cause z u) (sym on_time) (cut_by_read cause p)
+      talked late on_time (Ok (Some cause)) p = subst (λ (b : Bool). TalksCut answers node now b x w cause z u) (sym on_time) (cut_by_read cause p)
       talked late on_time (Err refused) p = out_in_replies p
 
 -- whatever was answered, calls were made on the core alone
-pub talks_only : {S : Type 0} (answers : Told S) (now : ℕ) (late : Bool) (x : Exchange) (w : Wired S) (r : Result (Option Cause) AllocError) (y : Exchange) (v : Wired S) → TalksAll answers now late x w r y v → OnlyCore x y
-talks_only answers now late x w (Ok None) y v p = p.1.talks.only
-talks_only answers now late x w (Ok (Some cause)) y v p = p.talks.only
-talks_only answers now late x w (Err refused) y v p = p.talks.only
+pub talks_only : {S : Type 0} (answers : Told S) (node now : ℕ) (late : Bool) (x : Exchange) (w : Wired S) (r : Result (Option Cause) AllocError) (y : Exchange) (v : Wired S) → TalksAll answers node now late x w r y v → OnlyCore x y
+talks_only answers node now late x w (Ok None) y v p = p.1.talks.only
+talks_only answers node now late x w (Ok (Some cause)) y v p = p.talks.only
+talks_only answers node now late x w (Err refused) y v p = p.talks.only

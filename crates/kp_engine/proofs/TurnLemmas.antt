@@ -36,15 +36,15 @@ mail_parts_from (suc n) old older new calls same parts = (
   subst (λ (x : Mail). MailPart n x parts.1 (new n)) (same n) parts.4,
 )
 
-pub reports_from : (now senders : ℕ) (cut : Bool) (old older new : ℕ → Mail) (calls : List Call) → ((k : ℕ) → old k ≡ older k) → ReportsPart senders now cut old calls new → ReportsPart senders now cut older calls new
-reports_from now senders cut old older new calls same p = record {
+pub reports_from : (node now senders : ℕ) (cut : Bool) (old older new : ℕ → Mail) (calls : List Call) → ((k : ℕ) → old k ≡ older k) → ReportsPart senders node now cut old calls new → ReportsPart senders node now cut older calls new
+reports_from node now senders cut old older new calls same p = record {
   of_senders = p.of_senders;
   parts = mail_parts_from senders old older new p.of_senders same p.parts;
   made = p.made;
 }
 
-reports_until_from : (now : ℕ) (cut : Bool) (old older new : ℕ → Mail) (calls : List Call) → ((k : ℕ) → old k ≡ older k) → ReportsPartUntil now cut old calls new → ReportsPartUntil now cut older calls new
-reports_until_from now cut old older new calls same p = record {
+reports_until_from : (node now : ℕ) (cut : Bool) (old older new : ℕ → Mail) (calls : List Call) → ((k : ℕ) → old k ≡ older k) → ReportsPartUntil node now cut old calls new → ReportsPartUntil node now cut older calls new
+reports_until_from node now cut old older new calls same p = record {
   dropped = p.dropped;
   only_cut = p.only_cut;
   senders = p.senders;
@@ -89,8 +89,8 @@ stays_open a b c closes sides view (inr (inr (inr busy))) = inr (inr (inr (busy_
 
 -- ---- a turn
 
-module _ (now : ℕ) (x a b c d : Exchange) (idle : Bool) (ticked : Ticked) (takes : TakesAndCloses x a idle) (same_mail : SameMail x a) (same_lanes_taken : SameLanes x a)
-    (ticks : Runs a (Tick now ticked ∷ []) b) (tick_only : OnlyCore a b) (talk_only : OnlyCore b c) (mails : OnlyMails c d) where
+module _ (node now : ℕ) (x a b c d : Exchange) (idle : Bool) (ticked : Ticked) (takes : TakesAndCloses x a idle) (same_mail : SameMail x a) (same_lanes_taken : SameLanes x a)
+    (ticks : Runs a (Tick node now ticked ∷ []) b) (tick_only : OnlyCore a b) (talk_only : OnlyCore b c) (mails : OnlyMails c d) where
   sides : (k : ℕ) → side_of d k ≡ side_of a k
   sides k = mails.sides k ∙ core_sides b c talk_only k ∙ core_sides a b tick_only k
 
@@ -129,33 +129,33 @@ module _ (now : ℕ) (x a b c d : Exchange) (idle : Bool) (ticked : Ticked) (tak
   pub items_all : ItemsPart (senders_of x) (side_of x) takes.closes takes.calls (side_of d)
   items_all = items_kept (senders_of x) (side_of x) (side_of a) (side_of d) takes.closes takes.calls sides takes.part
 
-  pub runs_ticked : Runs x (takes.calls ++ (Tick now ticked ∷ [])) b
-  runs_ticked = runs_then x a b takes.calls (Tick now ticked ∷ []) takes.runs ticks
+  pub runs_ticked : Runs x (takes.calls ++ (Tick node now ticked ∷ [])) b
+  runs_ticked = runs_then x a b takes.calls (Tick node now ticked ∷ []) takes.runs ticks
 
-  pub runs_talked : (calls : List Call) → Runs b calls c → Runs x (takes.calls ++ (Tick now ticked ∷ []) ++ calls) c
-  runs_talked calls talk = runs_then x b c (takes.calls ++ (Tick now ticked ∷ [])) calls runs_ticked talk
+  pub runs_talked : (calls : List Call) → Runs b calls c → Runs x (takes.calls ++ (Tick node now ticked ∷ []) ++ calls) c
+  runs_talked calls talk = runs_then x b c (takes.calls ++ (Tick node now ticked ∷ [])) calls runs_ticked talk
 
-  pub runs_all : (calls reports : List Call) → Runs b calls c → Runs c reports d → Runs x (takes.calls ++ (Tick now ticked ∷ []) ++ calls ++ reports) d
+  pub runs_all : (calls reports : List Call) → Runs b calls c → Runs c reports d → Runs x (takes.calls ++ (Tick node now ticked ∷ []) ++ calls ++ reports) d
   runs_all calls reports talk finish =
-      runs_then x c d (takes.calls ++ (Tick now ticked ∷ []) ++ calls) reports (runs_talked calls talk) finish
+      runs_then x c d (takes.calls ++ (Tick node now ticked ∷ []) ++ calls) reports (runs_talked calls talk) finish
 
-  reports_all : (cut : Bool) (reports : List Call) → ReportsPart (senders_of c) now cut (mail_of c) reports (mail_of d) → ReportsPart (senders_of x) now cut (mail_of x) reports (mail_of d)
-  reports_all cut reports p = subst (λ (n : ℕ). ReportsPart n now cut (mail_of x) reports (mail_of d)) senders_before
-      (reports_from now (senders_of c) cut (mail_of c) (mail_of x) (mail_of d) reports mail_before p)
+  reports_all : (cut : Bool) (reports : List Call) → ReportsPart (senders_of c) node now cut (mail_of c) reports (mail_of d) → ReportsPart (senders_of x) node now cut (mail_of x) reports (mail_of d)
+  reports_all cut reports p = subst (λ (n : ℕ). ReportsPart n node now cut (mail_of x) reports (mail_of d)) senders_before
+      (reports_from node now (senders_of c) cut (mail_of c) (mail_of x) (mail_of d) reports mail_before p)
 
   module _ {S : Type 0} (answers : Told S) (w v : Wired S) where
     -- the connection goes on
-    pub turned_on : (done : Bool) → ticked.reconnect ≡ false → TalksOn answers now b w c v → FinishesAll now None c idle done d → TurnsOn answers now x w d v
+    pub turned_on : (done : Bool) → ticked.reconnect ≡ false → TalksOn answers node now b w c v → FinishesAll node now None c idle done d → TurnsOn answers node now x w d v
     turned_on done on_time p f = record {
       sent = p.sent;
       heard = p.heard;
-      calls = takes.calls ++ (Tick now ticked ∷ []) ++ (p.asked ++ p.replied) ++ f.calls;
+      calls = takes.calls ++ (Tick node now ticked ∷ []) ++ (p.asked ++ p.replied) ++ f.calls;
       xs = p.xs;
       turn = record {
         closes = takes.closes;
         ticked = ticked;
         items = takes.calls;
-        tick = Tick now ticked ∷ [];
+        tick = Tick node now ticked ∷ [];
         asked = p.asked;
         replied = p.replied;
         reports = f.calls;
@@ -205,19 +205,19 @@ module _ (now : ℕ) (x a b c d : Exchange) (idle : Bool) (ticked : Ticked) (tak
         not_late late is so = cc
 
     -- the connection is of no use any more
-    pub turned_cut : (done : Bool) (cause : Cause) → TalksCut answers now ticked.reconnect b w cause c v → FinishesAll now (Some cause) c idle done d → TurnsCut answers now x w cause d v
+    pub turned_cut : (done : Bool) (cause : Cause) → TalksCut answers node now ticked.reconnect b w cause c v → FinishesAll node now (Some cause) c idle done d → TurnsCut answers node now x w cause d v
     turned_cut done cause p f =
         let l = late_cut cause w.held p.xs p.heard p.refused (p.asked ++ p.replied) p.cut in record {
           sent = p.sent;
           heard = p.heard;
           refused = p.refused;
-          calls = takes.calls ++ (Tick now ticked ∷ []) ++ (p.asked ++ p.replied) ++ f.calls;
+          calls = takes.calls ++ (Tick node now ticked ∷ []) ++ (p.asked ++ p.replied) ++ f.calls;
           xs = p.xs;
           turn = record {
             closes = takes.closes;
             ticked = ticked;
             items = takes.calls;
-            tick = Tick now ticked ∷ [];
+            tick = Tick node now ticked ∷ [];
             asked = p.asked;
             replied = p.replied;
             reports = f.calls;
@@ -242,7 +242,7 @@ module _ (now : ℕ) (x a b c d : Exchange) (idle : Bool) (ticked : Ticked) (tak
         }
 
     -- what a turn answers, by its end
-    pub turned : (done : Bool) (cut : Option Cause) → TalksAll answers now ticked.reconnect b w (Ok cut) c v → FinishesAll now cut c idle done d → Turns answers now x w (stop_of done cut) d v
+    pub turned : (done : Bool) (cut : Option Cause) → TalksAll answers node now ticked.reconnect b w (Ok cut) c v → FinishesAll node now cut c idle done d → Turns answers node now x w (stop_of done cut) d v
     turned true None p f = (ended f.done, inl (turned_on true p.0 p.1 f))
       where
         ended : (IsTrue true → IsTrue idle × (AreIdle c → IsDone d)) → IsDone d
@@ -255,7 +255,7 @@ module _ (now : ℕ) (x a b c d : Exchange) (idle : Bool) (ticked : Ticked) (tak
     turned false (Some cause) p f = turned_cut false cause p f
 
     -- where it is not done
-    pub undone_turned : (done : Bool) (cut : Option Cause) → FinishesAll now cut c idle done d → GoesOnBehind (stop_of done cut) → IsUndone x d
+    pub undone_turned : (done : Bool) (cut : Option Cause) → FinishesAll node now cut c idle done d → GoesOnBehind (stop_of done cut) → IsUndone x d
     undone_turned true cut f goes = absurd goes
     undone_turned false cut f goes = left f.undone takes.busy
       where
@@ -273,18 +273,18 @@ module _ (now : ℕ) (x a b c d : Exchange) (idle : Bool) (ticked : Ticked) (tak
 
     -- memory was refused in the last part
     until_reports : (cut : Bool) (sent : List Outgoing) (heard : List Heard) (refused : Option (List ℕ × FrameFault)) (asked replied reports : List Call)
-        → RequestsPart now sent asked → RepliesPart now heard refused replied → ReportsPartUntil now cut (mail_of c) reports (mail_of d)
-        → TurnUntil now x d sent heard (takes.calls ++ (Tick now ticked ∷ []) ++ (asked ++ replied) ++ reports)
+        → RequestsPart node now sent asked → RepliesPart now heard refused replied → ReportsPartUntil node now cut (mail_of c) reports (mail_of d)
+        → TurnUntil node now x d sent heard (takes.calls ++ (Tick node now ticked ∷ []) ++ (asked ++ replied) ++ reports)
     until_reports cut sent heard refused asked replied reports p q r =
-        TurnUntil.in_reports takes.closes ticked takes.calls (Tick now ticked ∷ []) asked replied reports sent heard refused cut items_all (record { closed = closed_all; only = only_all }) refl p q
-        (reports_until_from now cut (mail_of c) (mail_of x) (mail_of d) reports mail_before r)
+        TurnUntil.in_reports takes.closes ticked takes.calls (Tick node now ticked ∷ []) asked replied reports sent heard refused cut items_all (record { closed = closed_all; only = only_all }) refl p q
+        (reports_until_from node now cut (mail_of c) (mail_of x) (mail_of d) reports mail_before r)
 
-    pub out_in_reports : (cut : Option Cause) → TalksAll answers now ticked.reconnect b w (Ok cut) c v → FinishesUntil now cut c d → TurnsOut answers now x w d v
+    pub out_in_reports : (cut : Option Cause) → TalksAll answers node now ticked.reconnect b w (Ok cut) c v → FinishesUntil node now cut c d → TurnsOut answers node now x w d v
     out_in_reports None p f =
         let t = p.1 in record {
           sent = t.sent;
           heard = t.heard;
-          calls = takes.calls ++ (Tick now ticked ∷ []) ++ (t.asked ++ t.replied) ++ f.calls;
+          calls = takes.calls ++ (Tick node now ticked ∷ []) ++ (t.asked ++ t.replied) ++ f.calls;
           xs = t.xs;
           turn = until_reports false t.sent t.heard None t.asked t.replied f.calls t.of_requests t.of_replies f.part;
           runs = runs_all (t.asked ++ t.replied) f.calls t.talks.runs f.runs;
@@ -294,7 +294,7 @@ module _ (now : ℕ) (x a b c d : Exchange) (idle : Bool) (ticked : Ticked) (tak
     out_in_reports (Some cause) t f = record {
       sent = t.sent;
       heard = t.heard;
-      calls = takes.calls ++ (Tick now ticked ∷ []) ++ (t.asked ++ t.replied) ++ f.calls;
+      calls = takes.calls ++ (Tick node now ticked ∷ []) ++ (t.asked ++ t.replied) ++ f.calls;
       xs = t.xs;
       turn = until_reports true t.sent t.heard t.refused t.asked t.replied f.calls t.of_requests t.of_replies f.part;
       runs = runs_all (t.asked ++ t.replied) f.calls t.talks.runs f.runs;
@@ -304,11 +304,11 @@ module _ (now : ℕ) (x a b c d : Exchange) (idle : Bool) (ticked : Ticked) (tak
 
 -- ---- until memory was refused, before the last part
 
-module _ {S : Type 0} (answers : Told S) (nothing : (s : S) → answers s [] s) (now : ℕ) (x a : Exchange) (w : Wired S) (same_mail : SameMail x a) (same_lanes_taken : SameLanes x a) where
+module _ {S : Type 0} (answers : Told S) (nothing : (s : S) → answers s [] s) (node now : ℕ) (x a : Exchange) (w : Wired S) (same_mail : SameMail x a) (same_lanes_taken : SameLanes x a) where
   nothing_stops : Stops answers w [] [] [] w
   nothing_stops = Goes-stops answers w w [] [] [] (Goes-nothing answers nothing w)
 
-  pub out_in_items : TakesUntil x a × SameClosed x a → TurnsOut answers now x w a w
+  pub out_in_items : TakesUntil x a × SameClosed x a → TurnsOut answers node now x w a w
   out_in_items p = record {
     sent = [];
     heard = [];
@@ -332,7 +332,7 @@ module _ {S : Type 0} (answers : Told S) (nothing : (s : S) → answers s [] s) 
           );
     }
 
-    pub out_before_the_tick : Runs a [] b → TurnsOut answers now x w b w
+    pub out_before_the_tick : Runs a [] b → TurnsOut answers node now x w b w
     out_before_the_tick runs = record {
       sent = [];
       heard = [];
@@ -347,18 +347,18 @@ module _ {S : Type 0} (answers : Told S) (nothing : (s : S) → answers s [] s) 
       stops = nothing_stops;
     }
 
-    pub out_in_talk : (ticked : Ticked) (c : Exchange) (v : Wired S) → Runs a (Tick now ticked ∷ []) b → TalksOut answers now b w c v → TurnsOut answers now x w c v
+    pub out_in_talk : (ticked : Ticked) (c : Exchange) (v : Wired S) → Runs a (Tick node now ticked ∷ []) b → TalksOut answers node now b w c v → TurnsOut answers node now x w c v
     out_in_talk ticked c v ticks p = record {
       sent = p.sent;
       heard = p.heard;
-      calls = takes.calls ++ (Tick now ticked ∷ []) ++ p.calls;
+      calls = takes.calls ++ (Tick node now ticked ∷ []) ++ p.calls;
       xs = p.xs;
-      turn = TurnUntil.in_talk takes.closes ticked takes.calls (Tick now ticked ∷ []) p.calls p.sent p.heard
+      turn = TurnUntil.in_talk takes.closes ticked takes.calls (Tick node now ticked ∷ []) p.calls p.sent p.heard
           (items_kept (senders_of x) (side_of x) (side_of a) (side_of c) takes.closes takes.calls (λ k. core_sides b c p.talks.only k ∙ core_sides a b tick_only k) takes.part)
           (closed_still c (only_then a b c tick_only p.talks.only))
           refl p.until
           (λ k. core_mail b c p.talks.only k ∙ core_mail a b tick_only k ∙ same_mail k);
-      runs = runs_then x b c (takes.calls ++ (Tick now ticked ∷ [])) p.calls (runs_then x a b takes.calls (Tick now ticked ∷ []) takes.runs ticks) p.talks.runs;
+      runs = runs_then x b c (takes.calls ++ (Tick node now ticked ∷ [])) p.calls (runs_then x a b takes.calls (Tick node now ticked ∷ []) takes.runs ticks) p.talks.runs;
       lanes = lanes_then x a c same_lanes_taken (lanes_then a b c (core_lanes a b tick_only) (core_lanes b c p.talks.only));
       stops = p.talks.stops;
     }

@@ -4,7 +4,7 @@ use Rattle.std.proofs.Common.{inl, inr}
 use Rattle.futures.specs.declared.task.Poll.{Poll}
 use Rattle.futures.specs.declared.task.Poll.TheVariants.{Ready, Pending}
 use Rattle.kp_connection.specs.Wire.{Told, Wired}
-use Rattle.kp_rules.specs.Calls.{Call, Close, End, Step}
+use Rattle.kp_rules.specs.Calls.{Call, Close, End, Lead, Step}
 use Rattle.kp_engine.specs.Engine.{Polls}
 use Rattle.kp_engine.specs.Exchange.{AreIdle, IsQuiet, OnlyCore}
 use Rattle.kp_engine.specs.Polls.{Turns}
@@ -19,27 +19,29 @@ use Rattle.kp_engine.specs.declared.stop.Stop.TheVariants.{Done, NeedStream, Out
 -- ---- polls, one after the other
 
 -- the calls of a turn
-abbrev pub calls_of_turn : {S : Type 0} (answers : Told S) (now : ℕ) (x : Exchange) (w : Wired S) (result : Poll Stop) (y : Exchange) (v : Wired S)
-    → Turns answers now x w result y v → List Call
-calls_of_turn answers now x w Pending y v turn = turn.calls
-calls_of_turn answers now x w (Ready Done) y v (done, inl turn) = turn.calls
-calls_of_turn answers now x w (Ready Done) y v (done, inr (cause, turn)) = turn.calls
-calls_of_turn answers now x w (Ready (NeedStream cause)) y v turn = turn.calls
-calls_of_turn answers now x w (Ready OutOfMemory) y v turn = turn.calls
+abbrev pub calls_of_turn : {S : Type 0} (answers : Told S) (node now : ℕ) (x : Exchange) (w : Wired S) (result : Poll Stop) (y : Exchange) (v : Wired S)
+    → Turns answers node now x w result y v → List Call
+calls_of_turn answers node now x w Pending y v turn = turn.calls
+calls_of_turn answers node now x w (Ready Done) y v (done, inl turn) = turn.calls
+calls_of_turn answers node now x w (Ready Done) y v (done, inr (cause, turn)) = turn.calls
+calls_of_turn answers node now x w (Ready (NeedStream cause)) y v turn = turn.calls
+calls_of_turn answers node now x w (Ready OutOfMemory) y v turn = turn.calls
 
 -- the calls of a poll: none, where the connection was given up before
 abbrev pub calls_of_poll : {S : Type 0} (answers : Told S) (line : Line S) (x : Exchange) (result : Poll Stop) (y : Exchange) (left : Line S)
     → Polls answers line x result y left → List Call
-calls_of_poll answers (Open wire) x result y left poll = calls_of_turn answers poll.now poll.begun wire result y poll.after poll.turns
+calls_of_poll answers (Open wire) x result y left poll = calls_of_turn answers poll.node poll.now poll.begun wire result y poll.after poll.turns
 calls_of_poll answers (Stopped stop) x result y left poll = []
 
--- Polls and ends one after the other, each poll over whatever connection there is then: all their calls.
+-- Polls, ends and leaders told, one after the other, each poll over whatever connection there is then: all their calls.
 pub data Polled {S : Type 0} (answers : Told S) (x : Exchange) : List Call → Exchange → Type 0 where
   not_yet : Polled answers x [] x
   once_more : (y z : Exchange) (calls : List Call) (line left : Line S) (result : Poll Stop) → Polled answers x calls y
       → (poll : Polls answers line y result z left) → Polled answers x (calls ++ calls_of_poll answers line y result z left poll) z
   ended : (y z : Exchange) (calls : List Call) (told : ℕ) → Polled answers x calls y → Step y.core (End told) z.core
       → OnlyCore y z → Polled answers x (calls ++ End told ∷ []) z
+  led : (y z : Exchange) (calls : List Call) (partition leader now : ℕ) → Polled answers x calls y
+      → Step y.core (Lead partition leader now) z.core → OnlyCore y z → Polled answers x (calls ++ Lead partition leader now ∷ []) z
 
 -- ---- the close
 

@@ -67,13 +67,14 @@ abbrev pub line_after : {S : Type 0} → Poll Stop → Wired S → Line S
 line_after Pending wire = Open wire
 line_after (Ready stop) wire = Stopped stop
 
--- One turn was made, over this connection. The engine is done where nothing is left to do.
+-- One turn was made, for a node, over this connection. The engine is done where nothing is left to do.
 pub record MakesTurn {S : Type 0} (answers : Told S) (old : Exchange) (wire : Wired S) (result : Poll Stop) (new : Exchange) (left : Line S) : Type 0 where
+  pub node : ℕ
   pub now : ℕ
   pub begun : Exchange
   pub cleared : Cleared old begun
   pub after : Wired S
-  pub turns : Turns answers now begun wire result new after
+  pub turns : Turns answers node now begun wire result new after
   pub undone : GoesOnBehind result → IsUndone begun new
   pub line : left ≡ line_after result after
 
@@ -81,6 +82,12 @@ pub record MakesTurn {S : Type 0} (answers : Told S) (old : Exchange) (wire : Wi
 abbrev pub Polls : {S : Type 0} → Told S → Line S → Exchange → Poll Stop → Exchange → Line S → Type 0
 Polls answers (Open wire) old result new line = MakesTurn answers old wire result new line
 Polls answers (Stopped stop) old result new line = Cleared old new × (result ≡ Ready stop) × (line ≡ Stopped stop)
+
+-- If it makes a turn, then for this node.
+abbrev pub IsFor : {S : Type 0} (answers : Told S) (node : ℕ) (line : Line S) (old : Exchange) (result : Poll Stop) (new : Exchange) (left : Line S)
+    → Polls answers line old result new left → Type 0
+IsFor answers node (Open wire) old result new left poll = poll.node ≡ node
+IsFor answers node (Stopped stop) old result new left poll = Unit {0}
 
 -- the moment of a poll's turn, if it makes one
 abbrev pub moments_in : {S : Type 0} (answers : Told S) (line : Line S) (old : Exchange) (result : Poll Stop) (new : Exchange) (left : Line S)

@@ -10,5 +10,7 @@ pub mod Engine
 pub mod Serving
 pub mod Parts
 pub mod Clocked
+pub mod Lines
+pub mod Cluster
 pub mod Closing
 pub mod Made

@@ -34,13 +34,13 @@ pub record Waits {S : Type 0} (sent : List Outgoing) (last : Option (Result (Opt
   pub enough : (length heard ≡ 16) ⊎ (Met Read_waits xs × ((stream v.held).frames ≡ []))
 
 -- Requests are written and replies heard, and the connection goes on.
-pub record TalksOn {S : Type 0} (answers : Told S) (now : ℕ) (x : Exchange) (w : Wired S) (y : Exchange) (v : Wired S) : Type 0 where
+pub record TalksOn {S : Type 0} (answers : Told S) (node now : ℕ) (x : Exchange) (w : Wired S) (y : Exchange) (v : Wired S) : Type 0 where
   pub sent : List Outgoing
   pub heard : List Heard
   pub asked : List Call
   pub replied : List Call
   pub xs : List Answer
-  pub of_requests : RequestsPart now sent asked
+  pub of_requests : RequestsPart node now sent asked
   pub of_replies : RepliesPart now heard None replied
   pub talks : Talks answers x w sent heard (asked ++ replied) xs y v
   pub waits : Waits sent of_requests.last heard xs v
@@ -57,36 +57,36 @@ CutFor late held xs heard refused calls (BadReply fault) = (late ≡ false)
     × CutBy held xs refused (BadReply fault) × (refused ≡ None → HeardAll 16 held xs heard)
 
 -- The same until the connection is of no use any more.
-pub record TalksCut {S : Type 0} (answers : Told S) (now : ℕ) (late : Bool) (x : Exchange) (w : Wired S) (cause : Cause) (y : Exchange) (v : Wired S) : Type 0 where
+pub record TalksCut {S : Type 0} (answers : Told S) (node now : ℕ) (late : Bool) (x : Exchange) (w : Wired S) (cause : Cause) (y : Exchange) (v : Wired S) : Type 0 where
   pub sent : List Outgoing
   pub heard : List Heard
   pub refused : Option (List ℕ × FrameFault)
   pub asked : List Call
   pub replied : List Call
   pub xs : List Answer
-  pub of_requests : RequestsPart now sent asked
+  pub of_requests : RequestsPart node now sent asked
   pub of_replies : RepliesPart now heard refused replied
   pub talks : TalksUntil answers x w sent heard (asked ++ replied) xs y v
   pub cut : CutFor late w.held xs heard refused (asked ++ replied) cause
 
 -- The same until memory was refused, in the one part or in the other.
-pub data TalkUntil (now : ℕ) : List Outgoing → List Heard → List Call → Type 0 where
-  in_requests : (sent : List Outgoing) (asked : List Call) → RequestsPartUntil now sent asked → TalkUntil now sent [] asked
-  in_replies : (sent : List Outgoing) (heard : List Heard) (asked replied : List Call) → RequestsPart now sent asked
-      → RepliesPartUntil now heard replied → TalkUntil now sent heard (asked ++ replied)
+pub data TalkUntil (node now : ℕ) : List Outgoing → List Heard → List Call → Type 0 where
+  in_requests : (sent : List Outgoing) (asked : List Call) → RequestsPartUntil node now sent asked → TalkUntil node now sent [] asked
+  in_replies : (sent : List Outgoing) (heard : List Heard) (asked replied : List Call) → RequestsPart node now sent asked
+      → RepliesPartUntil now heard replied → TalkUntil node now sent heard (asked ++ replied)
 
-pub record TalksOut {S : Type 0} (answers : Told S) (now : ℕ) (x : Exchange) (w : Wired S) (y : Exchange) (v : Wired S) : Type 0 where
+pub record TalksOut {S : Type 0} (answers : Told S) (node now : ℕ) (x : Exchange) (w : Wired S) (y : Exchange) (v : Wired S) : Type 0 where
   pub sent : List Outgoing
   pub heard : List Heard
   pub calls : List Call
   pub xs : List Answer
-  pub until : TalkUntil now sent heard calls
+  pub until : TalkUntil node now sent heard calls
   pub talks : TalksUntil answers x w sent heard calls xs y v
 
-abbrev pub TalksAll : {S : Type 0} → Told S → ℕ → Bool → Exchange → Wired S → Result (Option Cause) AllocError → Exchange → Wired S → Type 0
-TalksAll answers now late x w (Ok None) y v = (late ≡ false) × TalksOn answers now x w y v
-TalksAll answers now late x w (Ok (Some cause)) y v = TalksCut answers now late x w cause y v
-TalksAll answers now late x w (Err refused) y v = TalksOut answers now x w y v
+abbrev pub TalksAll : {S : Type 0} → Told S → ℕ → ℕ → Bool → Exchange → Wired S → Result (Option Cause) AllocError → Exchange → Wired S → Type 0
+TalksAll answers node now late x w (Ok None) y v = (late ≡ false) × TalksOn answers node now x w y v
+TalksAll answers node now late x w (Ok (Some cause)) y v = TalksCut answers node now late x w cause y v
+TalksAll answers node now late x w (Err refused) y v = TalksOut answers node now x w y v
 
 -- ---- the last part
 
@@ -105,28 +105,28 @@ pub record IsDone (x : Exchange) : Type 0 where
 abbrev pub HasMore : Exchange → Type 0
 HasMore x = (x.closed ≡ false) ⊎ (((all_untold x.core ≡ []) → ⊥) ⊎ SomeHeld x)
 
-pub record FinishesAll (now : ℕ) (cut : Option Cause) (x : Exchange) (idle all : Bool) (y : Exchange) : Type 0 where
+pub record FinishesAll (node now : ℕ) (cut : Option Cause) (x : Exchange) (idle all : Bool) (y : Exchange) : Type 0 where
   pub calls : List Call
-  pub part : ReportsPart (senders_of x) now (is_cut cut) (mail_of x) calls (mail_of y)
+  pub part : ReportsPart (senders_of x) node now (is_cut cut) (mail_of x) calls (mail_of y)
   pub runs : Runs x calls y
   pub moved : (k : ℕ) → k < senders_of y → HasMoved k y
   pub done : IsTrue all → IsTrue idle × (AreIdle x → IsDone y)
   pub undone : (all ≡ true) ⊎ ((idle ≡ false) ⊎ HasMore y)
 
-pub record FinishesUntil (now : ℕ) (cut : Option Cause) (x y : Exchange) : Type 0 where
+pub record FinishesUntil (node now : ℕ) (cut : Option Cause) (x y : Exchange) : Type 0 where
   pub calls : List Call
-  pub part : ReportsPartUntil now (is_cut cut) (mail_of x) calls (mail_of y)
+  pub part : ReportsPartUntil node now (is_cut cut) (mail_of x) calls (mail_of y)
   pub runs : Runs x calls y
 
-abbrev pub Finishes : ℕ → Option Cause → Bool → Exchange → Result Bool AllocError → Exchange → Type 0
-Finishes now cut idle x (Ok done) y = FinishesAll now cut x idle done y
-Finishes now cut idle x (Err refused) y = FinishesUntil now cut x y
+abbrev pub Finishes : ℕ → ℕ → Option Cause → Bool → Exchange → Result Bool AllocError → Exchange → Type 0
+Finishes node now cut idle x (Ok done) y = FinishesAll node now cut x idle done y
+Finishes node now cut idle x (Err refused) y = FinishesUntil node now cut x y
 
 -- ---- a turn
 
 -- One turn at a moment, in five parts: items, and the close; the tick; requests; replies; reports. It is cut where the
 -- connection is of no use any more; where a request has waited too long, there are no requests and no replies.
-pub record Turn (now : ℕ) (x : Exchange) (sent : List Outgoing) (heard : List Heard) (refused : Option (List ℕ × FrameFault))
+pub record Turn (node now : ℕ) (x : Exchange) (sent : List Outgoing) (heard : List Heard) (refused : Option (List ℕ × FrameFault))
     (cut : Option Cause) (calls : List Call) (y : Exchange) : Type 0 where
   pub closes : Bool
   pub ticked : Ticked
@@ -136,10 +136,10 @@ pub record Turn (now : ℕ) (x : Exchange) (sent : List Outgoing) (heard : List 
   pub replied : List Call
   pub reports : List Call
   pub of_items : ItemsPart (senders_of x) (side_of x) closes items (side_of y)
-  pub of_tick : TickPart now ticked tick
-  pub of_requests : RequestsPart now sent asked
+  pub of_tick : TickPart node now ticked tick
+  pub of_requests : RequestsPart node now sent asked
   pub of_replies : RepliesPart now heard refused replied
-  pub of_reports : ReportsPart (senders_of x) now (is_cut cut) (mail_of x) reports (mail_of y)
+  pub of_reports : ReportsPart (senders_of x) node now (is_cut cut) (mail_of x) reports (mail_of y)
   pub made : calls ≡ items ++ tick ++ (asked ++ replied) ++ reports
   pub late : IsTrue ticked.reconnect ↔ (cut ≡ Some TimedOut)
   pub nothing_tried : cut ≡ Some TimedOut → asked ++ replied ≡ []
@@ -159,20 +159,20 @@ pub record Closed (x : Exchange) (closes : Bool) (y : Exchange) : Type 0 where
   pub only : IsTrue closes → (x.closed ≡ false) × IsQuiet y × AreIdle y
 
 -- A turn until memory was refused: its parts before, and what there is of the one in which it was.
-pub data TurnUntil (now : ℕ) (x y : Exchange) : List Outgoing → List Heard → List Call → Type 0 where
+pub data TurnUntil (node now : ℕ) (x y : Exchange) : List Outgoing → List Heard → List Call → Type 0 where
   in_items : (calls : List Call) → ItemsPartUntil (side_of x) calls (side_of y) → SameClosed x y → SameMail x y
-      → TurnUntil now x y [] [] calls
+      → TurnUntil node now x y [] [] calls
   before_the_tick : (closes : Bool) (items : List Call) → ItemsPart (senders_of x) (side_of x) closes items (side_of y)
-      → Closed x closes y → SameMail x y → TurnUntil now x y [] [] items
+      → Closed x closes y → SameMail x y → TurnUntil node now x y [] [] items
   in_talk : (closes : Bool) (ticked : Ticked) (items tick calls : List Call) (sent : List Outgoing) (heard : List Heard)
-      → ItemsPart (senders_of x) (side_of x) closes items (side_of y) → Closed x closes y → TickPart now ticked tick
-      → TalkUntil now sent heard calls → SameMail x y → TurnUntil now x y sent heard (items ++ tick ++ calls)
+      → ItemsPart (senders_of x) (side_of x) closes items (side_of y) → Closed x closes y → TickPart node now ticked tick
+      → TalkUntil node now sent heard calls → SameMail x y → TurnUntil node now x y sent heard (items ++ tick ++ calls)
   in_reports : (closes : Bool) (ticked : Ticked) (items tick asked replied reports : List Call) (sent : List Outgoing)
       (heard : List Heard) (refused : Option (List ℕ × FrameFault)) (cut : Bool)
-      → ItemsPart (senders_of x) (side_of x) closes items (side_of y) → Closed x closes y → TickPart now ticked tick
-      → RequestsPart now sent asked → RepliesPart now heard refused replied
-      → ReportsPartUntil now cut (mail_of x) reports (mail_of y)
-      → TurnUntil now x y sent heard (items ++ tick ++ (asked ++ replied) ++ reports)
+      → ItemsPart (senders_of x) (side_of x) closes items (side_of y) → Closed x closes y → TickPart node now ticked tick
+      → RequestsPart node now sent asked → RepliesPart now heard refused replied
+      → ReportsPartUntil node now cut (mail_of x) reports (mail_of y)
+      → TurnUntil node now x y sent heard (items ++ tick ++ (asked ++ replied) ++ reports)
 
 -- ---- a poll
 
@@ -195,12 +195,12 @@ stop_of false (Some cause) = Ready (NeedStream cause)
 
 -- It waits: one turn was made, and bytes written and bytes kept are the frames of its requests, behind those that were
 -- kept; frames heard and bytes held are what was read.
-pub record TurnsOn {S : Type 0} (answers : Told S) (now : ℕ) (x : Exchange) (w : Wired S) (y : Exchange) (v : Wired S) : Type 0 where
+pub record TurnsOn {S : Type 0} (answers : Told S) (node now : ℕ) (x : Exchange) (w : Wired S) (y : Exchange) (v : Wired S) : Type 0 where
   pub sent : List Outgoing
   pub heard : List Heard
   pub calls : List Call
   pub xs : List Answer
-  pub turn : Turn now x sent heard None None calls y
+  pub turn : Turn node now x sent heard None None calls y
   pub runs : Runs x calls y
   pub lanes : SameLanes x y
   pub goes : Goes answers w (frames_of sent) (contents_of heard) xs v
@@ -209,32 +209,32 @@ pub record TurnsOn {S : Type 0} (answers : Told S) (now : ℕ) (x : Exchange) (w
 
 -- One turn was made, and the connection is of no use any more: the bytes written are a beginning of those frames, and the
 -- frames heard the first of what was read.
-pub record TurnsCut {S : Type 0} (answers : Told S) (now : ℕ) (x : Exchange) (w : Wired S) (cause : Cause) (y : Exchange) (v : Wired S) : Type 0 where
+pub record TurnsCut {S : Type 0} (answers : Told S) (node now : ℕ) (x : Exchange) (w : Wired S) (cause : Cause) (y : Exchange) (v : Wired S) : Type 0 where
   pub sent : List Outgoing
   pub heard : List Heard
   pub refused : Option (List ℕ × FrameFault)
   pub calls : List Call
   pub xs : List Answer
-  pub turn : Turn now x sent heard refused (Some cause) calls y
+  pub turn : Turn node now x sent heard refused (Some cause) calls y
   pub runs : Runs x calls y
   pub lanes : SameLanes x y
   pub stops : Stops answers w (frames_of sent) (contents_of heard) xs v
   pub cut : CutFor turn.ticked.reconnect w.held xs heard refused (turn.asked ++ turn.replied) cause
 
 -- The same until memory was refused.
-pub record TurnsOut {S : Type 0} (answers : Told S) (now : ℕ) (x : Exchange) (w : Wired S) (y : Exchange) (v : Wired S) : Type 0 where
+pub record TurnsOut {S : Type 0} (answers : Told S) (node now : ℕ) (x : Exchange) (w : Wired S) (y : Exchange) (v : Wired S) : Type 0 where
   pub sent : List Outgoing
   pub heard : List Heard
   pub calls : List Call
   pub xs : List Answer
-  pub turn : TurnUntil now x y sent heard calls
+  pub turn : TurnUntil node now x y sent heard calls
   pub runs : Runs x calls y
   pub lanes : SameLanes x y
   pub stops : Stops answers w (frames_of sent) (contents_of heard) xs v
 
-abbrev pub Turns : {S : Type 0} → Told S → ℕ → Exchange → Wired S → Poll Stop → Exchange → Wired S → Type 0
-Turns answers now x w Pending y v = TurnsOn answers now x w y v
-Turns answers now x w (Ready Done) y v =
-    IsDone y × (TurnsOn answers now x w y v ⊎ ((cause : Cause) × TurnsCut answers now x w cause y v))
-Turns answers now x w (Ready (NeedStream cause)) y v = TurnsCut answers now x w cause y v
-Turns answers now x w (Ready OutOfMemory) y v = TurnsOut answers now x w y v
+abbrev pub Turns : {S : Type 0} → Told S → ℕ → ℕ → Exchange → Wired S → Poll Stop → Exchange → Wired S → Type 0
+Turns answers node now x w Pending y v = TurnsOn answers node now x w y v
+Turns answers node now x w (Ready Done) y v =
+    IsDone y × (TurnsOn answers node now x w y v ⊎ ((cause : Cause) × TurnsCut answers node now x w cause y v))
+Turns answers node now x w (Ready (NeedStream cause)) y v = TurnsCut answers node now x w cause y v
+Turns answers node now x w (Ready OutOfMemory) y v = TurnsOut answers node now x w y v

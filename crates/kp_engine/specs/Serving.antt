@@ -67,7 +67,7 @@ pub record HasServed (core : Core) (intake : Intake) (calls : List Call) (new : 
 
 -- the frames of the requests that a call gives
 abbrev pub asked_by : Call → List (List ℕ)
-asked_by (Request now (Ok (Some request))) = request.bytes ∷ []
+asked_by (Request node now (Ok (Some request))) = request.bytes ∷ []
 asked_by call = []
 
 -- the contents of the replies that it hears

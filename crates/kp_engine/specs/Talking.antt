@@ -38,20 +38,20 @@ contents_of heard = map (λ reply. reply.content) heard
 -- ---- one call on the core
 
 -- It is asked for a request: for one that goes out there is its frame, unless there was no room for a copy.
-abbrev pub Requested : ℕ → Exchange → Result (Option (Result (Vec ℕ) AllocError)) CoreFault → Exchange → Type 0
-Requested now old (Ok (Some frame)) new = (request : Outgoing) × IfOk frame (λ bytes. bytes.items ≡ request.bytes)
-    × Runs old (Request now (Ok (Some request)) ∷ []) new
-Requested now old (Ok None) new = Runs old (Request now (Ok None) ∷ []) new
-Requested now old (Err fault) new = Runs old (Request now (Err fault) ∷ []) new
+abbrev pub Requested : ℕ → ℕ → Exchange → Result (Option (Result (Vec ℕ) AllocError)) CoreFault → Exchange → Type 0
+Requested node now old (Ok (Some frame)) new = (request : Outgoing) × IfOk frame (λ bytes. bytes.items ≡ request.bytes)
+    × Runs old (Request node now (Ok (Some request)) ∷ []) new
+Requested node now old (Ok None) new = Runs old (Request node now (Ok None) ∷ []) new
+Requested node now old (Err fault) new = Runs old (Request node now (Err fault) ∷ []) new
 
 -- It is asked for a request, whose frame this is, or gives none; or memory was refused.
-abbrev pub AsksOne : ℕ → Exchange → Result (Option (Vec ℕ)) AllocError → Exchange → Type 0
-AsksOne now old (Ok (Some frame)) new =
-    (request : Outgoing) × (frame.items ≡ request.bytes) × Runs old (Request now (Ok (Some request)) ∷ []) new
-AsksOne now old (Ok None) new =
-    (answer : Result (Option Outgoing) CoreFault) × GivesNone answer × Runs old (Request now answer ∷ []) new
-AsksOne now old (Err refused) new =
-    (last : Option (Result (Option Outgoing) CoreFault)) × ForSome last LacksMemory × Runs old (asks now last) new
+abbrev pub AsksOne : ℕ → ℕ → Exchange → Result (Option (Vec ℕ)) AllocError → Exchange → Type 0
+AsksOne node now old (Ok (Some frame)) new =
+    (request : Outgoing) × (frame.items ≡ request.bytes) × Runs old (Request node now (Ok (Some request)) ∷ []) new
+AsksOne node now old (Ok None) new =
+    (answer : Result (Option Outgoing) CoreFault) × GivesNone answer × Runs old (Request node now answer ∷ []) new
+AsksOne node now old (Err refused) new =
+    (last : Option (Result (Option Outgoing) CoreFault)) × ForSome last LacksMemory × Runs old (asks node now last) new
 
 -- It hears a reply, and goes on or refuses it; or memory was refused.
 abbrev pub HearsOne : ℕ → List ℕ → Exchange → Result (Option FrameFault) AllocError → Exchange → Type 0
@@ -78,39 +78,39 @@ pub record TalksUntil {S : Type 0} (answers : Told S) (x : Exchange) (w : Wired 
 -- ---- requests
 
 -- Requests are written, until the core gives none, there are 16 or the writer waits. Bytes are kept only where it waited.
-pub record WritesOn {S : Type 0} (answers : Told S) (now : ℕ) (x : Exchange) (w : Wired S) (y : Exchange) (v : Wired S) : Type 0 where
+pub record WritesOn {S : Type 0} (answers : Told S) (node now : ℕ) (x : Exchange) (w : Wired S) (y : Exchange) (v : Wired S) : Type 0 where
   pub sent : List Outgoing
   pub last : Option (Result (Option Outgoing) CoreFault)
   pub xs : List Answer
-  pub few : length sent + length (asks now last) ≤ 16
+  pub few : length sent + length (asks node now last) ≤ 16
   pub none : ForSome last GivesNone
-  pub talks : Talks answers x w sent [] (requests now sent ++ asks now last) xs y v
+  pub talks : Talks answers x w sent [] (requests node now sent ++ asks node now last) xs y v
   pub held : v.held ≡ w.held
   pub kept : (v.kept ≡ []) ⊎ Met Write_waits xs
   pub all : ((length sent ≡ 16) ⊎ IsSome last) ⊎ Met Write_waits xs
 
 -- Requests are written, until a write fails or takes no bytes.
-pub record WritesCut {S : Type 0} (answers : Told S) (now : ℕ) (x : Exchange) (w : Wired S) (y : Exchange) (v : Wired S) : Type 0 where
+pub record WritesCut {S : Type 0} (answers : Told S) (node now : ℕ) (x : Exchange) (w : Wired S) (y : Exchange) (v : Wired S) : Type 0 where
   pub sent : List Outgoing
   pub xs : List Answer
   pub few : length sent ≤ 16
-  pub talks : Talks answers x w sent [] (requests now sent) xs y v
+  pub talks : Talks answers x w sent [] (requests node now sent) xs y v
   pub failed : Met Write_failed xs ⊎ Met (Went []) xs
 
 -- Requests are written, until memory is refused.
-pub record WritesUntil {S : Type 0} (answers : Told S) (now : ℕ) (x : Exchange) (w : Wired S) (y : Exchange) (v : Wired S) : Type 0 where
+pub record WritesUntil {S : Type 0} (answers : Told S) (node now : ℕ) (x : Exchange) (w : Wired S) (y : Exchange) (v : Wired S) : Type 0 where
   pub sent : List Outgoing
   pub last : Option (Result (Option Outgoing) CoreFault)
   pub xs : List Answer
-  pub few : length sent + length (asks now last) ≤ 16
+  pub few : length sent + length (asks node now last) ≤ 16
   pub lacking : ForSome last LacksMemory
-  pub talks : Talks answers x w sent [] (requests now sent ++ asks now last) xs y v
+  pub talks : Talks answers x w sent [] (requests node now sent ++ asks node now last) xs y v
 
 -- whether the connection goes on
-abbrev pub WritesAll : {S : Type 0} → Told S → ℕ → Exchange → Wired S → Result Bool AllocError → Exchange → Wired S → Type 0
-WritesAll answers now x w (Ok true) y v = WritesOn answers now x w y v
-WritesAll answers now x w (Ok false) y v = WritesCut answers now x w y v
-WritesAll answers now x w (Err refused) y v = WritesUntil answers now x w y v
+abbrev pub WritesAll : {S : Type 0} → Told S → ℕ → ℕ → Exchange → Wired S → Result Bool AllocError → Exchange → Wired S → Type 0
+WritesAll answers node now x w (Ok true) y v = WritesOn answers node now x w y v
+WritesAll answers node now x w (Ok false) y v = WritesCut answers node now x w y v
+WritesAll answers node now x w (Err refused) y v = WritesUntil answers node now x w y v
 
 -- ---- replies at hand
 

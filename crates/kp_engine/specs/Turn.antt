@@ -97,8 +97,8 @@ pub record ItemsPartUntil (old : ℕ → Side) (calls : List Call) (new : ℕ �
 
 -- ---- the second part: the tick
 
-abbrev pub TickPart : ℕ → Ticked → List Call → Type 0
-TickPart now answer calls = calls ≡ Tick now answer ∷ []
+abbrev pub TickPart : ℕ → ℕ → Ticked → List Call → Type 0
+TickPart node now answer calls = calls ≡ Tick node now answer ∷ []
 
 -- ---- the third part: requests
 
@@ -109,20 +109,20 @@ GivesNone (Ok (Some request)) = ⊥
 GivesNone (Err OutOfMemory) = ⊥
 GivesNone (Err fault) = Unit {0}
 
-abbrev pub asks : ℕ → Option (Result (Option Outgoing) CoreFault) → List Call
-asks now None = []
-asks now (Some answer) = Request now answer ∷ []
+abbrev pub asks : ℕ → ℕ → Option (Result (Option Outgoing) CoreFault) → List Call
+asks node now None = []
+asks node now (Some answer) = Request node now answer ∷ []
 
 -- the calls whose requests go out
-abbrev pub requests : ℕ → List Outgoing → List Call
-requests now sent = map (λ request. Request now (Ok (Some request))) sent
+abbrev pub requests : ℕ → ℕ → List Outgoing → List Call
+requests node now sent = map (λ request. Request node now (Ok (Some request))) sent
 
 -- Up to 16 requests go out, and the core may be asked once more, where it gives none.
-pub record RequestsPart (now : ℕ) (sent : List Outgoing) (calls : List Call) : Type 0 where
+pub record RequestsPart (node now : ℕ) (sent : List Outgoing) (calls : List Call) : Type 0 where
   pub last : Option (Result (Option Outgoing) CoreFault)
-  pub few : length sent + length (asks now last) ≤ 16
+  pub few : length sent + length (asks node now last) ≤ 16
   pub none : ForSome last GivesNone
-  pub made : calls ≡ requests now sent ++ asks now last
+  pub made : calls ≡ requests node now sent ++ asks node now last
 
 -- Memory was refused, by the core or for the copy of the request that is kept.
 abbrev pub LacksMemory : Result (Option Outgoing) CoreFault → Type 0
@@ -132,11 +132,11 @@ LacksMemory (Err OutOfMemory) = Unit {0}
 LacksMemory (Err fault) = ⊥
 
 -- The same until memory was refused.
-pub record RequestsPartUntil (now : ℕ) (sent : List Outgoing) (calls : List Call) : Type 0 where
+pub record RequestsPartUntil (node now : ℕ) (sent : List Outgoing) (calls : List Call) : Type 0 where
   pub last : Option (Result (Option Outgoing) CoreFault)
-  pub few : length sent + length (asks now last) ≤ 16
+  pub few : length sent + length (asks node now last) ≤ 16
   pub lacking : ForSome last LacksMemory
-  pub made : calls ≡ requests now sent ++ asks now last
+  pub made : calls ≡ requests node now sent ++ asks node now last
 
 -- ---- the fourth part: replies
 
@@ -209,14 +209,14 @@ MailParts (suc n) old calls new =
     × MailParts n old before new × MailPart n (old n) mine (new n)
 
 -- The attempts are dropped, where the turn was cut; and then each sender's part.
-pub record ReportsPart (senders now : ℕ) (cut : Bool) (old : ℕ → Mail) (calls : List Call)
+pub record ReportsPart (senders node now : ℕ) (cut : Bool) (old : ℕ → Mail) (calls : List Call)
     (new : ℕ → Mail) : Type 0 where
   pub of_senders : List Call
   pub parts : MailParts senders old of_senders new
-  pub made : calls ≡ if_so cut (Disconnect now) ++ of_senders
+  pub made : calls ≡ if_so cut (Disconnect node now) ++ of_senders
 
 -- The same until memory was refused: of so many senders' parts the last may be cut short.
-pub record ReportsPartUntil (now : ℕ) (cut : Bool) (old : ℕ → Mail) (calls : List Call)
+pub record ReportsPartUntil (node now : ℕ) (cut : Bool) (old : ℕ → Mail) (calls : List Call)
     (new : ℕ → Mail) : Type 0 where
   pub dropped : Bool
   pub only_cut : IsTrue dropped → IsTrue cut
@@ -224,4 +224,4 @@ pub record ReportsPartUntil (now : ℕ) (cut : Bool) (old : ℕ → Mail) (calls
   pub of_senders : List Call
   pub parts : MailParts senders old of_senders new
   pub later : (k : ℕ) → senders ≤ k → new k ≡ old k
-  pub made : calls ≡ if_so dropped (Disconnect now) ++ of_senders
+  pub made : calls ≡ if_so dropped (Disconnect node now) ++ of_senders

@@ -18,10 +18,10 @@ abbrev pub call_of : Turned → Call
 call_of (turned.Append item fault) = call.Append item (append_answer fault)
 call_of turned.Flush = call.Flush
 call_of turned.Close = call.Close
-call_of (turned.Tick now answer) = call.Tick now answer
-call_of (turned.Request now answer) = call.Request now answer
+call_of (turned.Tick node now answer) = call.Tick node now answer
+call_of (turned.Request node now answer) = call.Request node now answer
 call_of (turned.Reply now content answer) = call.Reply now content answer
-call_of (turned.Disconnect now) = call.Disconnect now
+call_of (turned.Disconnect node now) = call.Disconnect node now
 call_of (turned.Told report) = call.Fetch report.sender (Some report)
 
 -- the calls that are kept, where they are

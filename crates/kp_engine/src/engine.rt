@@ -85,7 +85,7 @@ impl<S: Stream, C: Clock> Engine<S, C> {
             Line::Open(wire) => wire,
         };
         let now = self.clock.now();
-        let polled = turn(&mut self.exchange, wire, cx, now);
+        let polled = turn(&mut self.exchange, wire, cx, 0, now);
         if let Poll::Ready(stop) = &polled {
             self.line = Line::Stopped(*stop);
         }

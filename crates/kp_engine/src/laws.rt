@@ -20,6 +20,7 @@ ghost use Rattle.kp_rules.specs.declared.outgoing.Outgoing.{Outgoing};
 ghost use Rattle.kp_engine.specs.Closing.{ClosesOnce, Polled};
 ghost use Rattle.kp_engine.specs.Engine.{IsNew, Polls};
 ghost use Rattle.kp_engine.specs.Exchange.{senders_of, side_of, OnlyCore};
+ghost use Rattle.kp_engine.specs.Lines.{PollsEach};
 ghost use Rattle.kp_engine.specs.Opening.{MayTurn};
 ghost use Rattle.kp_engine.specs.Parts.{ArePartsOf, IsAccounted};
 ghost use Rattle.kp_engine.specs.Polls.{Turn, Turns, TurnUntil};
@@ -28,6 +29,7 @@ ghost use Rattle.kp_engine.specs.Talking.{contents_of, frames_of};
 ghost use Rattle.kp_engine.specs.Turn.{Heard};
 ghost use Rattle.kp_engine.specs.declared.engine.Line.{Line};
 ghost use Rattle.kp_engine.specs.declared.exchange.Exchange.{Exchange};
+ghost use Rattle.kp_engine.specs.declared.node_line.NodeLine.{NodeLine};
 ghost use Rattle.kp_engine.specs.declared.parts.Parts.{Parts};
 ghost use Rattle.kp_engine.specs.declared.stop.Cause.{Cause};
 ghost use Rattle.kp_engine.specs.declared.stop.Stop.{Stop};
@@ -36,10 +38,21 @@ use kp_connection::Stream;
 
 // ---- polls serve
 
+/// Polls behind polls are polls.
+pub fn polls_join<S: Stream>()
+    ensures { (x y z : Exchange) (a b : List Call) → Polled S.answers x a y → Polled S.answers y b z → Polled S.answers x (a ++ b) z }
+{}
+
+/// A turn for each of several connections is polls, one behind the other.
+pub fn turns_for_each_are_polls<S: Stream>()
+    ensures { (now : ℕ) (x y : Exchange) (ls ms : List (NodeLine S)) (result : Poll Stop)
+        → PollsEach S.answers now x ls result y ms → (calls : List Call) × Polled S.answers x calls y }
+{}
+
 /// A turn serves, whatever it answers: also where it is cut, and where memory is refused.
 pub fn a_turn_serves<S: Stream>()
-    ensures { (now : ℕ) (x : Exchange) (w : Wired S) (result : Poll Stop) (y : Exchange) (v : Wired S)
-        → HasPlaces x → Turns S.answers now x w result y v → (calls : List Call) × Served x calls y }
+    ensures { (node now : ℕ) (x : Exchange) (w : Wired S) (result : Poll Stop) (y : Exchange) (v : Wired S)
+        → HasPlaces x → Turns S.answers node now x w result y v → (calls : List Call) × Served x calls y }
 {}
 
 /// So does a poll; where the connection was given up before, it makes no calls.
@@ -177,15 +190,15 @@ pub fn unmade_parts_account_for_nothing()
 
 /// The requests of a turn are those that its calls on the core gave, and the replies those that the core heard.
 pub fn calls_go_over_the_connection()
-    ensures { (now : ℕ) (x y : Exchange) (sent : List Outgoing) (heard : List Heard)
+    ensures { (node now : ℕ) (x y : Exchange) (sent : List Outgoing) (heard : List Heard)
         (refused : Option (List ℕ × FrameFault)) (cut : Option Cause) (calls : List Call)
-        → Turn now x sent heard refused cut calls y
+        → Turn node now x sent heard refused cut calls y
         → (flat_map asked_by calls ≡ frames_of sent) × (flat_map replied_by calls ≡ contents_of heard) }
 {}
 
 /// Where memory is refused, those that went are the first of them.
 pub fn calls_go_until_memory_is_refused()
-    ensures { (now : ℕ) (x y : Exchange) (sent : List Outgoing) (heard : List Heard) (calls : List Call)
-        → TurnUntil now x y sent heard calls → (more : List (List ℕ)) × (flat_map asked_by calls ≡ frames_of sent ++ more)
+    ensures { (node now : ℕ) (x y : Exchange) (sent : List Outgoing) (heard : List Heard) (calls : List Call)
+        → TurnUntil node now x y sent heard calls → (more : List (List ℕ)) × (flat_map asked_by calls ≡ frames_of sent ++ more)
         × (flat_map replied_by calls ≡ contents_of heard) }
 {}

@@ -1,11 +1,14 @@
-//! The polled engine: the core, the lanes and a connection, turned by a poll.
+//! The polled engine: the core, the lanes and a connection, or one to each of several nodes, turned by a poll.
 #![tactic(auto)]
 
 mod clock;
+mod cluster;
 mod engine;
 mod exchange;
 pub mod laws;
+mod lines;
 mod moves;
+mod node_line;
 mod notes;
 mod parts;
 mod seen;
@@ -14,6 +17,7 @@ mod turn;
 mod turned;
 
 pub use clock::Clock;
+pub use cluster::ClusterEngine;
 pub use engine::Engine;
 pub use moves::Moves;
 pub use parts::{Held, Parts};

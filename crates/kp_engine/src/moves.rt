@@ -87,7 +87,7 @@ impl Moves {
     /// This call was made. A request that goes out has a call of its own.
     pub(crate) fn note(&mut self, call: &Turned) {
         match call {
-            Turned::Tick(now, _) => self.moment = *now,
+            Turned::Tick(_, now, _) => self.moment = *now,
             Turned::Append(_, None) | Turned::Flush | Turned::Close | Turned::Told(_) => {
                 self.note_move();
             }
@@ -97,9 +97,9 @@ impl Moves {
                 self.bytes_heard = self.bytes_heard.saturating_add(content.len() as u64);
             }
             Turned::Append(_, Some(_))
-            | Turned::Request(_, _)
+            | Turned::Request(_, _, _)
             | Turned::Reply(_, _, Err(_))
-            | Turned::Disconnect(_) => {}
+            | Turned::Disconnect(_, _) => {}
         }
     }
 

@@ -83,9 +83,14 @@ impl Notes {
     }
 
     /// Notes that the request goes out: its frame. Where calls are kept, the frame is copied.
-    pub(crate) fn add_request(&mut self, now: u64, request: Outgoing) -> Result<Vec<u8>, AllocError>
+    pub(crate) fn add_request(
+        &mut self,
+        node: u32,
+        now: u64,
+        request: Outgoing,
+    ) -> Result<Vec<u8>, AllocError>
         requires { HasPlace self.old.turn }
-        ensures noted { calls_in self.new.turn ≡ noted (Request now (Ok (Some request)) ∷ []) (calls_in self.old.turn) }
+        ensures noted { calls_in self.new.turn ≡ noted (Request node now (Ok (Some request)) ∷ []) (calls_in self.old.turn) }
         ensures frame { IfOk result (λ frame. frame.items ≡ request.bytes) }
     {
         self.moves.note_request(request.bytes.len());
@@ -93,7 +98,7 @@ impl Notes {
             return Ok(request.bytes.into_vec());
         }
         let copy = Vec::from_slice(self.alloc, request.bytes.as_slice());
-        self.add(Turned::Request(now, Ok(Some(request))));
+        self.add(Turned::Request(node, now, Ok(Some(request))));
         copy
     }
 

@@ -16,15 +16,16 @@ use futures::task::{Context, Poll};
 use kp_connection::{Stream, Wire};
 use std::alloc::AllocError;
 
-/// One turn at this moment: items, and the close; the tick; requests; replies; reports.
+/// One turn for this node at this moment: items, and the close; the tick; requests; replies; reports.
 pub(crate) fn turn<S: Stream>(
     exchange: &mut Exchange,
     wire: &mut Wire<S>,
     cx: &mut Context<'_>,
+    node: u32,
     now: u64,
 ) -> Poll<Stop>
     requires { is_faulty wire.old.held ≡ false }
-    ensures turns { Turns S.answers now exchange.old wire.old result exchange.new wire.new }
+    ensures turns { Turns S.answers node now exchange.old wire.old result exchange.new wire.new }
     ensures undone { GoesOnBehind result → IsUndone exchange.old exchange.new }
     ensures registered { OnPending result (Covers cx.new (S.reader wire.new.stream)) }
     ensures kept { Keeps cx.old cx.new }
@@ -32,13 +33,13 @@ pub(crate) fn turn<S: Stream>(
     let Ok(idle) = exchange.take_items() else {
         return Poll::Ready(Stop::OutOfMemory);
     };
-    let Ok(ticked) = exchange.tick(now) else {
+    let Ok(ticked) = exchange.tick(node, now) else {
         return Poll::Ready(Stop::OutOfMemory);
     };
-    let Ok(cut) = talk(exchange, wire, cx, now, ticked.reconnect) else {
+    let Ok(cut) = talk(exchange, wire, cx, node, now, ticked.reconnect) else {
         return Poll::Ready(Stop::OutOfMemory);
     };
-    let Ok(done) = ending::finish(exchange, cut, idle, now) else {
+    let Ok(done) = ending::finish(exchange, cut, idle, node, now) else {
         return Poll::Ready(Stop::OutOfMemory);
     };
     stop_of(done, cut)
@@ -49,18 +50,19 @@ fn talk<S: Stream>(
     exchange: &mut Exchange,
     wire: &mut Wire<S>,
     cx: &mut Context<'_>,
+    node: u32,
     now: u64,
     late: bool,
 ) -> Result<Option<Cause>, AllocError>
     requires { is_faulty wire.old.held ≡ false }
-    ensures talks { TalksAll S.answers now late exchange.old wire.old result exchange.new wire.new }
+    ensures talks { TalksAll S.answers node now late exchange.old wire.old result exchange.new wire.new }
     ensures registered { IfOk result (λ cut. cut ≡ None → Covers cx.new (S.reader wire.new.stream)) }
     ensures kept { Keeps cx.old cx.new }
 {
     if late {
         return Ok(Some(Cause::TimedOut));
     }
-    match writing::write_requests(exchange, wire, cx, now) {
+    match writing::write_requests(exchange, wire, cx, node, now) {
         Err(refused) => Err(refused),
         Ok(false) => Ok(Some(Cause::Io)),
         Ok(true) => hearing::listen(exchange, wire, cx, now),

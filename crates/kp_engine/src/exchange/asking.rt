@@ -15,15 +15,15 @@ use kp_wire::Blob;
 use std::alloc::AllocError;
 
 impl Exchange {
-    /// Asks for the next request: its frame, or None where none is to go out now.
-    pub(crate) fn next_frame(&mut self, now: u64) -> Result<Option<Vec<u8>>, AllocError>
-        ensures asks { AsksOne now self.old result self.new }
+    /// Asks for the next request to this node: its frame, or None where none is to go out now.
+    pub(crate) fn next_frame(&mut self, node: u32, now: u64) -> Result<Option<Vec<u8>>, AllocError>
+        ensures asks { AsksOne node now self.old result self.new }
         ensures same { OnlyCore self.old self.new }
     {
         let Ok(()) = self.notes.reserve() else {
             return Err(AllocError);
         };
-        match self.request(now) {
+        match self.request(node, now) {
             Ok(None) => Ok(None),
             Ok(Some(frame)) => match frame {
                 Ok(frame) => Ok(Some(frame)),
@@ -37,19 +37,23 @@ impl Exchange {
     }
 
     /// Asks for the next request: its frame, or that there was no room for the copy of it that is kept.
-    fn request(&mut self, now: u64) -> Result<Option<Result<Vec<u8>, AllocError>>, CoreFault>
+    fn request(
+        &mut self,
+        node: u32,
+        now: u64,
+    ) -> Result<Option<Result<Vec<u8>, AllocError>>, CoreFault>
         requires { HasPlace self.old.notes.turn }
-        ensures runs { Requested now self.old result self.new }
+        ensures runs { Requested node now self.old result self.new }
         ensures same { OnlyCore self.old self.new }
     {
-        match self.core.next_request(now) {
-            Ok(Some(request)) => Ok(Some(self.notes.add_request(now, request))),
+        match self.core.next_request(node, now) {
+            Ok(Some(request)) => Ok(Some(self.notes.add_request(node, now, request))),
             Ok(None) => {
-                self.notes.add(Turned::Request(now, Ok(None)));
+                self.notes.add(Turned::Request(node, now, Ok(None)));
                 Ok(None)
             }
             Err(fault) => {
-                self.notes.add(Turned::Request(now, Err(fault)));
+                self.notes.add(Turned::Request(node, now, Err(fault)));
                 Err(fault)
             }
         }

@@ -15,29 +15,29 @@ use kp_core::Ticked;
 use std::alloc::AllocError;
 
 impl Exchange {
-    pub(crate) fn tick(&mut self, now: u64) -> Result<Ticked, AllocError>
-        ensures ok { IfOk result (λ ticked. Runs self.old (Tick now ticked ∷ []) self.new) }
+    pub(crate) fn tick(&mut self, node: u32, now: u64) -> Result<Ticked, AllocError>
+        ensures ok { IfOk result (λ ticked. Runs self.old (Tick node now ticked ∷ []) self.new) }
         ensures err { OnErr result (Runs self.old [] self.new) }
         ensures same { OnlyCore self.old self.new }
     {
         let Ok(()) = self.notes.reserve() else {
             return Err(AllocError);
         };
-        let ticked = self.core.tick(now);
-        self.notes.add(Turned::Tick(now, ticked));
+        let ticked = self.core.tick(node, now);
+        self.notes.add(Turned::Tick(node, now, ticked));
         Ok(ticked)
     }
 
-    pub(crate) fn disconnect(&mut self, now: u64) -> Result<(), AllocError>
-        ensures ok { OnOk result (Runs self.old (Disconnect now ∷ []) self.new) }
+    pub(crate) fn disconnect(&mut self, node: u32, now: u64) -> Result<(), AllocError>
+        ensures ok { OnOk result (Runs self.old (Disconnect node now ∷ []) self.new) }
         ensures err { OnErr result (Runs self.old [] self.new) }
         ensures same { OnlyCore self.old self.new }
     {
         let Ok(()) = self.notes.reserve() else {
             return Err(AllocError);
         };
-        self.core.on_disconnect(now);
-        self.notes.add(Turned::Disconnect(now));
+        self.core.on_disconnect(node, now);
+        self.notes.add(Turned::Disconnect(node, now));
         Ok(())
     }
 

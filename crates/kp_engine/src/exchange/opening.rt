@@ -4,7 +4,7 @@ ghost use Rattle.std.specs.Prelude.{◌≡◌, ◌+◌, ◌≤◌, [], Some, Non
 ghost use Rattle.std.specs.List.{flat_map};
 ghost use Rattle.std.specs.Option.{option_copied};
 ghost use Rattle.std.specs.Str.{IsUtf8};
-ghost use Rattle.kp_rules.specs.Calls.{End, Step};
+ghost use Rattle.kp_rules.specs.Calls.{End, Lead, Step};
 ghost use Rattle.kp_engine.specs.Engine.{Cleared};
 ghost use Rattle.kp_engine.specs.Exchange.{OnlyCore};
 ghost use Rattle.kp_engine.specs.Opening.{MayTurn};
@@ -80,6 +80,14 @@ impl Exchange {
         ensures same { OnlyCore self.old self.new × (self.new.notes ≡ self.old.notes) }
     {
         self.core.end()
+    }
+
+    /// This node leads the partition from now on.
+    pub(crate) fn lead(&mut self, partition: u32, node: u32, now: u64)
+        ensures step { Step self.old.core (Lead partition node now) self.new.core }
+        ensures same { OnlyCore self.old self.new × (self.new.notes ≡ self.old.notes) }
+    {
+        self.core.lead(partition, node, now);
     }
 
     /// The core and the lanes' end, with what is held between them.

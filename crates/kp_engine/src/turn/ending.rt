@@ -18,12 +18,13 @@ pub(crate) fn finish(
     exchange: &mut Exchange,
     cut: Option<Cause>,
     idle: bool,
+    node: u32,
     now: u64,
 ) -> Result<bool, AllocError>
-    ensures finishes { Finishes now cut idle exchange.old result exchange.new }
+    ensures finishes { Finishes node now cut idle exchange.old result exchange.new }
     ensures only { OnlyMails exchange.old exchange.new }
 {
-    let Ok(()) = drop_if_cut(exchange, cut, now) else {
+    let Ok(()) = drop_if_cut(exchange, cut, node, now) else {
         return Err(AllocError);
     };
     match exchange.send_all() {
@@ -33,14 +34,19 @@ pub(crate) fn finish(
 }
 
 /// Drops the attempts, where the turn was cut.
-fn drop_if_cut(exchange: &mut Exchange, cut: Option<Cause>, now: u64) -> Result<(), AllocError>
-    ensures ok { OnOk result (Runs exchange.old (if_so (is_cut cut) (Disconnect now)) exchange.new) }
+fn drop_if_cut(
+    exchange: &mut Exchange,
+    cut: Option<Cause>,
+    node: u32,
+    now: u64,
+) -> Result<(), AllocError>
+    ensures ok { OnOk result (Runs exchange.old (if_so (is_cut cut) (Disconnect node now)) exchange.new) }
     ensures err { OnErr result (Runs exchange.old [] exchange.new) }
     ensures same { OnlyCore exchange.old exchange.new }
 {
     match cut {
         None => Ok(()),
-        Some(_) => exchange.disconnect(now),
+        Some(_) => exchange.disconnect(node, now),
     }
 }
 

@@ -18,9 +18,10 @@ pub(crate) fn write_requests<S: Stream>(
     exchange: &mut Exchange,
     wire: &mut Wire<S>,
     cx: &mut Context<'_>,
+    node: u32,
     now: u64,
 ) -> Result<bool, AllocError>
-    ensures writes { WritesAll S.answers now exchange.old wire.old result exchange.new wire.new }
+    ensures writes { WritesAll S.answers node now exchange.old wire.old result exchange.new wire.new }
     ensures kept { Keeps cx.old cx.new }
 {
     for _ in 0..MOST_REQUESTS {
@@ -29,7 +30,7 @@ pub(crate) fn write_requests<S: Stream>(
             Poll::Ready(Err(_)) => return Ok(false),
             Poll::Ready(Ok(())) => {}
         }
-        match exchange.next_frame(now) {
+        match exchange.next_frame(node, now) {
             Err(refused) => return Err(refused),
             Ok(None) => return Ok(true),
             Ok(Some(frame)) => wire.send(frame),

@@ -1,0 +1,128 @@
+//! The engine over several connections.
+
+ghost use Rattle.std.specs.Prelude.{◌≡◌, [], false, IfOk, IfErr, OnErr, OnOk};
+ghost use Rattle.std.specs.List.{AllByRecursion};
+ghost use Rattle.futures.specs.Poll.{OnPending};
+ghost use Rattle.futures.specs.Task.{Covers, Keeps};
+ghost use Rattle.kp_rules.specs.Calls.{End, Step};
+ghost use Rattle.kp_engine.specs.Cluster.{LeadsNow, PollsCluster};
+ghost use Rattle.kp_engine.specs.Engine.{IfOpen, IsNew};
+ghost use Rattle.kp_engine.specs.Exchange.{OnlyCore};
+ghost use Rattle.kp_engine.specs.Lines.{Connects, stop_at};
+ghost use Rattle.kp_engine.specs.Opening.{MayTurn};
+ghost use Rattle.kp_engine.specs.Parts.{ArePartsOf};
+
+use crate::clock::Clock;
+use crate::exchange::Exchange;
+use crate::lines::{given_up, poll_lines};
+use crate::node_line::NodeLine;
+use crate::parts::Parts;
+use crate::stop::Stop;
+use futures::task::{Context, Poll};
+use kp_connection::Stream;
+use kp_core::Core;
+use kp_lanes::Intake;
+use std::alloc::Global;
+
+/// A core, the lanes that it serves, and connections, each to a node. Each poll makes a turn for each of them.
+#[derive(Drop)]
+pub struct ClusterEngine<S, C> {
+    alloc: Global,
+    exchange: Exchange,
+    clock: C,
+    lines: Vec<NodeLine<S>>,
+}
+
+impl<S: Stream, C: Clock> ClusterEngine<S, C> {
+    /// An engine over a fresh core and fresh lanes, that is connected to no node yet. Where memory is refused, the values
+    /// come back.
+    pub fn new(
+        alloc: Global,
+        core: Core,
+        intake: Intake,
+        clock: C,
+    ) -> Result<ClusterEngine<S, C>, (Core, Intake, C)>
+        requires { MayTurn core intake }
+        ensures made { IfOk result (λ e. IsNew core intake false e.exchange) }
+        ensures lines { IfOk result (λ e. e.lines.items ≡ []) }
+        ensures clock { IfOk result (λ e. e.clock ≡ clock) }
+        ensures back { IfErr result (λ given. given ≡ (core, intake, clock)) }
+    {
+        match Exchange::new(alloc, core, intake, false) {
+            Ok(exchange) => Ok(ClusterEngine {
+                alloc,
+                exchange,
+                clock,
+                lines: Vec::new(alloc),
+            }),
+            Err((core, intake)) => Err((core, intake, clock)),
+        }
+    }
+
+    /// Goes on over this stream to the node: also in place of a connection to it that was given up. Where memory is refused
+    /// the stream comes back, and nothing has changed.
+    pub fn connect(&mut self, node: u32, stream: S) -> Result<(), S>
+        ensures lines { OnOk result (Connects node stream self.old.lines.items self.new.lines.items) }
+        ensures same { (self.new.exchange ≡ self.old.exchange) × (self.new.clock ≡ self.old.clock) }
+        ensures back { IfErr result (λ given. given ≡ stream) }
+        ensures unchanged { OnErr result (self.new.lines.items ≡ self.old.lines.items) }
+    {
+        if self.lines.reserve(1).is_err() {
+            return Err(stream);
+        }
+        self.lines.retain(|line| !line.is_given_up(node));
+        self.lines
+            .push_reserved(NodeLine::new(self.alloc, node, stream));
+        Ok(())
+    }
+
+    /// This node leads the partition from now on: its batches go there. Where there is no such partition nothing changes.
+    pub fn lead(&mut self, partition: u32, node: u32)
+        ensures { LeadsNow C.moments partition node self.old self.new }
+    {
+        let now = self.clock.now();
+        self.exchange.lead(partition, node, now);
+    }
+
+    /// A turn for each connection that was not given up, in the order in which they were made. Ready where nothing is left to
+    /// do, or memory was refused; behind a pending one `stopped` tells which nodes need a stream.
+    pub fn poll_turns(&mut self, cx: &mut Context<'_>) -> Poll<Stop>
+        ensures polls { PollsCluster S.answers C.moments self.old result self.new }
+        ensures registered { OnPending result (AllByRecursion (λ l. IfOpen l.line (λ wire. Covers cx.new (S.reader wire.stream))) self.new.lines.items) }
+        ensures kept { Keeps cx.old cx.new }
+    {
+        let now = self.clock.now();
+        poll_lines(&mut self.exchange, &mut self.lines, cx, now)
+    }
+
+    /// What a connection to this node was given up for, where one was and no stream was given since.
+    pub fn stopped(&self, node: u32) -> Option<Stop>
+        ensures { result ≡ stop_at node self.now.lines.items }
+    {
+        given_up(&self.lines, node)?.stopped()
+    }
+
+    /// The core.
+    pub fn core(&self) -> &Core
+        ensures { result.now ≡ self.now.exchange.core }
+    {
+        &self.exchange.core
+    }
+
+    /// Gives up all that is left: how many items were told of.
+    pub fn end(&mut self) -> usize
+        ensures step { Step self.old.exchange.core (End result) self.new.exchange.core }
+        ensures only { OnlyCore self.old.exchange self.new.exchange × (self.new.exchange.notes ≡ self.old.exchange.notes) }
+        ensures same { (self.new.lines.items ≡ self.old.lines.items) × (self.new.clock ≡ self.old.clock) }
+    {
+        self.exchange.end()
+    }
+
+    /// The core, the lanes' end and what is held between them.
+    pub fn into_parts(self) -> Parts
+        ensures { ArePartsOf self.exchange result }
+    {
+        let ClusterEngine { exchange, .. } = self;
+        exchange.into_parts()
+    }
+}
