@@ -74,11 +74,12 @@ same_accepted (x ∷ xs) o = same_accepted xs _
 call_accepts : (s : Core) (c : Call) (o : Outside) → (called s c o).accepted ≡ o.accepted
 call_accepts s (call.Append i (Ok done)) o = refl
 call_accepts s (call.Append i (Err refusal)) o = refl
-call_accepts s (call.Request now (Ok answer)) o = same_accepted (packets_by s (call.Request now (Ok answer))) o
-call_accepts s (call.Request now (Err refusal)) o = refl
+call_accepts s (call.Request node now (Ok answer)) o = same_accepted (packets_by s (call.Request node now (Ok answer))) o
+call_accepts s (call.Request node now (Err refusal)) o = refl
 call_accepts s (call.Reply now content answer) o = refl
-call_accepts s (call.Tick now answer) o = refl
-call_accepts s (call.Disconnect now) o = refl
+call_accepts s (call.Tick node now answer) o = refl
+call_accepts s (call.Disconnect node now) o = refl
+call_accepts s (call.Lead p leader now) o = refl
 call_accepts s call.Close o = refl
 call_accepts s call.Flush o = refl
 call_accepts s (call.End reports) o = refl

@@ -47,11 +47,12 @@ takes n s (call.Append i (Ok done)) o near = record {
   wide = length-set o.taken i.sender (slice_index o.taken i.sender + 1);
 }
 takes n s (call.Append i (Err refusal)) o near = none_taken n o.taken _ refl
-takes n s (call.Request now (Ok answer)) o near = none_taken n o.taken _ (same_taken (packets_by s (call.Request now (Ok answer))) o)
-takes n s (call.Request now (Err refusal)) o near = none_taken n o.taken _ refl
+takes n s (call.Request node now (Ok answer)) o near = none_taken n o.taken _ (same_taken (packets_by s (call.Request node now (Ok answer))) o)
+takes n s (call.Request node now (Err refusal)) o near = none_taken n o.taken _ refl
 takes n s (call.Reply now content answer) o near = none_taken n o.taken _ refl
-takes n s (call.Tick now answer) o near = none_taken n o.taken _ refl
-takes n s (call.Disconnect now) o near = none_taken n o.taken _ refl
+takes n s (call.Tick node now answer) o near = none_taken n o.taken _ refl
+takes n s (call.Disconnect node now) o near = none_taken n o.taken _ refl
+takes n s (call.Lead p leader now) o near = none_taken n o.taken _ refl
 takes n s call.Close o near = none_taken n o.taken _ refl
 takes n s call.Flush o near = none_taken n o.taken _ refl
 takes n s (call.End reports) o near = none_taken n o.taken _ refl

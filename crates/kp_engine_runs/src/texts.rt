@@ -30,8 +30,17 @@ fn put_report(text: &mut String, word: &str, report: &Report) -> Result<(), Allo
     write!(text, " {:?}", report.outcome)
 }
 
-fn put_tick(text: &mut String, now: u64, ticked: Ticked) -> Result<(), AllocError> {
+/// Adds the node of a call, where it is another one than node 0.
+fn put_node(text: &mut String, node: u32) -> Result<(), AllocError> {
+    if node == 0 {
+        return Ok(());
+    }
+    write!(text, " of node {node}")
+}
+
+fn put_tick(text: &mut String, node: u32, now: u64, ticked: Ticked) -> Result<(), AllocError> {
     write!(text, "tick {now}")?;
+    put_node(text, node)?;
     if ticked.reports > 0 {
         write!(text, " tells {}", ticked.reports)?;
     }
@@ -48,13 +57,15 @@ fn put_call(text: &mut String, call: &Turned) -> Result<(), AllocError> {
         }
         Turned::Flush => text.push_str("flush"),
         Turned::Close => text.push_str("close"),
-        Turned::Tick(now, ticked) => put_tick(text, *now, *ticked),
-        Turned::Request(now, Ok(Some(sent))) => write!(
-            text,
-            "request {} at {now}",
-            sent.correlation
-        ),
-        Turned::Request(now, Ok(None)) => write!(text, "idle at {now}"),
+        Turned::Tick(node, now, ticked) => put_tick(text, *node, *now, *ticked),
+        Turned::Request(node, now, Ok(Some(sent))) => {
+            write!(text, "request {} at {now}", sent.correlation)?;
+            put_node(text, *node)
+        }
+        Turned::Request(node, now, Ok(None)) => {
+            write!(text, "idle at {now}")?;
+            put_node(text, *node)
+        }
         Turned::Reply(now, content, Ok(replied)) => {
             let what = if replied.known { "reply" } else { "stale" };
             let correlation = read_i32(content.as_slice()).map_or(-1, |(id, _)| id);
@@ -64,10 +75,13 @@ fn put_call(text: &mut String, call: &Turned) -> Result<(), AllocError> {
                 replied.reports
             )
         }
-        Turned::Request(now, Err(fault)) | Turned::Reply(now, _, Err(fault)) => {
+        Turned::Request(_, now, Err(fault)) | Turned::Reply(now, _, Err(fault)) => {
             write!(text, "{fault:?} at {now}")
         }
-        Turned::Disconnect(now) => write!(text, "disconnect at {now}"),
+        Turned::Disconnect(node, now) => {
+            write!(text, "disconnect at {now}")?;
+            put_node(text, *node)
+        }
         Turned::Told(report) => put_report(text, "told ", report),
     }
 }

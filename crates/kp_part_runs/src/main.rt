@@ -12,6 +12,7 @@ use crate::given::{flags_of, item_of, value_of};
 use kp_accum::{Accum, Budget, Config, Pending, Queue};
 use kp_cases::{Player, StepFault, Words, play_files};
 use kp_parts::Partition;
+use kp_rules::{ErrorCode, meaning_of};
 use std::alloc::Global;
 use std::io;
 use std::process::ExitCode;
@@ -69,10 +70,20 @@ impl Player for PartPlayer {
             "data" => self.tell_data(words, came)?,
             "produce" => self.tell_request(words, came)?,
             "init-producer-id" => self.tell_id_request(words, came)?,
+            "code" => tell_code(words.number()?, came)?,
             _ => return Err(StepFault::NotUnderstood),
         }
         Ok(())
     }
+}
+
+/// What Kafka calls an error code, where the list has it, and what it means for a batch.
+fn tell_code(number: i16, came: &mut String) -> Played {
+    match ErrorCode::of(number) {
+        None => write!(came, "none {:?}", meaning_of(number))?,
+        Some(code) => write!(came, "{} {:?}", code.name, code.meaning)?,
+    }
+    Ok(())
 }
 
 fn main(rt: HostRuntime) -> io::Result<ExitCode> {

@@ -4,17 +4,19 @@ use Rattle.std.specs.Prelude.{Bool, Option, Some, None, Result, Ok, Err, flat_ma
 use Rattle.std.specs.List.{AllByRecursion, concat}
 use Rattle.std.specs.Str.{IsUtf8}
 use Rattle.std.proofs.lemmas.List.Folds.{concat-append}
+use Rattle.std.proofs.lemmas.List.Concat.{flat_map-append}
 use Rattle.kp_accum.specs.declared.config.Config.{Config}
 use Rattle.kp_connection.specs.Answers.{Answer, gone}
 use Rattle.kp_connection.specs.Wire.{Told, Wired}
 use Rattle.kp_connection.proofs.WireLemmas.{Stops-first}
 use Rattle.kp_engine.specs.Closing.{Polled, calls_of_poll}
 use Rattle.kp_engine.specs.Engine.{fresh_wire}
-use Rattle.kp_engine.specs.Serving.{Served, asked_by, replied_by}
+use Rattle.kp_engine.specs.Serving.{HasPlaces, Served, asked_by, replied_by}
 use Rattle.kp_engine.specs.declared.engine.Line.{Line}
 use Rattle.kp_engine.specs.declared.engine.Line.TheVariants.{Open}
 use Rattle.kp_engine.specs.declared.exchange.Exchange.{Exchange}
-use Rattle.kp_engine.proofs.ClosingLemmas.{polls_serve}
+use Rattle.kp_engine.proofs.ClosingLemmas.{polls_serve, polls_then}
+use Rattle.kp_engine.proofs.ServedLemmas.{poll_serves_its}
 use Rattle.kp_frames.specs.declared.frame.TheConstants.{CONTENT_LIMIT}
 use Rattle.kp_frames.specs.Stream.{Split, at_most, frame, stream}
 use Rattle.kp_frames.proofs.StreamLemmas.{passes_spelled, stream_more}
@@ -30,10 +32,11 @@ use Rattle.kp_rules.specs.Opening.{new_core}
 use Rattle.kp_rules.specs.Records.{Core}
 use Rattle.kp_rules.specs.Requesting.{Packet, request_step}
 use Rattle.kp_rules.proofs.FittingLemmas.{request_fits}
+use Rattle.kp_rules.proofs.LeadingOnLemmas.{led_on}
 use Rattle.kp_rules.proofs.OrderedCallLemmas.{kept, new_in_order, order_unaudited}
 use Rattle.kp_world.specs.Run.{MayBegin}
 use Rattle.kp_world.specs.World.{Opening}
-use Rattle.kp_polls.specs.Bytes.{AreWritten, GoesOnOver, GoesOver, OverStream}
+use Rattle.kp_polls.specs.Bytes.{Among, AreWritten, GoesOnOver, GoesOver, OverStream, SentOver}
 use Rattle.kp_polls.specs.Polling.{Polling, core_of}
 use Rattle.kp_polls.proofs.AroundLemmas.{served}
 use Rattle.kp_polls.proofs.NameLemmas.{SameNames, same_names}
@@ -70,29 +73,30 @@ bytes_in (Ok (Some request)) = request.bytes
 bytes_in (Ok None) = []
 bytes_in (Err fault) = []
 
-out_framed : (now : ℕ) (s : Core) (request : Outgoing) → IsInOrder s → (r : Result (Option Packet) CoreFault) → (request_step now s).answer ≡ r
+out_framed : (node now : ℕ) (s : Core) (request : Outgoing) → IsInOrder s → (r : Result (Option Packet) CoreFault) → (request_step node now s).answer ≡ r
     → answered_as s r ≡ Ok (Some request) → AreFrames s.config s.names (request.bytes ∷ []) (packet_in r)
 unfolding bytes_in frame
-out_framed now s request h (Ok (Some packet)) is answer = record {
+out_framed node now s request h (Ok (Some packet)) is answer = record {
   are = ap (λ (bytes : List ℕ). bytes ∷ []) (sym (ap bytes_in answer));
-  fit = ((request_fits now s packet h is).content, tt);
+  fit = ((request_fits node now s packet h is).content, tt);
 }
-out_framed now s request h (Ok None) is answer = absurd cc
-out_framed now s request h (Err fault) is answer = absurd cc
+out_framed node now s request h (Ok None) is answer = absurd cc
+out_framed node now s request h (Err fault) is answer = absurd cc
 
-none_out : (now : ℕ) (s : Core) (r : Result (Option Packet) CoreFault) → answered_as s r ≡ Ok None → AreFrames s.config s.names [] (packet_in r)
-none_out now s (Ok (Some packet)) answer = absurd cc
-none_out now s (Ok None) answer = none_framed s.config s.names
-none_out now s (Err fault) answer = none_framed s.config s.names
+none_out : (node now : ℕ) (s : Core) (r : Result (Option Packet) CoreFault) → answered_as s r ≡ Ok None → AreFrames s.config s.names [] (packet_in r)
+none_out node now s (Ok (Some packet)) answer = absurd cc
+none_out node now s (Ok None) answer = none_framed s.config s.names
+none_out node now s (Err fault) answer = none_framed s.config s.names
 
 call_framed : (s t : Core) (c : Call) → IsInOrder s → Step s c t → AreFrames s.config s.names (asked_by c) (packets_by s c)
-call_framed s t (call.Request now (Ok (Some request))) h x = out_framed now s request h (request_step now s).answer refl x.0
-call_framed s t (call.Request now (Ok None)) h x = none_out now s (request_step now s).answer x.0
-call_framed s t (call.Request now (Err fault)) h x = none_framed s.config s.names
+call_framed s t (call.Request node now (Ok (Some request))) h x = out_framed node now s request h (request_step node now s).answer refl x.0
+call_framed s t (call.Request node now (Ok None)) h x = none_out node now s (request_step node now s).answer x.0
+call_framed s t (call.Request node now (Err fault)) h x = none_framed s.config s.names
 call_framed s t (call.Append i answer) h x = none_framed s.config s.names
 call_framed s t (call.Reply now content answer) h x = none_framed s.config s.names
-call_framed s t (call.Tick now answer) h x = none_framed s.config s.names
-call_framed s t (call.Disconnect now) h x = none_framed s.config s.names
+call_framed s t (call.Tick node now answer) h x = none_framed s.config s.names
+call_framed s t (call.Disconnect node now) h x = none_framed s.config s.names
+call_framed s t (call.Lead p leader now) h x = none_framed s.config s.names
 call_framed s t call.Close h x = none_framed s.config s.names
 call_framed s t call.Flush h x = none_framed s.config s.names
 call_framed s t (call.End reports) h x = none_framed s.config s.names
@@ -193,54 +197,117 @@ unfolding new_core without_audits
 new_names o true = refl
 new_names o false = refl
 
-over_polls : {S : Type 0} (answers : Told S) (first : Exchange) (calls : List Call) (given : S) (x : Exchange) (more : List Call) (xs : List Answer) (y : Exchange) (line : Line S)
-    → Polled answers first calls x → OverStream answers given x more xs y line → Polled answers first (calls ++ more) y
-over_polls answers first calls given x _ _ _ _ p OverStream.not_yet = subst (λ (cs : List Call). Polled answers first cs x) (sym (append-nil calls)) p
-over_polls answers first calls given x _ _ _ _ p (OverStream.once_more y z more xs line left result before poll) =
+over_polls : {S : Type 0} (answers : Told S) (first : Exchange) (calls : List Call) (given : S) (x : Exchange) (more mine : List Call) (xs : List Answer) (y : Exchange) (line : Line S)
+    → Polled answers first calls x → OverStream answers given x more mine xs y line → Polled answers first (calls ++ more) y
+over_polls answers first calls given x _ _ _ _ _ p OverStream.not_yet = subst (λ (cs : List Call). Polled answers first cs x) (sym (append-nil calls)) p
+over_polls answers first calls given x _ _ _ _ _ p (OverStream.once_more y z more mine xs line left result before poll) =
     subst (λ (cs : List Call). Polled answers first cs z) (append_assoc calls more (calls_of_poll answers line y result z left poll))
-    (Polled.once_more y z (calls ++ more) line left result (over_polls answers first calls given x more xs y line p before) poll)
-over_polls answers first calls given x _ _ _ _ p (OverStream.ended y z more xs line told before step only) =
-    subst (λ (cs : List Call). Polled answers first cs z) (append_assoc calls more (call.End told ∷ []))
-    (Polled.ended y z (calls ++ more) told (over_polls answers first calls given x more xs y line p before) step only)
+    (Polled.once_more y z (calls ++ more) line left result (over_polls answers first calls given x more mine xs y line p before) poll)
+over_polls answers first calls given x _ _ _ _ _ p (OverStream.meanwhile y z more mine others xs line before polled) =
+    subst (λ (cs : List Call). Polled answers first cs z) (append_assoc calls more others)
+    (polls_then answers first y z (calls ++ more) others (over_polls answers first calls given x more mine xs y line p before) polled)
 
-alone_polled : {S : Type 0} (answers : Told S) (given : S) (x : Exchange) (more : List Call) (xs : List Answer) (y : Exchange) (line : Line S)
-    → OverStream answers given x more xs y line → Polled answers x more y
-alone_polled answers given x more xs y line over = over_polls answers x [] given x more xs y line Polled.not_yet over
+-- ---- some packets among others
+
+among_none : {A : Type 0} (ys : List A) → Among [] ys
+among_none [] = Among.none
+among_none (y ∷ ys) = Among.passed y [] ys (among_none ys)
+
+among_all : {A : Type 0} (ys : List A) → Among ys ys
+among_all [] = Among.none
+among_all (y ∷ ys) = Among.taken y ys ys (among_all ys)
+
+among_both : {A : Type 0} (xs ys zs : List A) → Among xs ys → Among (xs ++ zs) (ys ++ zs)
+among_both _ _ zs Among.none = among_all zs
+among_both _ _ zs (Among.taken x xs ys h) = Among.taken x (xs ++ zs) (ys ++ zs) (among_both xs ys zs h)
+among_both _ _ zs (Among.passed y xs ys h) = Among.passed y (xs ++ zs) (ys ++ zs) (among_both xs ys zs h)
+
+among_more : {A : Type 0} (xs ys zs : List A) → Among xs ys → Among xs (ys ++ zs)
+among_more _ _ zs Among.none = among_none zs
+among_more _ _ zs (Among.taken x xs ys h) = Among.taken x xs (ys ++ zs) (among_more xs ys zs h)
+among_more _ _ zs (Among.passed y xs ys h) = Among.passed y xs (ys ++ zs) (among_more xs ys zs h)
+
+-- The frames of a stream's own calls are those of some of the packets that went out.
+record FramedOver (c : Config) (names : Names) (x : Exchange) (calls mine : List Call) (y : Exchange) : Type 0 where
+  life : Life
+  lives : Lives x.core calls life y.core
+  places : HasPlaces y
+  packets : List Packet
+  among : Among packets life.packets
+  frames : AreFrames c names (flat_map asked_by mine) packets
+  config : y.core.config ≡ c
+  named : y.core.names ≡ names
+  order : IsInOrder y.core
+
+module _ (c : Config) (names : Names) (x y z : Exchange) (calls mine its : List Call) (p : FramedOver c names x calls mine y) (s : Served y its z) where
+  its_framed : Framed c names its s.life.packets z.core
+  its_framed =
+      subst (λ (n : Names). Framed c n its s.life.packets z.core) p.named
+      (subst (λ (g : Config). Framed g y.core.names its s.life.packets z.core) p.config (calls_framed y.core its s.life z.core s.lives s.held p.order))
+
+  mine_then : FramedOver c names x (calls ++ its) (mine ++ its) z
+  mine_then = record {
+    life = call.followed_by p.life s.life;
+    lives = led_on x.core y.core z.core calls its p.life s.life p.lives s.lives;
+    places = s.places;
+    packets = p.packets ++ s.life.packets;
+    among = among_both p.packets p.life.packets s.life.packets p.among;
+    frames = subst (λ (fs : List (List ℕ)). AreFrames c names fs (p.packets ++ s.life.packets)) (sym (flat_map-append asked_by mine its))
+        (framed_then c names (flat_map asked_by mine) (flat_map asked_by its) p.packets s.life.packets p.frames its_framed.frames);
+    config = its_framed.config;
+    named = its_framed.named;
+    order = its_framed.order;
+  }
+
+  others_then : FramedOver c names x (calls ++ its) mine z
+  others_then = record {
+    life = call.followed_by p.life s.life;
+    lives = led_on x.core y.core z.core calls its p.life s.life p.lives s.lives;
+    places = s.places;
+    packets = p.packets;
+    among = among_more p.packets p.life.packets s.life.packets p.among;
+    frames = p.frames;
+    config = its_framed.config;
+    named = its_framed.named;
+    order = its_framed.order;
+  }
+
+over_framed : {S : Type 0} (answers : Told S) (c : Config) (names : Names) (given : S) (x : Exchange) (calls mine : List Call) (xs : List Answer) (y : Exchange) (line : Line S)
+    → HasPlaces x → x.core.config ≡ c → x.core.names ≡ names → IsInOrder x.core → OverStream answers given x calls mine xs y line → FramedOver c names x calls mine y
+over_framed answers c names given x _ _ _ _ _ places config named order OverStream.not_yet =
+    let stays : Served x [] x = polls_serve answers x x [] places Polled.not_yet in
+    record { life = stays.life; lives = stays.lives; places = places; packets = []; among = among_none stays.life.packets; frames = none_framed c names; config = config; named = named; order = order }
+over_framed answers c names given x _ _ _ _ _ places config named order (OverStream.once_more y z calls mine xs line left result before poll) =
+    let p : FramedOver c names x calls mine y = over_framed answers c names given x calls mine xs y line places config named order before in
+    mine_then c names x y z calls mine (calls_of_poll answers line y result z left poll) p (poll_serves_its answers line y result z left p.places poll)
+over_framed answers c names given x _ _ _ _ _ places config named order (OverStream.meanwhile y z calls mine others xs line before polled) =
+    let p : FramedOver c names x calls mine y = over_framed answers c names given x calls mine xs y line places config named order before in
+    others_then c names x y z calls mine others p (polls_serve answers y z others p.places polled)
 
 module _ {S : Type 0} (answers : Told S) (nothing : (s : S) → answers s [] s)
     (in_order : (a : S) (xs : List Answer) (b : S) (ys : List Answer) (c : S) → answers a xs b → answers b ys c → answers a (xs ++ ys) c) where
-  -- the core was run over these calls, and the frames that they asked for are those of its packets
-  record WasRun (o : Opening) (x : Exchange) (more : List Call) (y : Exchange) : Type 0 where
-    life : Life
-    lives : Lives x.core more life y.core
-    frames : AreFrames o.config o.names (flat_map asked_by more) life.packets
-
-  was_run : (o : Opening) (calls : List Call) (x : Exchange) (given : S) (more : List Call) (xs : List Answer) (y : Exchange) (line : Line S)
-      → Polling answers o calls x → OverStream answers given x more xs y line → WasRun o x more y
-  was_run o calls x given more xs y line p over =
+  framed_over : (o : Opening) (calls : List Call) (x : Exchange) (given : S) (more mine : List Call) (xs : List Answer) (y : Exchange) (line : Line S)
+      → Polling answers o calls x → OverStream answers given x more mine xs y line → FramedOver o.config o.names x more mine y
+  framed_over o calls x given more mine xs y line p over =
       let before : Served p.first calls x = served answers o calls x p in
-      let later : Served x more y = polls_serve answers x y more before.places (alone_polled answers given x more xs y line over) in
       let config_is : (core_of o).config ≡ o.config = new_config o o.audits in
       let names_are : (core_of o).names ≡ o.names = new_names o o.audits in
       let order : IsInOrder p.first.core = subst IsInOrder (sym p.is_new.core)
       (core_in_order o o.audits p.may_begin (subst IsUtf8 (ap (λ (n : Names). n.topic) names_are) p.is_new.topic) (subst IsUtf8 (ap (λ (n : Names). n.client) names_are) p.is_new.client)) in
       let first : Framed p.first.core.config p.first.core.names calls before.life.packets x.core = calls_framed p.first.core calls before.life x.core before.lives before.held order in
-      let second : Framed x.core.config x.core.names more later.life.packets y.core = calls_framed x.core more later.life y.core later.lives later.held first.order in
       let config : x.core.config ≡ o.config = first.config ∙ ap (λ (s : Core). s.config) p.is_new.core ∙ config_is in
       let names : x.core.names ≡ o.names = first.named ∙ ap (λ (s : Core). s.names) p.is_new.core ∙ names_are in
-      record {
-        life = later.life;
-        lives = later.lives;
-        frames = subst (λ (n : Names). AreFrames o.config n (flat_map asked_by more) later.life.packets) names
-            (subst (λ (g : Config). AreFrames g x.core.names (flat_map asked_by more) later.life.packets) config second.frames);
-      }
+      over_framed answers o.config o.names given x more mine xs y line before.places config names first.order over
 
-  pub goes_over : (o : Opening) (calls : List Call) (x : Exchange) (given : S) (more : List Call) (xs : List Answer) (y : Exchange) (line : Line S)
-      → Polling answers o calls x → OverStream answers given x more xs y line → GoesOver answers given o.config o.names x.core more xs y.core
-  goes_over o calls x given more xs y line p over =
-      let run : WasRun o x more y = was_run o calls x given more xs y line p over in
-      let went : StopsBy answers (fresh_wire given) more xs = stopped_so answers nothing in_order (fresh_wire given) more xs line (went_over answers nothing in_order given x more xs y line over) in
-      let bytes : gone xs ++ (went.stops.unwritten ++ concat went.more) ≡ concat (flat_map asked_by more) =
+  abbrev sent_over : (o : Opening) (x y : Exchange) (more mine : List Call) → FramedOver o.config o.names x more mine y → SentOver o.config o.names x.core more mine y.core
+  sent_over o x y more mine all = record { life = all.life; lives = all.lives; packets = all.packets; among = all.among; its = all.frames.are }
+
+  pub goes_over : (o : Opening) (calls : List Call) (x : Exchange) (given : S) (more mine : List Call) (xs : List Answer) (y : Exchange) (line : Line S)
+      → Polling answers o calls x → OverStream answers given x more mine xs y line → GoesOver answers given o.config o.names x.core more mine xs y.core
+  goes_over o calls x given more mine xs y line p over =
+      let all : FramedOver o.config o.names x more mine y = framed_over o calls x given more mine xs y line p over in
+      let went : StopsBy answers (fresh_wire given) mine xs = stopped_so answers nothing in_order (fresh_wire given) mine xs line (went_over answers nothing in_order given x more mine xs y line over) in
+      let bytes : gone xs ++ (went.stops.unwritten ++ concat went.more) ≡ concat (flat_map asked_by mine) =
       sym (append_assoc (gone xs) went.stops.unwritten (concat went.more))
       ∙ ap (λ (zs : List ℕ). zs ++ concat went.more) went.stops.written
       ∙ sym (concat-append went.sent went.more)
@@ -248,35 +315,33 @@ module _ {S : Type 0} (answers : Told S) (nothing : (s : S) → answers s [] s)
       record {
         left = went.left.stream;
         told = went.stops.told;
-        life = run.life;
-        lives = run.lives;
-        written = written o.config o.names (flat_map asked_by more) run.life.packets (gone xs) (went.stops.unwritten ++ concat went.more) run.frames bytes;
-        heard = Stops-first answers (fresh_wire given) went.left went.sent (flat_map replied_by more) xs went.stops;
+        sent = sent_over o x y more mine all;
+        written = written o.config o.names (flat_map asked_by mine) all.packets (gone xs) (went.stops.unwritten ++ concat went.more) all.frames bytes;
+        heard = Stops-first answers (fresh_wire given) went.left went.sent (flat_map replied_by mine) xs went.stops;
       }
 
   -- while the stream is there
-  pub goes_on_over : (o : Opening) (calls : List Call) (x : Exchange) (given : S) (more : List Call) (xs : List Answer) (y : Exchange) (wire : Wired S)
-      → Polling answers o calls x → OverStream answers given x more xs y (Open wire) → GoesOnOver answers given o.config o.names x.core more xs y.core wire
-  goes_on_over o calls x given more xs y wire p over =
-      let run : WasRun o x more y = was_run o calls x given more xs y (Open wire) p over in
-      let goes : GoesBy answers (fresh_wire given) more xs wire = went_over answers nothing in_order given x more xs y (Open wire) over in
+  pub goes_on_over : (o : Opening) (calls : List Call) (x : Exchange) (given : S) (more mine : List Call) (xs : List Answer) (y : Exchange) (wire : Wired S)
+      → Polling answers o calls x → OverStream answers given x more mine xs y (Open wire) → GoesOnOver answers given o.config o.names x.core more mine xs y.core wire
+  goes_on_over o calls x given more mine xs y wire p over =
+      let all : FramedOver o.config o.names x more mine y = framed_over o calls x given more mine xs y (Open wire) p over in
+      let goes : GoesBy answers (fresh_wire given) mine xs wire = went_over answers nothing in_order given x more mine xs y (Open wire) over in
       record {
         told = goes.told;
-        life = run.life;
-        lives = run.lives;
-        written = goes.written ∙ ap concat run.frames.are ∙ flat o.config o.names run.life.packets;
+        sent = sent_over o x y more mine all;
+        written = goes.written ∙ ap concat all.frames.are ∙ flat o.config o.names all.packets;
         heard = goes.read;
       }
 
   -- a stretch over a stream is polls
-  pub over_a_stream : (o : Opening) (calls : List Call) (x : Exchange) (given : S) (more : List Call) (xs : List Answer) (y : Exchange) (line : Line S)
-      → Polling answers o calls x → OverStream answers given x more xs y line → Polling answers o (calls ++ more) y
-  over_a_stream o calls x given more xs y line p over = record {
+  pub over_a_stream : (o : Opening) (calls : List Call) (x : Exchange) (given : S) (more mine : List Call) (xs : List Answer) (y : Exchange) (line : Line S)
+      → Polling answers o calls x → OverStream answers given x more mine xs y line → Polling answers o (calls ++ more) y
+  over_a_stream o calls x given more mine xs y line p over = record {
     may_begin = p.may_begin;
     intake = p.intake;
     may_turn = p.may_turn;
     keeps = p.keeps;
     first = p.first;
     is_new = p.is_new;
-    polled = over_polls answers p.first calls given x more xs y line p.polled over;
+    polled = over_polls answers p.first calls given x more mine xs y line p.polled over;
   }

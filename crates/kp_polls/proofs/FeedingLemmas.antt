@@ -29,7 +29,7 @@ use Rattle.kp_frames.specs.declared.fault.FrameFault.{FrameFault}
 use Rattle.kp_lanes.specs.Entries.{has_mark, items_of}
 use Rattle.kp_lanes.specs.Intake.{asked_at_of, lanes_of, passed_lists, passed_of}
 use Rattle.kp_lanes.specs.declared.intake.Intake.{Intake}
-use Rattle.kp_rules.specs.Calls.{Call, Close, End, Flush}
+use Rattle.kp_rules.specs.Calls.{Call, Close, End, Flush, Lead}
 use Rattle.kp_rules.specs.declared.outgoing.Outgoing.{Outgoing}
 use Rattle.kp_rules.proofs.ListLemmas.{all_back, all_front}
 use Rattle.kp_polls.proofs.OfferLemmas.{Feeds, Offer, Theirs, all_appended, all_feed, appends_elsewhere, appends_here, fails_elsewhere, fails_feeds, feeds_then, offered_by, offers, refused, refused_feeds, refuses_elsewhere, refuses_here, wait_last}
@@ -197,19 +197,19 @@ module _ (old new : ℕ → Side) (own : (k : ℕ) → Theirs k (items_of (new k
 
 -- ---- a turn
 
-asked_none : (i now : ℕ) (sent : List Outgoing) (asked : List Call) → RequestsPart now sent asked → offers i asked ≡ []
-asked_none i now sent asked p = ap (offers i) p.made ∙ none_asked (offered_by i) (λ n answer. refl) now sent p.last
+asked_none : (i node now : ℕ) (sent : List Outgoing) (asked : List Call) → RequestsPart node now sent asked → offers i asked ≡ []
+asked_none i node now sent asked p = ap (offers i) p.made ∙ none_asked (offered_by i) (λ node n answer. refl) node now sent p.last
 
 heard_none : (i now : ℕ) (heard : List Heard) (replied : List Call) → replied ≡ map (hears now) heard → offers i replied ≡ []
 heard_none i now heard replied is = ap (offers i) is ∙ none_of (offered_by i) (hears now) (λ reply. refl) heard
 
-ticked_none : (i now : ℕ) (ticked : _) (tick : List Call) → TickPart now ticked tick → offers i tick ≡ []
-ticked_none i now ticked tick is = ap (offers i) is
+ticked_none : (i node now : ℕ) (ticked : _) (tick : List Call) → TickPart node now ticked tick → offers i tick ≡ []
+ticked_none i node now ticked tick is = ap (offers i) is
 
-talked_none : (i now : ℕ) (sent : List Outgoing) (heard : List Heard) (calls : List Call) → TalkUntil now sent heard calls → offers i calls ≡ []
-talked_none i now _ _ _ (TalkUntil.in_requests sent asked p) = ap (offers i) p.made ∙ none_asked (offered_by i) (λ n answer. refl) now sent p.last
-talked_none i now _ _ _ (TalkUntil.in_replies sent heard asked replied p q) =
-    before_nothing (offered_by i) asked replied [] (asked_none i now sent asked p) (heard_none i now heard replied q.made)
+talked_none : (i node now : ℕ) (sent : List Outgoing) (heard : List Heard) (calls : List Call) → TalkUntil node now sent heard calls → offers i calls ≡ []
+talked_none i node now _ _ _ (TalkUntil.in_requests sent asked p) = ap (offers i) p.made ∙ none_asked (offered_by i) (λ node n answer. refl) node now sent p.last
+talked_none i node now _ _ _ (TalkUntil.in_replies sent heard asked replied p q) =
+    before_nothing (offered_by i) asked replied [] (asked_none i node now sent asked p) (heard_none i now heard replied q.made)
 
 behind : (i : ℕ) (items tick talk : List Call) → offers i tick ≡ [] → offers i talk ≡ [] → offers i (items ++ tick ++ talk) ≡ offers i items
 behind i items tick talk q r = before_nothing (offered_by i) (items ++ tick) talk (offers i items) (before_nothing (offered_by i) items tick (offers i items) refl q) r
@@ -220,39 +220,39 @@ more_calls old new items calls same f i = subst (λ (os : List Offer). FeedsSide
 
 module _ (x y : Exchange) (own : (k : ℕ) → Theirs k (items_of (side_of y k).passed)) (had : (k : ℕ) → Theirs k (option_to_list (side_of x k).held))
     (same : (k : ℕ) → senders_of x ≤ k → (items_of (side_of y k).passed ≡ items_of (side_of x k).passed) × ((side_of y k).held ≡ (side_of x k).held)) where
-  turn_feeds : (now : ℕ) (sent : List Outgoing) (heard : List Heard) (refused : Option (List ℕ × FrameFault)) (cut : Option Cause) (calls : List Call)
-      → Turn now x sent heard refused cut calls y → Feeding (side_of x) calls (side_of y)
-  turn_feeds now sent heard refused cut calls t = more_calls (side_of x) (side_of y) t.items calls
+  turn_feeds : (node now : ℕ) (sent : List Outgoing) (heard : List Heard) (refused : Option (List ℕ × FrameFault)) (cut : Option Cause) (calls : List Call)
+      → Turn node now x sent heard refused cut calls y → Feeding (side_of x) calls (side_of y)
+  turn_feeds node now sent heard refused cut calls t = more_calls (side_of x) (side_of y) t.items calls
       (λ i.
       ap (offers i) t.made
       ∙ before_nothing (offered_by i) (t.items ++ t.tick ++ (t.asked ++ t.replied)) t.reports (offers i t.items)
-      (behind i t.items t.tick (t.asked ++ t.replied) (ticked_none i now t.ticked t.tick t.of_tick)
-      (before_nothing (offered_by i) t.asked t.replied [] (asked_none i now sent t.asked t.of_requests) (heard_none i now heard t.replied t.of_replies.made)))
-      (reports_none (offered_by i) (λ k answer. refl) (senders_of x) now (is_cut cut) (mail_of x) (mail_of y) t.reports refl t.of_reports))
+      (behind i t.items t.tick (t.asked ++ t.replied) (ticked_none i node now t.ticked t.tick t.of_tick)
+      (before_nothing (offered_by i) t.asked t.replied [] (asked_none i node now sent t.asked t.of_requests) (heard_none i now heard t.replied t.of_replies.made)))
+      (reports_none (offered_by i) (λ k answer. refl) (senders_of x) node now (is_cut cut) (mail_of x) (mail_of y) t.reports refl t.of_reports))
       (items_feed (side_of x) (side_of y) own had (senders_of x) t.closes t.items same t.of_items)
 
-  until_turn_feeds : (now : ℕ) (sent : List Outgoing) (heard : List Heard) (calls : List Call) → TurnUntil now x y sent heard calls → Feeding (side_of x) calls (side_of y)
-  until_turn_feeds now _ _ _ (TurnUntil.in_items calls p closed mail) = items_feed_until (side_of x) (side_of y) own had calls p
-  until_turn_feeds now _ _ _ (TurnUntil.before_the_tick closes items p closed mail) = items_feed (side_of x) (side_of y) own had (senders_of x) closes items same p
-  until_turn_feeds now _ _ _ (TurnUntil.in_talk closes ticked items tick talked sent heard p closed t q mail) = more_calls (side_of x) (side_of y) items (items ++ tick ++ talked)
-      (λ i. behind i items tick talked (ticked_none i now ticked tick t) (talked_none i now sent heard talked q))
+  until_turn_feeds : (node now : ℕ) (sent : List Outgoing) (heard : List Heard) (calls : List Call) → TurnUntil node now x y sent heard calls → Feeding (side_of x) calls (side_of y)
+  until_turn_feeds node now _ _ _ (TurnUntil.in_items calls p closed mail) = items_feed_until (side_of x) (side_of y) own had calls p
+  until_turn_feeds node now _ _ _ (TurnUntil.before_the_tick closes items p closed mail) = items_feed (side_of x) (side_of y) own had (senders_of x) closes items same p
+  until_turn_feeds node now _ _ _ (TurnUntil.in_talk closes ticked items tick talked sent heard p closed t q mail) = more_calls (side_of x) (side_of y) items (items ++ tick ++ talked)
+      (λ i. behind i items tick talked (ticked_none i node now ticked tick t) (talked_none i node now sent heard talked q))
       (items_feed (side_of x) (side_of y) own had (senders_of x) closes items same p)
-  until_turn_feeds now _ _ _ (TurnUntil.in_reports closes ticked items tick asked replied reports sent heard refused cut p closed t q r s) =
+  until_turn_feeds node now _ _ _ (TurnUntil.in_reports closes ticked items tick asked replied reports sent heard refused cut p closed t q r s) =
       more_calls (side_of x) (side_of y) items (items ++ tick ++ (asked ++ replied) ++ reports)
       (λ i.
       before_nothing (offered_by i) (items ++ tick ++ (asked ++ replied)) reports (offers i items)
-      (behind i items tick (asked ++ replied) (ticked_none i now ticked tick t)
-      (before_nothing (offered_by i) asked replied [] (asked_none i now sent asked q) (heard_none i now heard replied r.made)))
-      (reports_until_none (offered_by i) (λ k answer. refl) now cut (mail_of x) (mail_of y) reports refl s))
+      (behind i items tick (asked ++ replied) (ticked_none i node now ticked tick t)
+      (before_nothing (offered_by i) asked replied [] (asked_none i node now sent asked q) (heard_none i now heard replied r.made)))
+      (reports_until_none (offered_by i) (λ k answer. refl) node now cut (mail_of x) (mail_of y) reports refl s))
       (items_feed (side_of x) (side_of y) own had (senders_of x) closes items same p)
 
-  turns_feed : {S : Type 0} (answers : Told S) (now : ℕ) (w : Wired S) (result : Poll Stop) (v : Wired S)
-      → (turns : Turns answers now x w result y v) → Feeding (side_of x) (calls_of_turn answers now x w result y v turns) (side_of y)
-  turns_feed answers now w Pending v t = turn_feeds now t.sent t.heard None None t.calls t.turn
-  turns_feed answers now w (Ready Done) v (done, inl t) = turn_feeds now t.sent t.heard None None t.calls t.turn
-  turns_feed answers now w (Ready Done) v (done, inr (cause, t)) = turn_feeds now t.sent t.heard t.refused (Some cause) t.calls t.turn
-  turns_feed answers now w (Ready (NeedStream cause)) v t = turn_feeds now t.sent t.heard t.refused (Some cause) t.calls t.turn
-  turns_feed answers now w (Ready OutOfMemory) v t = until_turn_feeds now t.sent t.heard t.calls t.turn
+  turns_feed : {S : Type 0} (answers : Told S) (node now : ℕ) (w : Wired S) (result : Poll Stop) (v : Wired S)
+      → (turns : Turns answers node now x w result y v) → Feeding (side_of x) (calls_of_turn answers node now x w result y v turns) (side_of y)
+  turns_feed answers node now w Pending v t = turn_feeds node now t.sent t.heard None None t.calls t.turn
+  turns_feed answers node now w (Ready Done) v (done, inl t) = turn_feeds node now t.sent t.heard None None t.calls t.turn
+  turns_feed answers node now w (Ready Done) v (done, inr (cause, t)) = turn_feeds node now t.sent t.heard t.refused (Some cause) t.calls t.turn
+  turns_feed answers node now w (Ready (NeedStream cause)) v t = turn_feeds node now t.sent t.heard t.refused (Some cause) t.calls t.turn
+  turns_feed answers node now w (Ready OutOfMemory) v t = until_turn_feeds node now t.sent t.heard t.calls t.turn
 
 -- ---- places that no sender has
 
@@ -294,11 +294,11 @@ module _ {S : Type 0} (answers : Told S) where
       let alike : (k : ℕ) → side_of b k ≡ side_of x k = same_side x b p.cleared.intake p.cleared.items in
       let many : senders_of b ≡ senders_of x = ap length p.cleared.items in
       let sized_b : IsSized b = ap (λ (t : Intake). length (lanes_of t)) p.cleared.intake ∙ sized ∙ sym many in
-      subst (λ (s : Side). FeedsSide s (offers i (calls_of_turn answers p.now b wire result y p.after p.turns)) (side_of y i)) (alike i)
+      subst (λ (s : Side). FeedsSide s (offers i (calls_of_turn answers p.node p.now b wire result y p.after p.turns)) (side_of y i)) (alike i)
       (turns_feed b y own
       (λ k. subst (λ (s : Side). Theirs k (option_to_list s.held)) (sym (alike k)) (had k))
       (same_beyond b y sized_b sized' (same ∙ sym many))
-      answers p.now wire result p.after p.turns i)
+      answers p.node p.now wire result p.after p.turns i)
   poll_feeds (Stopped stop) x result y left sized sized' same own had p i =
       let alike : side_of y i ≡ side_of x i = same_side x y p.0.intake p.0.items i in
       side_stays (side_of x i) (side_of y i) (ap (λ (s : Side). items_of s.passed) alike) (ap (λ (s : Side). s.held) alike)
@@ -343,5 +343,11 @@ module _ {S : Type 0} (answers : Told S) where
         let alike : (k : ℕ) → side_of z k ≡ side_of y k = same_side y z only.intake only.items in
         let f : Feeding (side_of first) calls (side_of y) = polls_feed calls y before (λ k. subst (λ (s : Side). Theirs k (items_of s.passed)) (alike k) (own k)) in
         subst (λ (os : List Offer). FeedsSide (side_of first i) os (side_of z i)) (sym (flat_map-append (offered_by i) calls (End told ∷ [])))
+        (sides_then (side_of first i) (side_of y i) (side_of z i) (offers i calls) [] (f i)
+        (side_stays (side_of y i) (side_of z i) (ap (λ (s : Side). items_of s.passed) (alike i)) (ap (λ (s : Side). s.held) (alike i))))
+    polls_feed _ _ (Polled.led y z calls partition leader now before step only) own i =
+        let alike : (k : ℕ) → side_of z k ≡ side_of y k = same_side y z only.intake only.items in
+        let f : Feeding (side_of first) calls (side_of y) = polls_feed calls y before (λ k. subst (λ (s : Side). Theirs k (items_of s.passed)) (alike k) (own k)) in
+        subst (λ (os : List Offer). FeedsSide (side_of first i) os (side_of z i)) (sym (flat_map-append (offered_by i) calls (Lead partition leader now ∷ [])))
         (sides_then (side_of first i) (side_of y i) (side_of z i) (offers i calls) [] (f i)
         (side_stays (side_of y i) (side_of z i) (ap (λ (s : Side). items_of s.passed) (alike i)) (ap (λ (s : Side). s.held) (alike i))))

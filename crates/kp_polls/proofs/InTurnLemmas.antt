@@ -154,13 +154,14 @@ in_turn a (Calling (call.Append i (Err fault)) t ∷ ms) none r = (
   in_turn (after (Calling (call.Append i (Err fault)) t) a) ms none
       (refused_ready a.outside i fault (calls_in ms) (called a.core (call.Append i (Err fault)) a.outside) refl refl r),
 )
-in_turn a (Calling (call.Request now (Ok answer)) t ∷ ms) none r =
-    let same = same_items (packets_by a.core (call.Request now (Ok answer))) a.outside in
-    (tt, in_turn (after (Calling (call.Request now (Ok answer)) t) a) ms none (other_call a.outside _ (calls_in ms) _ (λ i. refl) same.0 same.1 r))
-in_turn a (Calling (call.Request now (Err fault)) t ∷ ms) none r = (tt, in_turn (after (Calling (call.Request now (Err fault)) t) a) ms none (other_call a.outside _ (calls_in ms) _ (λ i. refl) refl refl r))
+in_turn a (Calling (call.Request node now (Ok answer)) t ∷ ms) none r =
+    let same = same_items (packets_by a.core (call.Request node now (Ok answer))) a.outside in
+    (tt, in_turn (after (Calling (call.Request node now (Ok answer)) t) a) ms none (other_call a.outside _ (calls_in ms) _ (λ i. refl) same.0 same.1 r))
+in_turn a (Calling (call.Request node now (Err fault)) t ∷ ms) none r = (tt, in_turn (after (Calling (call.Request node now (Err fault)) t) a) ms none (other_call a.outside _ (calls_in ms) _ (λ i. refl) refl refl r))
 in_turn a (Calling (call.Reply now content answer) t ∷ ms) none r = (tt, in_turn (after (Calling (call.Reply now content answer) t) a) ms none (other_call a.outside _ (calls_in ms) _ (λ i. refl) refl refl r))
-in_turn a (Calling (call.Tick now answer) t ∷ ms) none r = (tt, in_turn (after (Calling (call.Tick now answer) t) a) ms none (other_call a.outside _ (calls_in ms) _ (λ i. refl) refl refl r))
-in_turn a (Calling (call.Disconnect now) t ∷ ms) none r = (tt, in_turn (after (Calling (call.Disconnect now) t) a) ms none (other_call a.outside _ (calls_in ms) _ (λ i. refl) refl refl r))
+in_turn a (Calling (call.Tick node now answer) t ∷ ms) none r = (tt, in_turn (after (Calling (call.Tick node now answer) t) a) ms none (other_call a.outside _ (calls_in ms) _ (λ i. refl) refl refl r))
+in_turn a (Calling (call.Disconnect node now) t ∷ ms) none r = (tt, in_turn (after (Calling (call.Disconnect node now) t) a) ms none (other_call a.outside _ (calls_in ms) _ (λ i. refl) refl refl r))
+in_turn a (Calling (call.Lead p leader now) t ∷ ms) none r = (tt, in_turn (after (Calling (call.Lead p leader now) t) a) ms none (other_call a.outside _ (calls_in ms) _ (λ i. refl) refl refl r))
 in_turn a (Calling call.Close t ∷ ms) none r = (tt, in_turn (after (Calling call.Close t) a) ms none (other_call a.outside _ (calls_in ms) _ (λ i. refl) refl refl r))
 in_turn a (Calling call.Flush t ∷ ms) none r = (tt, in_turn (after (Calling call.Flush t) a) ms none (other_call a.outside _ (calls_in ms) _ (λ i. refl) refl refl r))
 in_turn a (Calling (call.End reports) t ∷ ms) none r = (tt, in_turn (after (Calling (call.End reports) t) a) ms none (other_call a.outside _ (calls_in ms) _ (λ i. refl) refl refl r))

@@ -15,6 +15,7 @@ use Rattle.kp_rules.specs.Next.{Sending}
 use Rattle.kp_rules.specs.Records.{Demand, Produce, InitProducerId, Core, Called}
 use Rattle.kp_rules.specs.Replies.{Replies, settle_id, reply_step}
 use Rattle.kp_rules.specs.Reports.{fetch_step}
+use Rattle.kp_rules.specs.Leading.{lead_step}
 use Rattle.kp_rules.specs.Requesting.{Requested, go_out, request_step}
 use Rattle.kp_rules.specs.Telling.{with_partitions, at_each, at_these}
 use Rattle.kp_rules.specs.Tick.{Ticks, tick_step}
@@ -37,16 +38,16 @@ appends i s = at_append (λ (x : Appends). SameNames s x.after) i s (record {
   room = λ m e f r. record { config = refl; names = refl };
 })
 
-goes_out : (now : ℕ) (s : Core) (d : Demand Sending) → SameNames s (go_out now s d).after
-goes_out now s (Produce xs) = record { config = refl; names = refl }
-goes_out now s (InitProducerId p) = record { config = refl; names = refl }
+goes_out : (node now : ℕ) (s : Core) (d : Demand Sending) → SameNames s (go_out node now s d).after
+goes_out node now s (Produce xs) = record { config = refl; names = refl }
+goes_out node now s (InitProducerId p) = record { config = refl; names = refl }
 
-asks : (now : ℕ) (s : Core) → SameNames s (request_step now s).after
-asks now s = at_request (λ (x : Requested). SameNames s x.after) now s (record {
+asks : (node now : ℕ) (s : Core) → SameNames s (request_step node now s).after
+asks node now s = at_request (λ (x : Requested). SameNames s x.after) node now s (record {
   ended = stays s;
   idle = stays s;
   spent = stays s;
-  out = λ e d is spent. goes_out now s d;
+  out = λ e d is spent. goes_out node now s d;
 })
 
 settled_id : (now p : ℕ) (x : InitProducerIdResponse) (s : Core) → SameNames s (settle_id now p x s)
@@ -65,9 +66,9 @@ hears now content s = at_reply (λ (x : Replies). SameNames s x.after) now conte
       id = λ r p x named demand body fits. settled_id now p x s;
     }))
 
-ticks : (now : ℕ) (s : Core) → SameNames s (tick_step now s).after
+ticks : (node now : ℕ) (s : Core) → SameNames s (tick_step node now s).after
 unfolding drop_requests at_each with_partitions
-ticks now s = at_tick (λ (x : Ticks). SameNames s x.after) now s (record {
+ticks node now s = at_tick (λ (x : Ticks). SameNames s x.after) node now s (record {
   ended = stays s;
   timed_out = record { config = refl; names = refl };
   on_time = record { config = refl; names = refl };
@@ -80,9 +81,13 @@ ends s = at_end_step (λ (x : Called ℕ). SameNames s x.after) s (stays s) (rec
 closes : (s : Core) → SameNames s (close_step s)
 closes s = at_close (λ (t : Core). SameNames s t) s (stays s) (record { config = refl; names = refl })
 
-disconnects : (now : ℕ) (s : Core) → SameNames s (disconnect_step now s)
+disconnects : (node now : ℕ) (s : Core) → SameNames s (disconnect_step node now s)
 unfolding drop_requests
-disconnects now s = at_disconnect (λ (t : Core). SameNames s t) now s (stays s) (record { config = refl; names = refl })
+disconnects node now s = at_disconnect (λ (t : Core). SameNames s t) node now s (stays s) (record { config = refl; names = refl })
+
+leads : (p leader now : ℕ) (s : Core) → SameNames s (lead_step p leader now s)
+unfolding lead_step
+leads p leader now s = record { config = refl; names = refl }
 
 flushes : (s : Core) → SameNames s (flush_step s)
 unfolding flush_step
@@ -95,18 +100,19 @@ pub same_names : (s t : Core) (c : Call) → Step s c t → SameNames s t
 same_names s t (call.Append i (Ok done)) x = to s t (append_step i s).after x.1 (appends i s)
 same_names s t (call.Append i (Err append.BufferFull)) x = to s t (append_step i s).after x.1 (appends i s)
 same_names s t (call.Append i (Err append.OutOfMemory)) x = to s t s x.1 (stays s)
-same_names s t (call.Request now (Ok answer)) x = to s t (request_step now s).after x.1 (asks now s)
-same_names s t (call.Request now (Err fault.OutOfMemory)) x = to s t s x.1 (stays s)
-same_names s t (call.Request now (Err fault.Ended)) x = to s t (request_step now s).after x.1 (asks now s)
-same_names s t (call.Request now (Err fault.CorrelationSpent)) x = to s t (request_step now s).after x.1 (asks now s)
-same_names s t (call.Request now (Err (fault.ReplyFault f))) x = to s t (request_step now s).after x.1 (asks now s)
+same_names s t (call.Request node now (Ok answer)) x = to s t (request_step node now s).after x.1 (asks node now s)
+same_names s t (call.Request node now (Err fault.OutOfMemory)) x = to s t s x.1 (stays s)
+same_names s t (call.Request node now (Err fault.Ended)) x = to s t (request_step node now s).after x.1 (asks node now s)
+same_names s t (call.Request node now (Err fault.CorrelationSpent)) x = to s t (request_step node now s).after x.1 (asks node now s)
+same_names s t (call.Request node now (Err (fault.ReplyFault f))) x = to s t (request_step node now s).after x.1 (asks node now s)
 same_names s t (call.Reply now content (Ok answer)) x = to s t (reply_step now content s).after x.1 (hears now content s)
 same_names s t (call.Reply now content (Err fault.OutOfMemory)) x = to s t s x.1 (stays s)
 same_names s t (call.Reply now content (Err fault.Ended)) x = to s t (reply_step now content s).after x.1 (hears now content s)
 same_names s t (call.Reply now content (Err fault.CorrelationSpent)) x = to s t (reply_step now content s).after x.1 (hears now content s)
 same_names s t (call.Reply now content (Err (fault.ReplyFault f))) x = to s t (reply_step now content s).after x.1 (hears now content s)
-same_names s t (call.Tick now answer) x = to s t (tick_step now s).after x.1 (ticks now s)
-same_names s t (call.Disconnect now) x = to s t (disconnect_step now s) x (disconnects now s)
+same_names s t (call.Tick node now answer) x = to s t (tick_step node now s).after x.1 (ticks node now s)
+same_names s t (call.Disconnect node now) x = to s t (disconnect_step node now s) x (disconnects node now s)
+same_names s t (call.Lead p leader now) x = to s t (lead_step p leader now s) x (leads p leader now s)
 same_names s t call.Close x = to s t (close_step s) x (closes s)
 same_names s t call.Flush x = to s t (flush_step s) x (flushes s)
 same_names s t (call.End reports) x = to s t (end_step s).after x.1 (ends s)

@@ -28,23 +28,24 @@ module _ {S C : Type 0} (answers : Told S) (moments : C → List ℕ) where
         (mine ++ later.0, subst (λ (cs : List Call). Polled answers first cs new.exchange) (append_assoc calls mine later.0) later.1)
 
   module _ (x : Exchange) (given : S) where
-    run_over : (between : List (Engine S C)) (old new : Engine S C) (stop : Stop) (calls : List Call) (xs : List Answer) → OverStream answers given x calls xs old.exchange old.line
+    run_over : (between : List (Engine S C)) (old new : Engine S C) (stop : Stop) (calls mine : List Call) (xs : List Answer) → OverStream answers given x calls mine xs old.exchange old.line
         → GoesThrough (PollsOnce answers moments) old between stop new
-        → (more : List Call) × (ys : List Answer) × OverStream answers given x (calls ++ more) (xs ++ ys) new.exchange new.line
-    run_over [] old new stop calls xs over went = (
+        → (more : List Call) × (ys : List Answer) × OverStream answers given x (calls ++ more) (mine ++ more) (xs ++ ys) new.exchange new.line
+    run_over [] old new stop calls mine xs over went = (
       calls_of_poll answers old.line old.exchange (Ready stop) new.exchange new.line went.polls,
       answered_in_poll answers old.line old.exchange (Ready stop) new.exchange new.line went.polls,
-      OverStream.once_more old.exchange new.exchange calls xs old.line new.line (Ready stop) over went.polls,
+      OverStream.once_more old.exchange new.exchange calls mine xs old.line new.line (Ready stop) over went.polls,
     )
-    run_over (next ∷ between) old new stop calls xs over went =
-        let mine : List Call = calls_of_poll answers old.line old.exchange Pending next.exchange next.line went.0.polls in
+    run_over (next ∷ between) old new stop calls mine xs over went =
+        let its : List Call = calls_of_poll answers old.line old.exchange Pending next.exchange next.line went.0.polls in
         let heard : List Answer = answered_in_poll answers old.line old.exchange Pending next.exchange next.line went.0.polls in
-        let later = run_over between next new stop (calls ++ mine) (xs ++ heard)
-        (OverStream.once_more old.exchange next.exchange calls xs old.line next.line Pending over went.0.polls) went.1 in (
-          mine ++ later.0,
+        let later = run_over between next new stop (calls ++ its) (mine ++ its) (xs ++ heard)
+        (OverStream.once_more old.exchange next.exchange calls mine xs old.line next.line Pending over went.0.polls) went.1 in (
+          its ++ later.0,
           heard ++ later.1,
-          subst (λ (cs : List Call). OverStream answers given x cs (xs ++ (heard ++ later.1)) new.exchange new.line) (append_assoc calls mine later.0)
-              (subst (λ (ys : List Answer). OverStream answers given x ((calls ++ mine) ++ later.0) ys new.exchange new.line) (append_assoc xs heard later.1) later.2),
+          subst (λ (cs : List Call). OverStream answers given x cs (mine ++ (its ++ later.0)) (xs ++ (heard ++ later.1)) new.exchange new.line) (append_assoc calls its later.0)
+              (subst (λ (ms : List Call). OverStream answers given x ((calls ++ its) ++ later.0) ms (xs ++ (heard ++ later.1)) new.exchange new.line) (append_assoc mine its later.0)
+              (subst (λ (ys : List Answer). OverStream answers given x ((calls ++ its) ++ later.0) ((mine ++ its) ++ later.0) ys new.exchange new.line) (append_assoc xs heard later.1) later.2)),
         )
 
   pub run_polls : (o : Opening) (calls : List Call) (old new : Engine S C) (stop : Stop) → Polling answers o calls old.exchange → Reaches (PollsOnce answers moments) old stop new
@@ -55,7 +56,7 @@ module _ {S C : Type 0} (answers : Told S) (moments : C → List ℕ) where
         record { may_begin = p.may_begin; intake = p.intake; may_turn = p.may_turn; keeps = p.keeps; first = p.first; is_new = p.is_new; polled = all.1 },
       )
 
-  pub run_over_stream : (x : Exchange) (given : S) (calls : List Call) (xs : List Answer) (old new : Engine S C) (stop : Stop)
-      → OverStream answers given x calls xs old.exchange old.line → Reaches (PollsOnce answers moments) old stop new
-      → (more : List Call) × (ys : List Answer) × OverStream answers given x (calls ++ more) (xs ++ ys) new.exchange new.line
-  run_over_stream x given calls xs old new stop over reaches = run_over x given reaches.between old new stop calls xs over reaches.goes
+  pub run_over_stream : (x : Exchange) (given : S) (calls mine : List Call) (xs : List Answer) (old new : Engine S C) (stop : Stop)
+      → OverStream answers given x calls mine xs old.exchange old.line → Reaches (PollsOnce answers moments) old stop new
+      → (more : List Call) × (ys : List Answer) × OverStream answers given x (calls ++ more) (mine ++ more) (xs ++ ys) new.exchange new.line
+  run_over_stream x given calls mine xs old new stop over reaches = run_over x given reaches.between old new stop calls mine xs over reaches.goes

@@ -1,5 +1,5 @@
 -- What goes over one stream, by the calls of the polls over it.
-use Rattle.std.proofs.Common.{◌≡◌, ℕ, List, [], ◌∷◌, ◌++◌, refl, sym, ap, ◌∙◌, subst, inl, inr, append_assoc, append-nil}
+use Rattle.std.proofs.Common.{◌≡◌, ℕ, List, [], ◌++◌, refl, sym, ap, ◌∙◌, subst, inl, inr, append_assoc, append-nil}
 use Rattle.std.specs.Prelude.{Some, None, flat_map}
 use Rattle.std.proofs.lemmas.Grind.{flat_map-append}
 use Rattle.futures.specs.declared.task.Poll.{Poll}
@@ -19,7 +19,7 @@ use Rattle.kp_engine.specs.declared.stop.Stop.{Stop}
 use Rattle.kp_engine.specs.declared.stop.Stop.TheVariants.{Done, NeedStream, OutOfMemory}
 use Rattle.kp_engine.proofs.FrameLemmas.{turn_goes, until_goes}
 use Rattle.kp_engine.proofs.ServingLemmas.{before_nothing}
-use Rattle.kp_rules.specs.Calls.{Call, End}
+use Rattle.kp_rules.specs.Calls.{Call}
 use Rattle.kp_polls.specs.Bytes.{OverStream, answered_in_poll, answered_in_turn}
 
 -- These calls asked for these frames, and perhaps more, and heard these contents; the stream's calls answered so, and
@@ -59,22 +59,22 @@ module _ {S : Type 0} (answers : Told S) (nothing : (s : S) → answers s [] s)
     stops = subst (λ (cs : List (List ℕ)). Stops answers w sent cs xs v) (sym q) stops;
   }
 
-  turn_over : (now : ℕ) (x : Exchange) (w : Wired S) (result : Poll Stop) (y : Exchange) (v : Wired S) → (t : Turns answers now x w result y v)
-      → WentOver answers w (calls_of_turn answers now x w result y v t) (answered_in_turn answers now x w result y v t) (line_after result v)
-  turn_over now x w Pending y v t =
-      let g = turn_goes now x y t.sent t.heard None None t.calls t.turn in goes_by w v (frames_of t.sent) (contents_of t.heard) t.calls t.xs g.0 g.1 t.goes
-  turn_over now x w (Ready Done) y v (done, inl t) =
-      let g = turn_goes now x y t.sent t.heard None None t.calls t.turn in
+  turn_over : (node now : ℕ) (x : Exchange) (w : Wired S) (result : Poll Stop) (y : Exchange) (v : Wired S) → (t : Turns answers node now x w result y v)
+      → WentOver answers w (calls_of_turn answers node now x w result y v t) (answered_in_turn answers node now x w result y v t) (line_after result v)
+  turn_over node now x w Pending y v t =
+      let g = turn_goes node now x y t.sent t.heard None None t.calls t.turn in goes_by w v (frames_of t.sent) (contents_of t.heard) t.calls t.xs g.0 g.1 t.goes
+  turn_over node now x w (Ready Done) y v (done, inl t) =
+      let g = turn_goes node now x y t.sent t.heard None None t.calls t.turn in
       stops_by w v (frames_of t.sent) [] (contents_of t.heard) t.calls t.xs (g.0 ∙ sym (append-nil (frames_of t.sent))) g.1
       (Goes-stops answers w v (frames_of t.sent) (contents_of t.heard) t.xs t.goes)
-  turn_over now x w (Ready Done) y v (done, inr (cause, t)) =
-      let g = turn_goes now x y t.sent t.heard t.refused (Some cause) t.calls t.turn in
+  turn_over node now x w (Ready Done) y v (done, inr (cause, t)) =
+      let g = turn_goes node now x y t.sent t.heard t.refused (Some cause) t.calls t.turn in
       stops_by w v (frames_of t.sent) [] (contents_of t.heard) t.calls t.xs (g.0 ∙ sym (append-nil (frames_of t.sent))) g.1 t.stops
-  turn_over now x w (Ready (NeedStream cause)) y v t =
-      let g = turn_goes now x y t.sent t.heard t.refused (Some cause) t.calls t.turn in
+  turn_over node now x w (Ready (NeedStream cause)) y v t =
+      let g = turn_goes node now x y t.sent t.heard t.refused (Some cause) t.calls t.turn in
       stops_by w v (frames_of t.sent) [] (contents_of t.heard) t.calls t.xs (g.0 ∙ sym (append-nil (frames_of t.sent))) g.1 t.stops
-  turn_over now x w (Ready OutOfMemory) y v t =
-      let g = until_goes now x y t.sent t.heard t.calls t.turn in stops_by w v (frames_of t.sent) g.0 (contents_of t.heard) t.calls t.xs g.1 g.2 t.stops
+  turn_over node now x w (Ready OutOfMemory) y v t =
+      let g = until_goes node now x y t.sent t.heard t.calls t.turn in stops_by w v (frames_of t.sent) g.0 (contents_of t.heard) t.calls t.xs g.1 g.2 t.stops
 
   -- one stretch behind another
   joined : (w v : Wired S) (calls more : List Call) (xs ys : List Answer) (line : Line S) → GoesBy answers w calls xs v → WentOver answers v more ys line
@@ -103,19 +103,18 @@ module _ {S : Type 0} (answers : Told S) (nothing : (s : S) → answers s [] s)
   poll_over w calls xs (Open v) y result z left h p =
       subst (WentOver answers w (calls ++ calls_of_poll answers (Open v) y result z left p) (xs ++ answered_in_poll answers (Open v) y result z left p)) (sym p.line)
       (joined w v calls (calls_of_poll answers (Open v) y result z left p) xs (answered_in_poll answers (Open v) y result z left p) (line_after result p.after) h
-      (turn_over p.now p.begun v result z p.after p.turns))
+      (turn_over p.node p.now p.begun v result z p.after p.turns))
   poll_over w calls xs (Stopped stop) y result z left h p =
       subst (WentOver answers w (calls ++ []) (xs ++ [])) (sym p.2)
       (subst (λ (ys : List Answer). WentOver answers w (calls ++ []) ys (Stopped stop)) (sym (append-nil xs))
       (silently w calls [] xs (Stopped stop) refl refl h))
 
-  pub went_over : (given : S) (x : Exchange) (calls : List Call) (xs : List Answer) (y : Exchange) (line : Line S) → OverStream answers given x calls xs y line
-      → WentOver answers (fresh_wire given) calls xs line
-  went_over given x _ _ _ _ OverStream.not_yet = Goes-nothing answers nothing (fresh_wire given)
-  went_over given x _ _ _ _ (OverStream.once_more y z calls xs line left result before poll) =
-      poll_over (fresh_wire given) calls xs line y result z left (went_over given x calls xs y line before) poll
-  went_over given x _ _ _ _ (OverStream.ended y z calls xs line told before step only) =
-      silently (fresh_wire given) calls (End told ∷ []) xs line refl refl (went_over given x calls xs y line before)
+  pub went_over : (given : S) (x : Exchange) (calls mine : List Call) (xs : List Answer) (y : Exchange) (line : Line S) → OverStream answers given x calls mine xs y line
+      → WentOver answers (fresh_wire given) mine xs line
+  went_over given x _ _ _ _ _ OverStream.not_yet = Goes-nothing answers nothing (fresh_wire given)
+  went_over given x _ _ _ _ _ (OverStream.once_more y z calls mine xs line left result before poll) =
+      poll_over (fresh_wire given) mine xs line y result z left (went_over given x calls mine xs y line before) poll
+  went_over given x _ _ _ _ _ (OverStream.meanwhile y z calls mine others xs line before polled) = went_over given x calls mine xs y line before
 
   -- also where it is still there
   pub stopped_so : (w : Wired S) (calls : List Call) (xs : List Answer) (line : Line S) → WentOver answers w calls xs line → StopsBy answers w calls xs

@@ -21,7 +21,7 @@ pub fn a_run_s_polls_are_polls<S: Stream, C: Clock>()
     ensures polling { (o : Opening) (calls : List Call) (old new : Polled S C) (stop : Stop)
         → Polling S.answers o calls old.exchange → Reaches (PollsOnce S.answers C.moments) old stop new
         → (more : List Call) × Polling S.answers o (calls ++ more) new.exchange }
-    ensures over_stream { (x : Exchange) (given : S) (calls : List Call) (xs : List Answer) (old new : Polled S C) (stop : Stop)
-        → OverStream S.answers given x calls xs old.exchange old.line → Reaches (PollsOnce S.answers C.moments) old stop new
-        → (more : List Call) × (ys : List Answer) × OverStream S.answers given x (calls ++ more) (xs ++ ys) new.exchange new.line }
+    ensures over_stream { (x : Exchange) (given : S) (calls mine : List Call) (xs : List Answer) (old new : Polled S C) (stop : Stop)
+        → OverStream S.answers given x calls mine xs old.exchange old.line → Reaches (PollsOnce S.answers C.moments) old stop new
+        → (more : List Call) × (ys : List Answer) × OverStream S.answers given x (calls ++ more) (mine ++ more) (xs ++ ys) new.exchange new.line }
 {}

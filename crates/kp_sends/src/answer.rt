@@ -49,7 +49,11 @@ pub(crate) fn put_answer(
     answer: &Answered,
 ) -> Result<(), StepFault> {
     match answer {
-        Answered::Append(Ok(())) | Answered::Disconnect | Answered::Close | Answered::Flush => {}
+        Answered::Append(Ok(()))
+        | Answered::Disconnect
+        | Answered::Lead
+        | Answered::Close
+        | Answered::Flush => {}
         Answered::Append(Err((fault, back))) => {
             write!(text, "{fault:?}, back ")?;
             put_item(text, back)?

@@ -98,7 +98,7 @@ impl Broker {
     }
 
     pub(crate) fn serve(&mut self, core: &mut Core) -> Result<(), StepFault> {
-        match core.make(Asked::Request(0)) {
+        match core.make(Asked::Request(0, 0)) {
             Answered::Request(Ok(None)) => Ok(()),
             Answered::Request(Ok(Some(outgoing))) => self.store(core, &outgoing),
             _ => Err(StepFault::CannotBe("no request")),

@@ -8,11 +8,13 @@
 //! - `append SENDER PARTITION/NUMBER RECORD`: an item, accepted now, is appended; a refusal tells the item that comes
 //!   back. `may` has the same words, and is whether it may be appended. `feed LETTERS` appends sender 0's first items for
 //!   partition 0, a letter each.
-//! - `send`: the next request, as `CORRELATION PARTITION:ID/SEQUENCE+RECORD+RECORD ..` or `CORRELATION init`, or `idle`.
+//! - `send` or `send NODE`: the next request to node 0, or to this one, as
+//!   `CORRELATION PARTITION:ID/SEQUENCE+RECORD+RECORD ..` or `CORRELATION init`, or `idle`.
 //! - `reply CORRELATION TOPIC PARTITION:CODE@OFFSET ..`, with a bar between two topics: a reply to batches is heard.
 //!   `N told`, of so many items; `stale`, to no request in flight; or a fault. `reply-init CORRELATION CODE ID EPOCH` is
 //!   one that gives a producer id, and `hear CONTENT` any content.
-//! - `tick`, `drop`, `close`, `flush` and `end`: the time is looked at, the connection is lost, and so on.
+//! - `tick` and `drop`, with a node or without: the time is looked at, the connection is lost. `lead PARTITION NODE`: the
+//!   node leads the partition. `close`, `flush` and `end`.
 //! - `told SENDER`: all that the sender is told, `PARTITION/NUMBER OUTCOME` each; `fetch SENDER`: the oldest of it.
 //! - `list CALL`: one of the calls above joins a list; `make-all`: the calls of the list are made.
 //! - `keep`: the core is kept; `unchanged`: whether it is as it was then.

@@ -68,12 +68,13 @@ impl Scene {
     fn asked(&self, step: &str, words: &mut Words<'_>) -> Result<Option<Asked>, StepFault> {
         Ok(Some(match step {
             "append" => Asked::Append(item_of(self.alloc, self.now, words)?),
-            "send" => Asked::Request(self.now),
+            "send" => Asked::Request(node_of(words)?, self.now),
             "reply" => Asked::Reply(reply_of(self.alloc, words)?, self.now),
             "reply-init" => Asked::Reply(init_reply_of(self.alloc, words)?, self.now),
             "hear" => Asked::Reply(Blob::new(words.rest_bytes()?), self.now),
-            "tick" => Asked::Tick(self.now),
-            "drop" => Asked::Disconnect(self.now),
+            "tick" => Asked::Tick(node_of(words)?, self.now),
+            "drop" => Asked::Disconnect(node_of(words)?, self.now),
+            "lead" => Asked::Lead(words.number()?, words.number()?, self.now),
             "close" => Asked::Close,
             "flush" => Asked::Flush,
             "end" => Asked::End,
@@ -265,4 +266,12 @@ impl Scene {
             Some(audit) => put_runs(came, audit),
         }
     }
+}
+
+/// The node of a step: the next word, or node 0 where there is none.
+fn node_of(words: &mut Words<'_>) -> Result<u32, StepFault> {
+    if words.is_empty() {
+        return Ok(0);
+    }
+    words.number()
 }

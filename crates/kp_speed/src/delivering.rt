@@ -129,7 +129,7 @@ fn append_all(
 
 /// The correlation id of the request that goes out, and how many bytes it has.
 fn send(core: &mut Core) -> Result<(u32, u64), AllocError> {
-    match core.next_request(0) {
+    match core.next_request(0, 0) {
         Ok(Some(outgoing)) => Ok((outgoing.correlation, outgoing.bytes.len() as u64)),
         _ => Err(AllocError),
     }
@@ -235,7 +235,7 @@ pub(crate) fn ticks(alloc: Global, times: u32) -> Result<u64, AllocError> {
 }
 
 fn tells_nothing(core: &mut Core) -> bool {
-    core.tick(0).reports == 0
+    core.tick(0, 0).reports == 0
 }
 
 /// How many of so many requests do not go out, where nothing was appended.
@@ -249,7 +249,7 @@ pub(crate) fn asks_in_vain(alloc: Global, times: u32) -> Result<u64, AllocError>
 }
 
 fn sends_nothing(core: &mut Core) -> bool {
-    match core.next_request(0) {
+    match core.next_request(0, 0) {
         Ok(None) => true,
         _ => false,
     }

@@ -34,7 +34,7 @@ fn offer(core: &mut Core, item: Item) -> Offered {
 }
 
 fn ask(core: &mut Core, now: u64) -> Result<Option<Outgoing>, CoreFault> {
-    core.next_request(now)
+    core.next_request(0, now)
 }
 
 fn listen(core: &mut Core, content: &[u8], now: u64) -> Result<Replied, CoreFault> {
