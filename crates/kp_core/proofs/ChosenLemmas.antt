@@ -97,3 +97,23 @@ pub follow_none : {rule : ℕ → Partition → Effect} {chosen : List ℕ} {bef
     → IsToFollow rule chosen before old [] ts d
     → (ts ≡ changed_at chosen (λ p t. (rule p t).after) before) × (d ≡ tell_desk (flat_map (λ p. (rule p (partition_at p before)).told) chosen) old)
 follow_none {rule} {ts = ts} {d = d} f = (sym (changed_none (λ p t. (rule p t).after) ts) ∙ f.changed, sym (tell_desk-nil d) ∙ f.says)
+
+-- ---- a change of which nothing is told
+
+-- The change is still to be made at these partitions, and then it is so at all that were chosen.
+pub record IsToChange (change : Partition → Partition) (chosen : List ℕ) (before : List Partition) (ps : List ℕ) (ts : List Partition) : Type 0 where
+  pub there : AllByRecursion (λ p. p < length ts) ps
+  pub once : AreDistinct ps
+  pub changed : changed_at ps (λ p t. change t) ts ≡ changed_at chosen (λ p t. change t) before
+
+pub change_next : {change : Partition → Partition} {chosen : List ℕ} {before : List Partition} {p : ℕ} {ps : List ℕ} {ts : List Partition} (us : List Partition)
+    → us ≡ set ts p (change (partition_at p ts)) → IsToChange change chosen before (p ∷ ps) ts → IsToChange change chosen before ps us
+change_next {change} {chosen} {before} {p} {ps} {ts} us next f = subst (IsToChange change chosen before ps) (sym next) (record {
+  there = there_still p _ ps ts f.there.1;
+  once = f.once.1;
+  changed = sym (changed_first p ps (λ q t. change t) ts f.there.0 f.once.0) ∙ f.changed;
+})
+
+pub change_none : {change : Partition → Partition} {chosen : List ℕ} {before : List Partition} {ts : List Partition} → IsToChange change chosen before [] ts
+    → ts ≡ changed_at chosen (λ p t. change t) before
+change_none {change} {ts = ts} f = sym (changed_none (λ p t. change t) ts) ∙ f.changed

@@ -1,5 +1,7 @@
 -- When a core is next to be looked at, from its parts.
-use Rattle.std.proofs.Common.{◌≡◌, ◌∙◌, ℕ, ◌+◌, List, ◌++◌, map, Option, sym, ap}
+use Rattle.std.proofs.Common.{◌≡◌, ◌∙◌, ℕ, ◌+◌, ◌<◌, List, [], ◌∷◌, ◌++◌, length, get_or, take, map, Option, sym, ap}
+use Rattle.std.proofs.lemmas.List.{append-nil, get_or_default, take_more}
+use Rattle.std.proofs.lemmas.List.Concat.{flat_map-append}
 use Rattle.std.specs.Prelude.{flat_map}
 use Rattle.kp_rules.specs.Due.{earliest, id_moments, moments, next_due, partition_moments}
 use Rattle.kp_rules.specs.Records.{Core, Partition, Request}
@@ -22,3 +24,14 @@ due-is s a b d e f g =
     ∙ ap (λ (x : Option ℕ). sooner (sooner (earliest (timeouts s s.requests)) (earliest (of_partitions s s.partitions))) x) g
     ∙ ap (λ (x : Option ℕ). sooner x (earliest (id_moments s))) (sym (earliest-append (timeouts s s.requests) (of_partitions s s.partitions)))
     ∙ sym (earliest-append (timeouts s s.requests ++ of_partitions s s.partitions) (id_moments s))
+
+-- the moments of one more
+pub earliest-more : (g : ℕ → List ℕ) (ps : List ℕ) (k : ℕ) → k < length ps
+    → sooner (earliest (flat_map g (take k ps))) (earliest (g (get_or ps k 0))) ≡ earliest (flat_map g (take (k + 1) ps))
+earliest-more g ps k l =
+    let p = get_or ps k 0 in
+    let before = flat_map g (take k ps) in
+    sym (earliest-append before (g p))
+    ∙ ap (λ (xs : List ℕ). earliest (before ++ xs)) (sym (append-nil (g p)))
+    ∙ ap earliest (sym (flat_map-append g (take k ps) (p ∷ [])))
+    ∙ ap (λ (qs : List ℕ). earliest (flat_map g qs)) (ap (λ (q : ℕ). take k ps ++ q ∷ []) (get_or_default ps k 0 p l) ∙ sym (take_more ps k p l))

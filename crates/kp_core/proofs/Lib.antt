@@ -1,7 +1,6 @@
 pub mod KeepingLemmas
 pub mod RequestStepLemmas
 pub mod GoingOutLemmas
-pub mod EachLemmas
 pub mod ChosenLemmas
 pub mod SendEachLemmas
 pub mod SettledLemmas
@@ -22,3 +21,7 @@ pub mod ReplyLemmas
 pub mod ContentLemmas
 pub mod AnsweredLemmas
 pub mod CallingLemmas
+pub mod BusyLemmas
+pub mod IdleLemmas
+pub mod ListedLemmas
+pub mod WalkLemmas

@@ -4,7 +4,7 @@ use Rattle.std.specs.Prelude.{filter_map, if◌then◌else◌, nat_le}
 use Rattle.std.specs.List.{AllByRecursion, enumerate_from}
 use Rattle.std.proofs.lemmas.Bool.{cases_lt}
 use Rattle.std.proofs.lemmas.Bool.Decides.{nat_tests}
-use Rattle.std.proofs.lemmas.List.{drop_all, length-drop, take_all}
+use Rattle.std.proofs.lemmas.List.{drop_all, take_all}
 use Rattle.std.proofs.lemmas.List.Elements.{filter_map-append}
 use Rattle.std.proofs.lemmas.List.FromFn.{length-enumerate_from}
 use Rattle.kp_accum.specs.declared.flags.Flags.{Flags}
@@ -94,23 +94,15 @@ none_second (x ∷ xs) ys e = absurd cc
 
 -- ---- gathered in two parts
 
-whole_tail : {A : Type 0} (n : ℕ) (xs : List A) → take (length xs - n) (drop n xs) ≡ drop n xs
-whole_tail n xs = take_all (length xs - n) (drop n xs) (omega (arith, length-drop n xs))
+abbrev pub behind : ℕ → ℕ → Core → ℕ → Flags → List Sending
+behind node now s first flags = filter_map (sends_in node s.config flags now) (enumerate_from first (drop first s.partitions))
 
-abbrev pub behind : ℕ → ℕ → Core → ℕ → List Partition → Flags → List Sending
-behind node now s first ts flags = filter_map (sends_in node s.config flags now) (enumerate_from first (take (length ts - first) (drop first ts)))
+abbrev pub before : ℕ → ℕ → Core → ℕ → Flags → List Sending
+before node now s first flags = filter_map (sends_in node s.config flags now) (enumerate_from 0 (take first s.partitions))
 
-abbrev pub before : ℕ → ℕ → Core → ℕ → List Partition → Flags → List Sending
-before node now s first ts flags = filter_map (sends_in node s.config flags now) (enumerate_from 0 (take first ts))
-
-pub gathered : (node now : ℕ) (s : Core) (first : ℕ) (ts us : List Partition) (flags : Flags) → first ≡ min (used_up_to node s.turns) (length s.partitions)
-    → ts ≡ s.partitions → us ≡ s.partitions → flags ≡ flags_of s
-    → behind node now s first ts flags ++ before node now s first us flags ≡ all_sendings node now s
-gathered node now s first ts us flags is here there pressed =
-    ap (λ (f : Flags). behind node now s first ts f ++ before node now s first us f) pressed
-    ∙ ap (λ (xs : List Partition). behind node now s first xs (flags_of s) ++ before node now s first us (flags_of s)) here
-    ∙ ap (λ (xs : List Partition). behind node now s first s.partitions (flags_of s) ++ before node now s first xs (flags_of s)) there
-    ∙ ap (λ (xs : List Partition). filter_map (sends_in node s.config (flags_of s) now) (enumerate_from first xs) ++ before node now s first s.partitions (flags_of s))
-    (whole_tail first s.partitions)
+pub gathered : (node now : ℕ) (s : Core) (first : ℕ) (flags : Flags) → first ≡ min (used_up_to node s.turns) (length s.partitions) → flags ≡ flags_of s
+    → behind node now s first flags ++ before node now s first flags ≡ all_sendings node now s
+gathered node now s first flags is pressed =
+    ap (λ (f : Flags). behind node now s first f ++ before node now s first f) pressed
     ∙ sym (filter_map-append (sends_in node s.config (flags_of s) now) (enumerate_from first (drop first s.partitions)) (enumerate_from 0 (take first s.partitions)))
     ∙ ap (filter_map (sends_in node s.config (flags_of s) now)) (in_turn-is node s first is)

@@ -12,7 +12,7 @@ abbrev pub seen_of : Inside → Core
 seen_of c = record {
   config = c.config;
   names = c.names;
-  partitions = c.partitions.items;
+  partitions = c.partitions;
   requests = c.requests.items;
   id_waits = c.id_waits;
   correlation = c.correlation;

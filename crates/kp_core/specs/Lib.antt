@@ -5,3 +5,4 @@ pub mod Keeping
 pub mod Choosing
 pub mod Matching
 pub mod Hearing
+pub mod Busy

@@ -17,13 +17,15 @@ mod ending;
 mod leading;
 mod matching;
 mod opening;
+mod partitions;
 mod replying;
 mod ticking;
 
+use crate::machine::partitions::Partitions;
 use crate::requests::Request;
 use crate::turns::Turn;
 use kp_accum::{AppendFault, Config, Item};
-use kp_parts::{Desk, Partition};
+use kp_parts::Desk;
 use kp_rules::{CoreFault, Names, Outgoing, Replied, Report, Ticked};
 use std::alloc::{AllocError, Global};
 use std::marker::Model;
@@ -34,7 +36,7 @@ pub struct Core {
     alloc: Global,
     config: Config,
     names: Names,
-    partitions: Vec<Partition>,
+    partitions: Partitions,
     /// Those in flight.
     requests: Vec<Request>,
     /// The moment at which an id was refused, or its request dropped.

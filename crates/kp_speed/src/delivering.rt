@@ -15,8 +15,11 @@ use std::alloc::{AllocError, Global};
 /// How many of the items make a full batch.
 const BATCH: u32 = 148;
 
-/// How many empty partitions a core has that is looked at in vain.
+/// How many partitions a core has of which none, or only a few, have something to do.
 const PARTITIONS: u32 = 1024;
+
+/// How many partitions have something to do, where only a few have.
+const BUSY: u32 = 4;
 
 /// When the items' requests go out, and when their reports are fetched.
 #[derive(Clone, Copy, PartialEq, Eq)]
@@ -255,12 +258,74 @@ fn sends_nothing(core: &mut Core) -> bool {
     }
 }
 
-/// How often it is asked in vain when the core is next to be looked at, where nothing was appended.
+/// How often it is asked in vain, after a tick that tells nothing, when the core is next to be looked at, where nothing was
+/// appended.
 pub(crate) fn asks_when(alloc: Global, times: u32) -> Result<u64, AllocError> {
-    let core = core_of(alloc, PARTITIONS, 1)?;
+    let mut core = core_of(alloc, PARTITIONS, 1)?;
     let mut sum = 0u64;
     for _ in 0..times {
-        sum = sum.wrapping_add(u64::from(core.next_due().is_none()));
+        let is_vain = tells_nothing(&mut core) && core.next_due().is_none();
+        sum = sum.wrapping_add(u64::from(is_vain));
+    }
+    Ok(sum)
+}
+
+/// Of how many partitions a core has of which `BUSY` have something to do.
+#[derive(Clone, Copy)]
+pub(crate) enum Among {
+    /// No more than those.
+    Few,
+    /// As many as `PARTITIONS`.
+    Many,
+}
+
+impl Among {
+    fn partitions(self) -> u32 {
+        match self {
+            Among::Few => BUSY,
+            Among::Many => PARTITIONS,
+        }
+    }
+}
+
+/// So many requests go out, of a batch with one item for each of the partitions that have something to do, and each is lost
+/// with its connection. The answer is the number of bytes that go out.
+pub(crate) fn asks_again(alloc: Global, among: Among, times: u32) -> Result<u64, AllocError> {
+    let mut core = filled_core(alloc, among)?;
+    let mut sum = 0u64;
+    for time in 0..times {
+        sum = sum.wrapping_add(ask_again(&mut core, u64::from(time))?);
+    }
+    Ok(sum)
+}
+
+/// A core of which a few partitions, spread over all, have an item.
+fn filled_core(alloc: Global, among: Among) -> Result<Core, AllocError> {
+    let mut core = core_of(alloc, among.partitions(), 1)?;
+    let step = among.partitions() / BUSY;
+    for busy in 0..BUSY {
+        append(&mut core, item_of(alloc, 0, busy.wrapping_mul(step), busy)?)?;
+    }
+    Ok(core)
+}
+
+/// A request goes out and is lost, so long after the backoff of the one before it that it is ready. How many bytes it has.
+fn ask_again(core: &mut Core, time: u64) -> Result<u64, AllocError> {
+    let now = time.wrapping_mul(CONFIG.retry_backoff_ms);
+    let bytes = match core.next_request(0, now) {
+        Ok(Some(outgoing)) => outgoing.bytes.len() as u64,
+        _ => return Err(AllocError),
+    };
+    core.on_disconnect(0, now);
+    Ok(bytes)
+}
+
+/// How many of so many ticks tell nothing, where a few partitions have an item.
+pub(crate) fn ticks_again(alloc: Global, among: Among, times: u32) -> Result<u64, AllocError> {
+    let mut core = filled_core(alloc, among)?;
+    let mut sum = 0u64;
+    for _ in 0..times {
+        sum = sum.wrapping_add(u64::from(tells_nothing(&mut core)));
     }
     Ok(sum)
 }

@@ -9,18 +9,21 @@
 //! lists and partitions. `deliver N` has N items go through a sender core in rounds of a full batch: appended, sent,
 //! answered, and their reports fetched; `keep N` appends all of them first, and `leave N` fetches no report before the
 //! end. `delivers N`, `keeps N` and `leaves N` do so with 64 senders and 64 partitions, and `years N` is `deliver N` with
-//! four senders. Of a core of 1,024 partitions without an item, `tick N` tells it the time N times, `vain N` asks it for a
-//! request, and `due N` when it is next to be looked at. `record N` makes N records of 100 bytes, each dropped before the
-//! next is made, and `lose N` drops none; `send N` sends N records (65,536 at most) into a lane and drops none, `lane N`
-//! sends, takes and drops N, one after the other, and `lanes N` does so in rounds of 256; `ring N` and `rings N` pass N
-//! items through a bare ring in the same way. `hear N` hands N reports to a sender, which receives them, and `idle N` finds
-//! N times that there is nothing to take. `spell N` writes N batches of 100 records, and `offer N` offers each to a log as
-//! it is written; `look N` does the same and looks 100,000 records up, and `list N` reads each and keeps all records in
-//! one list that has just their room. `ask N` writes N Produce requests with a batch of 148 records each, `store N` offers
-//! each batch to a log as its request is written, and `answer N` has a broker answer each request in place of that.
-//! `turn N` sends N records through an engine to a broker in the same process, in full batches, until their reports are
-//! fetched, and `hold N` makes as many and drops them in batches; `rest N` polls an engine N times that has one sender, one
-//! partition and nothing to do, and `rests N` one with 64 senders and 1,024 partitions.
+//! four senders. Of a core of 1,024 partitions without an item, `tick N` tells it the time N times, `vain N` asks it
+//! for a request, and `due N` after each tick when it is next to be looked at. `few N` sends N requests for four
+//! partitions that have an item each, and loses each with its connection, and `heed N` tells such a core the time;
+//! `many N` and `heeds N` do so in a core of 1,024 partitions, of which four have an item. `record N` makes N records
+//! of 100 bytes, each dropped before the next is made, and `lose N` drops none; `send N` sends N records (65,536 at
+//! most) into a lane and drops none, `lane N` sends, takes and drops N, one after the other, and `lanes N` does so in
+//! rounds of 256; `ring N` and `rings N` pass N items through a bare ring in the same way. `hear N` hands N reports to
+//! a sender, which receives them, and `idle N` finds N times that there is nothing to take. `spell N` writes N batches
+//! of 100 records, and `offer N` offers each to a log as it is written; `look N` does the same and looks 100,000
+//! records up, and `list N` reads each and keeps all records in one list that has just their room. `ask N` writes N
+//! Produce requests with a batch of 148 records each, `store N` offers each batch to a log as its request is written,
+//! and `answer N` has a broker answer each request in place of that. `turn N` sends N records through an engine to a
+//! broker in the same process, in full batches, until their reports are fetched, and `hold N` makes as many and drops
+//! them in batches; `rest N` polls an engine N times that has one sender, one partition and nothing to do, and
+//! `rests N` one with 64 senders and 1,024 partitions.
 #![tactic(auto)]
 
 mod answering;
@@ -34,7 +37,9 @@ mod turning;
 mod work;
 
 use answering::{answers, asks, stores};
-use delivering::{Course, Plan, asks_in_vain, asks_when, delivers, ticks};
+use delivering::{
+    Among, Course, Plan, asks_again, asks_in_vain, asks_when, delivers, ticks, ticks_again,
+};
 use futures::test::MockTask;
 use laning::{
     hears, loses, passes, passes_by_rounds, records, rings, rings_by_rounds, sends, takes_in_vain,
@@ -100,6 +105,10 @@ fn answer(alloc: Global, line: &str) -> Result<Option<u64>, AllocError> {
         "tick" => ticks(alloc, times).map(Some),
         "vain" => asks_in_vain(alloc, times).map(Some),
         "due" => asks_when(alloc, times).map(Some),
+        "few" => asks_again(alloc, Among::Few, times).map(Some),
+        "many" => asks_again(alloc, Among::Many, times).map(Some),
+        "heed" => ticks_again(alloc, Among::Few, times).map(Some),
+        "heeds" => ticks_again(alloc, Among::Many, times).map(Some),
         "record" => records(alloc, times).map(Some),
         "lose" => loses(alloc, times).map(Some),
         "send" => sends(alloc, times).map(Some),

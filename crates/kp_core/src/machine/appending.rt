@@ -32,7 +32,7 @@ impl Core {
         if self.ended {
             return self.turn_away(item, Reason::Ended);
         }
-        if self.partitions[item.partition as usize].is_fenced() {
+        if self.partitions.at(item.partition).is_fenced() {
             return self.turn_away(item, Reason::Fenced);
         }
         let charge = item.charge();
@@ -72,8 +72,7 @@ impl Core {
         if self.desk.reserve(sender).is_err() {
             return Err((AppendFault::OutOfMemory, item));
         }
-        let partition = &mut self.partitions[item.partition as usize];
-        if let Err(failed) = partition.enqueue(&self.config, charge, item) {
+        if let Err(failed) = self.partitions.enqueue(&self.config, charge, item) {
             self.desk.give_back_place(sender);
             return Err((AppendFault::OutOfMemory, failed.value));
         }

@@ -1,17 +1,14 @@
 //! What the next request asks for.
 
-ghost use Rattle.std.specs.Prelude.{◌≡◌, ◌<◌, ◌^◌, ◌+◌, ◌++◌, ◌&&◌, [], not, filter_map, find, take, option_map, length, min, OnOk, IfOk, IfErr};
-ghost use Rattle.std.specs.List.{enumerate_from};
-ghost use Rattle.kp_rules.specs.MaySend.{wants_id};
+ghost use Rattle.std.specs.Prelude.{◌≡◌, ◌<◌, [], not, take, length, min, IfOk, IfErr};
 ghost use Rattle.kp_rules.specs.Next.{flags_of, fitting, next_asking, next_batches, used_up_to};
-ghost use Rattle.kp_rules.specs.Partitions.{is_empty, leads};
-ghost use Rattle.kp_core.specs.Choosing.{sends_in};
+ghost use Rattle.kp_rules.specs.Partitions.{is_empty};
 
 use crate::machine::Core;
 use crate::requests::any_asks_for_id;
 use crate::turns::used_up_to;
-use kp_accum::{Config, Flags};
-use kp_parts::{Partition, Sending, is_over};
+use kp_accum::Flags;
+use kp_parts::{Sending, is_over};
 use std::alloc::AllocError;
 
 impl Core {
@@ -38,7 +35,7 @@ impl Core {
                 return None;
             }
         }
-        first_wanting(&self.partitions, node, &self.config)
+        self.partitions.first_wanting(node, &self.config)
     }
 
     /// The place of the first partition behind the last one used for this node.
@@ -57,24 +54,10 @@ impl Core {
         let flags = self.flags();
         let first = self.first_in_turn(node);
         let mut sendings = Vec::new(self.alloc);
-        gather(
-            &mut sendings,
-            &self.partitions[first..],
-            first,
-            node,
-            &self.config,
-            flags,
-            now,
-        )?;
-        gather(
-            &mut sendings,
-            &self.partitions[..first],
-            0,
-            node,
-            &self.config,
-            flags,
-            now,
-        )?;
+        self.partitions
+            .gather_from(&mut sendings, first, node, &self.config, flags, now)?;
+        self.partitions
+            .gather_below(&mut sendings, first, node, &self.config, flags, now)?;
         let count = count_fitting(&sendings, self.config.max_request_size);
         sendings.truncate(count);
         Ok(sendings)
@@ -90,46 +73,6 @@ impl Core {
             Err(_) => true,
         }
     }
-}
-
-/// The number of the node's first partition that wants a fresh id.
-fn first_wanting(partitions: &[Partition], node: u32, config: &Config) -> Option<u32>
-    requires { length partitions.now < 2 ^ 32 }
-    ensures { result ≡ option_map (λ x. x.0) (find (λ x. leads node x.1 && wants_id config.now x.1) (enumerate_from 0 partitions.now)) }
-{
-    for place in 0..partitions.len() {
-        let partition = &partitions[place];
-        if partition.is_led_by(node) && partition.wants_id(config) {
-            return Some(place as u32);
-        }
-    }
-    None
-}
-
-/// What these partitions send to this node, numbered from `first`, behind what there is.
-fn gather<'a>(
-    sendings: &mut Vec<Sending<'a>>,
-    partitions: &'a [Partition],
-    first: usize,
-    node: u32,
-    config: &Config,
-    flags: Flags,
-    now: u64,
-) -> Result<(), AllocError>
-    requires { first + length partitions.now < 2 ^ 32 }
-    ensures ok { OnOk result (sendings.new.items ≡
-        sendings.old.items ++ filter_map (sends_in node config.now flags now) (enumerate_from first partitions.now)) }
-    ensures some { IfErr result (λ e. filter_map (sends_in node config.now flags now) (enumerate_from first partitions.now) ≡ [] → ⊥) }
-{
-    for (place, partition) in partitions.iter().enumerate() {
-        if let Some(batch) = partition.sends_to(node, config, flags, now) {
-            sendings.push(Sending {
-                partition: (first + place) as u32,
-                batch,
-            })?;
-        }
-    }
-    Ok(())
 }
 
 /// How many of them fit into so many bytes, up to the first that does not.

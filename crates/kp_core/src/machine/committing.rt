@@ -1,21 +1,17 @@
 //! A request goes out.
 
-ghost use Rattle.std.specs.Prelude.{◌≡◌, ◌<◌, ◌^◌, [], Some, None, false, true, length, option_map, IfOk, IfErr, OnErr, OnOk};
-ghost use Rattle.std.specs.List.{AllByRecursion};
+ghost use Rattle.std.specs.Prelude.{◌≡◌, ◌<◌, [], Some, None, false, true, option_map, IfOk, IfErr, OnErr, OnOk};
 ghost use Rattle.kp_rules.specs.Attempts.{has_window};
 ghost use Rattle.kp_rules.specs.Calls.{Request as Requested, Step};
-ghost use Rattle.kp_rules.specs.HandingOver.{send_in};
-ghost use Rattle.kp_rules.specs.InOrder.{AreDistinct};
 ghost use Rattle.kp_rules.specs.Next.{next_asking, next_batches, next_demand};
-ghost use Rattle.kp_rules.specs.Partitions.{changed_at, partition_at};
 ghost use Rattle.kp_rules.specs.Records.{Produce, InitProducerId};
 ghost use Rattle.kp_rules.specs.Requesting.{is_spent, partitions_in, sent_out};
-ghost use Rattle.kp_core.specs.Choosing.{FramesBatches, MayGoOut};
+ghost use Rattle.kp_core.specs.Choosing.{FramesBatches};
 
 use crate::machine::Core;
 use crate::requests::{Demand, Request, count_to};
 use crate::turns::turn_to;
-use kp_parts::{Partition, Sending, id_frame, produce_frame};
+use kp_parts::{Sending, id_frame, produce_frame};
 use kp_rules::{CoreFault, Outgoing};
 use kp_wire::Blob;
 use std::alloc::{AllocError, Global};
@@ -166,7 +162,7 @@ impl Core {
         let correlation = self.correlation;
         self.requests.reserve(1)?;
         turn_to(&mut self.turns, node, &chosen)?;
-        send_each(&mut self.partitions, &chosen, correlation);
+        self.partitions.send_each(&chosen, correlation);
         let demand = Demand::Produce(chosen);
         self.requests
             .push_reserved(Request::new(correlation, node, now, demand));
@@ -184,17 +180,4 @@ fn partitions_in(alloc: Global, sendings: &[Sending<'_>]) -> Result<Vec<u32>, Al
         chosen.push(sending.partition)?;
     }
     Ok(chosen)
-}
-
-/// What each of these partitions may send goes out in this request.
-fn send_each(partitions: &mut Vec<Partition>, chosen: &[u32], correlation: u32)
-    requires there { AllByRecursion (λ p. p < length partitions.old.items) chosen.now }
-    requires once { AreDistinct chosen.now }
-    requires place { AllByRecursion (λ p. MayGoOut (partition_at p partitions.old.items)) chosen.now }
-    ensures { partitions.new.items ≡ changed_at chosen.now (λ p t. send_in correlation t) partitions.old.items }
-{
-    for place in chosen {
-        let partition = &mut partitions[*place as usize];
-        partition.send_in(correlation);
-    }
 }

@@ -4,12 +4,12 @@ ghost use Rattle.std.specs.Prelude.{◌≡◌, ◌<◌, length, min};
 ghost use Rattle.std.specs.List.{list_any};
 ghost use Rattle.std.specs.Option.{option_copied};
 ghost use Rattle.kp_rules.specs.Counts.{attempts_sent, batches_handed_over, batches_in_flight};
-ghost use Rattle.kp_rules.specs.Flush.{has_marks, is_flushed};
+ghost use Rattle.kp_rules.specs.Flush.{is_flushed};
 ghost use Rattle.kp_rules.specs.Partitions.{all_untold, partition_at, used};
+ghost use Rattle.kp_core.specs.Busy.{busy_in, has_work_for};
 
 use crate::machine::Core;
 use kp_accum::Config;
-use kp_parts::Partition;
 use kp_rules::{Names, Run};
 
 impl Core {
@@ -30,6 +30,20 @@ impl Core {
         ensures { result ≡ length self.now.partitions }
     {
         self.partitions.len()
+    }
+
+    /// The numbers of the partitions of which something is queued or open, upwards.
+    pub fn busy(&self) -> &[u32]
+        ensures { result.now ≡ busy_in self.now.partitions }
+    {
+        self.partitions.busy()
+    }
+
+    /// Whether something is queued or open of a partition that this node leads.
+    pub fn has_work(&self, node: u32) -> bool
+        ensures { result ≡ list_any (has_work_for node) self.now.partitions }
+    {
+        self.partitions.have_work(node)
     }
 
     /// How many senders there are.
@@ -78,7 +92,7 @@ impl Core {
         ensures { result ≡ min (batches_in_flight self.now) u64.MAX }
     {
         let mut sum: u64 = 0;
-        for partition in &self.partitions {
+        for partition in self.partitions.all() {
             sum = sum.saturating_add(partition.batches_in_flight());
         }
         sum
@@ -90,7 +104,7 @@ impl Core {
         ensures { result ≡ min (batches_handed_over self.now) u64.MAX }
     {
         let mut sum: u64 = 0;
-        for partition in &self.partitions {
+        for partition in self.partitions.all() {
             sum = sum.saturating_add(partition.batches_handed_over());
         }
         sum
@@ -102,7 +116,7 @@ impl Core {
         ensures { result ≡ min (attempts_sent self.now) u64.MAX }
     {
         let mut sum: u64 = 0;
-        for partition in &self.partitions {
+        for partition in self.partitions.all() {
             sum = sum.saturating_add(partition.attempts_sent());
         }
         sum
@@ -113,7 +127,7 @@ impl Core {
     pub fn flushed(&self) -> bool
         ensures { result ≡ is_flushed self.now }
     {
-        !any_marked(&self.partitions)
+        !self.partitions.any_marked()
     }
 
     /// The partition's producer ids, the present one last.
@@ -121,7 +135,7 @@ impl Core {
         requires { partition < length self.now.partitions }
         ensures { result.now ≡ (partition_at partition self.now.partitions).ids }
     {
-        self.partitions[partition as usize].ids()
+        self.partitions.at(partition).ids()
     }
 
     /// The items that were handed over for the partition, in order: neighbours of one sender with successive numbers
@@ -130,13 +144,6 @@ impl Core {
         requires { partition < length self.now.partitions }
         ensures { option_copied result ≡ (partition_at partition self.now.partitions).audit }
     {
-        self.partitions[partition as usize].audit()
+        self.partitions.at(partition).audit()
     }
-}
-
-/// Whether a flush waits for a batch of one of the partitions.
-fn any_marked(partitions: &[Partition]) -> bool
-    ensures { result ≡ list_any has_marks partitions.now }
-{
-    partitions.iter().any(|partition| partition.has_marks())
 }

@@ -1,14 +1,14 @@
 //! A core is made.
 
-ghost use Rattle.std.specs.Prelude.{◌≡◌, IfOk, if◌then◌else◌, replicate};
+ghost use Rattle.std.specs.Prelude.{◌≡◌, IfOk};
 ghost use Rattle.std.specs.Str.{IsUtf8};
-ghost use Rattle.kp_rules.specs.Auditing.{opened, unaudited};
+ghost use Rattle.kp_rules.specs.Auditing.{opened};
 ghost use Rattle.kp_rules.specs.Opening.{MayOpen, new_core};
-ghost use Rattle.kp_rules.specs.Partitions.{new_partition};
 
 use crate::machine::Core;
+use crate::machine::partitions::Partitions;
 use kp_accum::Config;
-use kp_parts::{Desk, Partition};
+use kp_parts::Desk;
 use kp_rules::Names;
 use kp_wire::Text;
 use std::alloc::{AllocError, Global};
@@ -36,7 +36,7 @@ impl Core {
             alloc,
             config,
             names,
-            partitions: new_partitions(alloc, partitions, producer_id, audits)?,
+            partitions: Partitions::new(alloc, partitions, producer_id, audits)?,
             requests: Vec::with_capacity(
                 alloc,
                 config.max_in_flight_requests_per_connection as usize,
@@ -57,21 +57,4 @@ fn see_text(text: &Text)
     ensures { IsUtf8 text.now }
 {
     let _text = text.as_str();
-}
-
-/// So many partitions of which nothing was sent.
-fn new_partitions(
-    alloc: Global,
-    count: u32,
-    producer_id: u64,
-    audits: bool,
-) -> Result<Vec<Partition>, AllocError>
-    ensures { IfOk result (λ partitions. partitions.items ≡
-        replicate count (if audits then new_partition producer_id else unaudited (new_partition producer_id))) }
-{
-    let mut partitions = Vec::with_capacity(alloc, count as usize)?;
-    for _ in 0..count {
-        partitions.push(Partition::new(alloc, producer_id, audits)?)?;
-    }
-    Ok(partitions)
 }

@@ -16,7 +16,7 @@ impl Partition {
     /// Whether nothing is queued or open, so that it needs no look.
     #[inline]
     #[tactic(auto, unfolding(crate::specs::PartitionRooms::is_idle))]
-    pub(super) fn is_idle(&self) -> bool
+    pub fn is_idle(&self) -> bool
         ensures { result ≡ is_idle self.now }
     {
         if !self.open_batches.is_empty() {

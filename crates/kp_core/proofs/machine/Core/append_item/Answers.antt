@@ -1,8 +1,7 @@
-use Rattle.std.proofs.Common.{◌≡◌, ◌∙◌, ◌<◌, true, false, not, length, sym, ap, rules, arith}
-use Rattle.std.proofs.lemmas.List.{get_or_default}
+use Rattle.std.proofs.Common.{◌≡◌, ◌∙◌, true, false, not, sym, ap, arith}
 use Rattle.kp_core.specs.Keeping.{seen_of}
 use Rattle.kp_rules.specs.Appending.{may_append, would_exhaust}
-use Rattle.kp_rules.specs.Partitions.{new_partition, partition_at}
+use Rattle.kp_rules.specs.Partitions.{partition_at}
 use Rattle.kp_rules.specs.Records.{Core, Partition}
 use Rattle.kp_rules.proofs.OrderedCallLemmas.{has_bounds, is_there}
 use Rattle.kp_core.proofs.AppendLemmas.{answers_full, at_end, at_fence, charge_fits, exhausts-is}
@@ -13,18 +12,17 @@ use Rattle.kp_core.proofs.machine.Core.append_item.Goals as goal
 pub turn_away-requires-clause-turned : goal.turn_away-requires-clause-turned
 turn_away-requires-clause-turned c = at_end c.args.item c.args.self.now c.requires (ap (λ (s : Core). s.ended) (sym c.self.view_is) ∙ c.if-self.true)
 
-pub index-requires : goal.index-requires
-index-requires c =
+pub at-requires : goal.at-requires
+at-requires c =
     let may : may_append c.args.item (seen_of c.self.inside) ≡ true = rw (c.self.view_is) c.requires in
-    let there : c.args.item.partition < length c.self.inside.partitions.items = is_there c.args.item (seen_of c.self.inside) may in
-    search rules
+    is_there c.args.item (seen_of c.self.inside) may
 
 pub turn_away-requires-then-is_fenced-clause-turned : goal.turn_away-requires-then-is_fenced-clause-turned
 turn_away-requires-then-is_fenced-clause-turned c =
     let s = seen_of c.self.inside in
     let may : may_append c.args.item s ≡ true = rw (c.self.view_is) c.requires in
-    let old : c.index.result.now ≡ partition_at c.args.item.partition s.partitions =
-    c.index.ensures ∙ get_or_default s.partitions c.args.item.partition c.index.result.now (new_partition 0) (is_there c.args.item s may) in
+    let old : c.at.result.now ≡ partition_at c.args.item.partition s.partitions =
+    c.at.ensures in
     at_fence c.args.item c.args.self.now c.requires (ap (λ (x : Core). x.ended) (sym c.self.view_is) ∙ c.if-self.false)
     (ap (λ (x : Core). (partition_at c.args.item.partition x.partitions).fenced) (sym c.self.view_is) ∙ ap (λ (t : Partition). t.fenced) (sym old)
     ∙ sym c.is_fenced.ensures ∙ c.if-is_fenced.true)
@@ -36,8 +34,8 @@ pub returns-then-not-has_room-clause-step : goal.returns-then-not-has_room-claus
 returns-then-not-has_room-clause-step c =
     let s = seen_of c.self.inside in
     let may : may_append c.args.item s ≡ true = rw (c.self.view_is) c.requires in
-    let old : c.index.result.now ≡ partition_at c.args.item.partition s.partitions =
-    c.index.ensures ∙ get_or_default s.partitions c.args.item.partition c.index.result.now (new_partition 0) (is_there c.args.item s may) in
+    let old : c.at.result.now ≡ partition_at c.args.item.partition s.partitions =
+    c.at.ensures in
     let going : c.args.self.now.ended ≡ false = ap (λ (x : Core). x.ended) (sym c.self.view_is) ∙ c.if-self.false in
     let free : (partition_at c.args.item.partition c.args.self.now.partitions).fenced ≡ false =
     ap (λ (x : Core). (partition_at c.args.item.partition x.partitions).fenced) (sym c.self.view_is) ∙ ap (λ (t : Partition). t.fenced) (sym old)

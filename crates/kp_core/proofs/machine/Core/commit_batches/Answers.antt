@@ -42,7 +42,7 @@ invariant_of-self-2 c =
     let demand : next_demand c.args.node c.args.now s ≡ Some (Produce xs) = rw (c.self.view_is) c.requires.demand in
     let items : c.args.chosen.items ≡ partitions_in xs = c.requires.chosen ∙ ap (λ (x : Core). partitions_in (next_batches c.args.node c.args.now x)) (sym c.self.view_is) in
     let chosen : c.deref-2.result.now ≡ partitions_in xs = c.deref-2.ensures.value ∙ items in
-    let changed : c.send_each.new.partitions.items ≡ changed_at (partitions_in xs) (λ p t. send_in s.correlation t) s.partitions =
+    let changed : c.send_each.new.self ≡ changed_at (partitions_in xs) (λ p t. send_in s.correlation t) s.partitions =
     c.send_each.ensures ∙ ap (λ (ps : List ℕ). changed_at ps (λ p t. send_in s.correlation t) s.partitions) chosen in
     let requests : c.push_reserved.new.self.items ≡ s.requests ++ request_of c.args.node c.args.now s (Produce (partitions_in xs)) ∷ [] =
     c.push_reserved.ensures.items ∙ ap (λ (rs : List Request). rs ++ c.new.result ∷ []) c.reserve.ensures.items
@@ -50,7 +50,7 @@ invariant_of-self-2 c =
     ∙ ap (λ (ps : List ℕ). s.requests ++ request_of c.args.node c.args.now s (Produce ps) ∷ []) items in
     let turns : c.turn_to.new.turns.items ≡ turned c.args.node (partitions_in xs) s.turns =
     c.in_ok-turn_to.ensures.ok ∙ ap (λ (ps : List ℕ). turned c.args.node ps s.turns) (c.deref.ensures.value ∙ items) in
-    let is = sent-is c.args.node c.args.now s xs c.send_each.new.partitions.items c.push_reserved.new.self.items c.turn_to.new.turns.items changed requests turns in
+    let is = sent-is c.args.node c.args.now s xs c.send_each.new.self c.push_reserved.new.self.items c.turn_to.new.turns.items changed requests turns in
     let going = ap (λ (x : Core). x.ended) c.self.view_is ∙ c.requires.going in
     subst (λ (x : Core). IsKept x c.self.inside.desk) (sym is)
     (quiet_kept c.self.invariant (sent_left c.args.node c.args.now s (Produce xs) going demand c.self.invariant.order))
@@ -62,7 +62,7 @@ returns-clause-after c =
     let demand : next_demand c.args.node c.args.now s ≡ Some (Produce xs) = rw (c.self.view_is) c.requires.demand in
     let items : c.args.chosen.items ≡ partitions_in xs = c.requires.chosen ∙ ap (λ (x : Core). partitions_in (next_batches c.args.node c.args.now x)) (sym c.self.view_is) in
     let chosen : c.deref-2.result.now ≡ partitions_in xs = c.deref-2.ensures.value ∙ items in
-    let changed : c.send_each.new.partitions.items ≡ changed_at (partitions_in xs) (λ p t. send_in s.correlation t) s.partitions =
+    let changed : c.send_each.new.self ≡ changed_at (partitions_in xs) (λ p t. send_in s.correlation t) s.partitions =
     c.send_each.ensures ∙ ap (λ (ps : List ℕ). changed_at ps (λ p t. send_in s.correlation t) s.partitions) chosen in
     let requests : c.push_reserved.new.self.items ≡ s.requests ++ request_of c.args.node c.args.now s (Produce (partitions_in xs)) ∷ [] =
     c.push_reserved.ensures.items ∙ ap (λ (rs : List Request). rs ++ c.new.result ∷ []) c.reserve.ensures.items
@@ -70,5 +70,5 @@ returns-clause-after c =
     ∙ ap (λ (ps : List ℕ). s.requests ++ request_of c.args.node c.args.now s (Produce ps) ∷ []) items in
     let turns : c.turn_to.new.turns.items ≡ turned c.args.node (partitions_in xs) s.turns =
     c.in_ok-turn_to.ensures.ok ∙ ap (λ (ps : List ℕ). turned c.args.node ps s.turns) (c.deref.ensures.value ∙ items) in
-    let is = sent-is c.args.node c.args.now s xs c.send_each.new.partitions.items c.push_reserved.new.self.items c.turn_to.new.turns.items changed requests turns in
+    let is = sent-is c.args.node c.args.now s xs c.send_each.new.self c.push_reserved.new.self.items c.turn_to.new.turns.items changed requests turns in
     is ∙ ap (λ (x : Core). sent_out c.args.node c.args.now x (Produce (next_batches c.args.node c.args.now x))) c.self.view_is

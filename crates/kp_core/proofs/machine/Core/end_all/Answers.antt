@@ -20,7 +20,7 @@ invariant_of-self c =
     let s = seen_of c.self.inside in
     let left = ended_left s c.self.invariant.order in
     let covers : Covers c.self.inside.desk (end_all s).told = covers_told c.self.invariant left in
-    let is = ended-is s c.give_up_each.new.partitions.items c.clear.new.self.items c.is_still_exhausted-self-inside.result c.self.inside.desk c.give_up_each.new.desk
+    let is = ended-is s c.give_up_each.new.self c.clear.new.self.items c.is_still_exhausted-self-inside.result c.self.inside.desk c.give_up_each.new.desk
     refl covers c.give_up_each.ensures.after c.give_up_each.ensures.told c.clear.ensures.items
     (c.is_still_exhausted-self-inside.ensures ∙ ap (λ n. c.self.inside.exhausted && (n == 0)) (omega (arith, c.untold-untold.ensures, c.untold.ensures))) in
     subst (λ (x : Core). IsKept x c.give_up_each.new.desk) (sym is)
@@ -31,7 +31,7 @@ unfolding at_each with_partitions
 returns-clause-after c =
     let s = seen_of c.self.inside in
     let covers : Covers c.self.inside.desk (end_all s).told = covers_told c.self.invariant (ended_left s c.self.invariant.order) in
-    ended-is s c.give_up_each.new.partitions.items c.clear.new.self.items c.is_still_exhausted-self-inside.result c.self.inside.desk c.give_up_each.new.desk
+    ended-is s c.give_up_each.new.self c.clear.new.self.items c.is_still_exhausted-self-inside.result c.self.inside.desk c.give_up_each.new.desk
     refl covers c.give_up_each.ensures.after c.give_up_each.ensures.told c.clear.ensures.items
     (c.is_still_exhausted-self-inside.ensures ∙ ap (λ n. c.self.inside.exhausted && (n == 0)) (omega (arith, c.untold-untold.ensures, c.untold.ensures)))
     ∙ ap (λ (x : Core). (end_all x).after) c.self.view_is

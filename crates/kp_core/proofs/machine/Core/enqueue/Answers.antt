@@ -1,9 +1,8 @@
-use Rattle.std.proofs.Common.{◌≡◌, ◌∙◌, ℕ, ◌+◌, ◌<◌, true, false, length, set, refl, sym, ap, subst, rules, arith}
-use Rattle.std.proofs.lemmas.List.{get_or_default, set-get_or}
+use Rattle.std.proofs.Common.{◌≡◌, ◌∙◌, ℕ, ◌+◌, true, false, set, refl, sym, ap, subst, rules, arith}
 use Rattle.kp_accum.specs.Queue.{charge_of}
 use Rattle.kp_core.specs.Keeping.{IsKept, seen_of}
 use Rattle.kp_rules.specs.Appending.{enqueue, may_append, with_queued, would_exhaust}
-use Rattle.kp_rules.specs.Partitions.{new_partition, partition_at}
+use Rattle.kp_rules.specs.Partitions.{partition_at}
 use Rattle.kp_rules.specs.Records.{Core}
 use Rattle.kp_rules.proofs.OrderedCallLemmas.{has_bounds, is_there}
 use Rattle.kp_parts.specs.Desk.{Desk, with_place, without_place}
@@ -19,13 +18,12 @@ pub returns-then-is_err-clause-step : goal.returns-then-is_err-clause-step
 returns-then-is_err-clause-step c =
     let same : c.reserve.new.self ≡ c.self.inside.desk = search rules in
     let step = answers_no_room c.args.item c.args.self.now c.requires.may c.requires.going c.requires.free c.requires.room in
-    (step.0, restored (seen_of c.self.inside) c.self.inside.partitions.items c.self.inside.desk c.reserve.new.self refl refl same ∙ c.self.view_is)
+    (step.0, restored (seen_of c.self.inside) c.self.inside.partitions c.self.inside.desk c.reserve.new.self refl refl same ∙ c.self.view_is)
 
-pub index_mut-partition-requires : goal.index_mut-partition-requires
-index_mut-partition-requires c =
+pub enqueue-requires-clause-there : goal.enqueue-requires-clause-there
+enqueue-requires-clause-there c =
     let may : may_append c.args.item (seen_of c.self.inside) ≡ true = rw (c.self.view_is) c.requires.may in
-    let there : c.args.item.partition < length c.self.inside.partitions.items = is_there c.args.item (seen_of c.self.inside) may in
-    search rules
+    is_there c.args.item (seen_of c.self.inside) may
 
 pub enqueue-requires-clause-fits : goal.enqueue-requires-clause-fits
 enqueue-requires-clause-fits c =
@@ -48,12 +46,8 @@ invariant_of-self-in-Err c =
     let kept : c.reserve.new.self ≡ with_place c.args.item.sender d = search rules in
     let back : c.give_back_place.new.self ≡ d =
     c.give_back_place.ensures ∙ ap (without_place c.args.item.sender) kept ∙ without-with_place c.args.item.sender d (line_there c.args.item s d refl may) in
-    let same : c.enqueue.new.self ≡ c.index_mut-partition.result.now = search rules in
-    let there : c.args.item.partition < length s.partitions = is_there c.args.item s may in
-    let ts : set s.partitions c.args.item.partition c.enqueue.new.self ≡ s.partitions =
-    ap (set s.partitions c.args.item.partition) (same ∙ c.index_mut-partition.ensures.value ∙ get_or_default s.partitions c.args.item.partition c.index_mut-partition.result.now (new_partition 0) there)
-    ∙ set-get_or s.partitions c.args.item.partition (new_partition 0) in
-    let is = restored s (set s.partitions c.args.item.partition c.enqueue.new.self) d c.give_back_place.new.self refl ts back in
+    let ts : c.enqueue.new.self ≡ s.partitions = search rules in
+    let is = restored s c.enqueue.new.self d c.give_back_place.new.self refl ts back in
     subst (λ (x : Core). IsKept x c.give_back_place.new.self) (sym is)
     (subst (λ (x : Desk). IsKept s x) (sym back) c.self.invariant)
 
@@ -65,13 +59,9 @@ returns-in-Err-clause-step c =
     let kept : c.reserve.new.self ≡ with_place c.args.item.sender d = search rules in
     let back : c.give_back_place.new.self ≡ d =
     c.give_back_place.ensures ∙ ap (without_place c.args.item.sender) kept ∙ without-with_place c.args.item.sender d (line_there c.args.item s d refl may) in
-    let same : c.enqueue.new.self ≡ c.index_mut-partition.result.now = search rules in
-    let there : c.args.item.partition < length s.partitions = is_there c.args.item s may in
-    let ts : set s.partitions c.args.item.partition c.enqueue.new.self ≡ s.partitions =
-    ap (set s.partitions c.args.item.partition) (same ∙ c.index_mut-partition.ensures.value ∙ get_or_default s.partitions c.args.item.partition c.index_mut-partition.result.now (new_partition 0) there)
-    ∙ set-get_or s.partitions c.args.item.partition (new_partition 0) in
+    let ts : c.enqueue.new.self ≡ s.partitions = search rules in
     let step = answers_no_room c.args.item c.args.self.now c.requires.may c.requires.going c.requires.free c.requires.room in
-    (step.0, restored s (set s.partitions c.args.item.partition c.enqueue.new.self) d c.give_back_place.new.self refl ts back ∙ c.self.view_is)
+    (step.0, restored s c.enqueue.new.self d c.give_back_place.new.self refl ts back ∙ c.self.view_is)
 
 pub take-requires-clause-room : goal.take-requires-clause-room
 take-requires-clause-room c =
@@ -92,17 +82,12 @@ invariant_of-self-2 c =
     let d = c.self.inside.desk in
     let i = c.args.item in
     let may : may_append i s ≡ true = rw (c.self.view_is) c.requires.may in
-    let there : i.partition < length s.partitions = is_there i s may in
     let kept : c.reserve.new.self ≡ with_place i.sender d = search rules in
-    let old : c.index_mut-partition.result.now ≡ partition_at i.partition s.partitions =
-    c.index_mut-partition.ensures.value ∙ get_or_default s.partitions i.partition c.index_mut-partition.result.now (new_partition 0) there in
-    let queued : c.enqueue.new.self ≡ enqueue s.config i c.index_mut-partition.result.now = search rules in
-    let ts : set s.partitions i.partition c.enqueue.new.self ≡ set s.partitions i.partition (enqueue s.config i (partition_at i.partition s.partitions)) =
-    ap (set s.partitions i.partition) (queued ∙ ap (enqueue s.config i) old) in
+    let ts : c.enqueue.new.self ≡ set s.partitions i.partition (enqueue s.config i (partition_at i.partition s.partitions)) = search rules in
     let told : c.take.new.self ≡ record (with_place i.sender d) { untold = d.untold + 1; used = d.used + charge_of i } =
     c.take.ensures ∙ ap (λ (x : Desk). let y : Desk = record x { untold = x.untold + 1; used = x.used + c.args.charge } in y) kept
     ∙ ap (λ (n : ℕ). let y : Desk = record (with_place i.sender d) { untold = d.untold + 1; used = d.used + n } in y) c.requires.is_its in
-    let is = queued-is i s (set s.partitions i.partition c.enqueue.new.self) d c.take.new.self refl ts told in
+    let is = queued-is i s c.enqueue.new.self d c.take.new.self refl ts told in
     let going : s.ended ≡ false = ap (λ (x : Core). x.ended) c.self.view_is ∙ c.requires.going in
     let free : (partition_at i.partition s.partitions).fenced ≡ false = ap (λ (x : Core). (partition_at i.partition x.partitions).fenced) c.self.view_is ∙ c.requires.free in
     let room : would_exhaust i s ≡ false = ap (would_exhaust i) c.self.view_is ∙ c.requires.room in
@@ -116,15 +101,10 @@ returns-clause-step c =
     let d = c.self.inside.desk in
     let i = c.args.item in
     let may : may_append i s ≡ true = rw (c.self.view_is) c.requires.may in
-    let there : i.partition < length s.partitions = is_there i s may in
     let kept : c.reserve.new.self ≡ with_place i.sender d = search rules in
-    let old : c.index_mut-partition.result.now ≡ partition_at i.partition s.partitions =
-    c.index_mut-partition.ensures.value ∙ get_or_default s.partitions i.partition c.index_mut-partition.result.now (new_partition 0) there in
-    let queued : c.enqueue.new.self ≡ enqueue s.config i c.index_mut-partition.result.now = search rules in
-    let ts : set s.partitions i.partition c.enqueue.new.self ≡ set s.partitions i.partition (enqueue s.config i (partition_at i.partition s.partitions)) =
-    ap (set s.partitions i.partition) (queued ∙ ap (enqueue s.config i) old) in
+    let ts : c.enqueue.new.self ≡ set s.partitions i.partition (enqueue s.config i (partition_at i.partition s.partitions)) = search rules in
     let told : c.take.new.self ≡ record (with_place i.sender d) { untold = d.untold + 1; used = d.used + charge_of i } =
     c.take.ensures ∙ ap (λ (x : Desk). let y : Desk = record x { untold = x.untold + 1; used = x.used + c.args.charge } in y) kept
     ∙ ap (λ (n : ℕ). let y : Desk = record (with_place i.sender d) { untold = d.untold + 1; used = d.used + n } in y) c.requires.is_its in
-    let is = queued-is i s (set s.partitions i.partition c.enqueue.new.self) d c.take.new.self refl ts told in
+    let is = queued-is i s c.enqueue.new.self d c.take.new.self refl ts told in
     answers_queued i c.args.self.now _ c.requires.may c.requires.going c.requires.free c.requires.room (is ∙ ap (with_queued i) c.self.view_is)

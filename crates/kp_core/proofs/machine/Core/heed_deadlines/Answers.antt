@@ -21,9 +21,9 @@ invariant_of-self c =
     let s = seen_of c.self.inside in
     let left = heeded_left c.args.now s c.self.invariant.order in
     let covers : Covers c.self.inside.desk (at_each (heed_deadlines s.config c.args.now) s).told = covers_told c.self.invariant left in
-    let is = heeded-is c.args.now s c.heed_each.new.partitions.items c.keep_live.new.requests.items c.is_still_exhausted-self-inside.result c.self.inside.desk c.heed_each.new.desk
+    let is = heeded-is c.args.now s c.heed_each.new.self c.keep_live.new.requests.items c.is_still_exhausted-self-inside.result c.self.inside.desk c.heed_each.new.desk
     refl covers c.heed_each.ensures.after c.heed_each.ensures.told
-    (c.keep_live.ensures ∙ ap (λ (ts : List Partition). filter (is_live ts) s.requests) c.deref.ensures.value)
+    (c.keep_live.ensures ∙ ap (λ (ts : List Partition). filter (is_live ts) s.requests) c.all.ensures)
     (c.is_still_exhausted-self-inside.ensures ∙ ap (λ (n : ℕ). c.self.inside.exhausted && (n == 0)) (omega (arith, c.untold-untold.ensures, c.untold.ensures))) in
     subst (λ (x : Core). IsKept x c.heed_each.new.desk) (sym is)
     (told_kept c.self.invariant left c.heed_each.ensures.told)
@@ -33,9 +33,9 @@ unfolding at_each with_partitions
 returns-clause-after c =
     let s = seen_of c.self.inside in
     let covers : Covers c.self.inside.desk (at_each (heed_deadlines s.config c.args.now) s).told = covers_told c.self.invariant (heeded_left c.args.now s c.self.invariant.order) in
-    heeded-is c.args.now s c.heed_each.new.partitions.items c.keep_live.new.requests.items c.is_still_exhausted-self-inside.result c.self.inside.desk c.heed_each.new.desk
+    heeded-is c.args.now s c.heed_each.new.self c.keep_live.new.requests.items c.is_still_exhausted-self-inside.result c.self.inside.desk c.heed_each.new.desk
     refl covers c.heed_each.ensures.after c.heed_each.ensures.told
-    (c.keep_live.ensures ∙ ap (λ (ts : List Partition). filter (is_live ts) s.requests) c.deref.ensures.value)
+    (c.keep_live.ensures ∙ ap (λ (ts : List Partition). filter (is_live ts) s.requests) c.all.ensures)
     (c.is_still_exhausted-self-inside.ensures ∙ ap (λ (n : ℕ). c.self.inside.exhausted && (n == 0)) (omega (arith, c.untold-untold.ensures, c.untold.ensures)))
     ∙ ap (λ (x : Core). (at_each (heed_deadlines x.config c.args.now) x).after) c.self.view_is
 

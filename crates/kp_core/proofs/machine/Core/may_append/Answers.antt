@@ -15,13 +15,13 @@ returns-then-item-senders c =
 pub returns-then-item-len : goal.returns-then-item-len
 returns-then-item-len c =
     let lines = length-map c.self.inside.desk.lines reports_of in
-    let past : length c.self.inside.partitions.items ≤ c.args.item.now.partition = search rules in
+    let past : length c.self.inside.partitions ≤ c.args.item.now.partition = search rules in
     no_partition c.args.item.now (seen_of c.self.inside) (omega (arith, lines, c.senders.ensures)) past ∙ ap (may_append c.args.item.now) c.self.view_is
 
 pub returns : goal.returns
 returns c =
     let lines = length-map c.self.inside.desk.lines reports_of in
-    let there : c.args.item.now.partition < length c.self.inside.partitions.items = search rules in
+    let there : c.args.item.now.partition < length c.self.inside.partitions = search rules in
     ap (nat_le c.charge.result) c.min-limit.ensures
     ∙ by_size c.args.item.now (seen_of c.self.inside) c.charge.result c.self.invariant.order.config (omega (arith, lines, c.senders.ensures)) there
     c.charge.ensures.exact c.charge.ensures.told

@@ -1,8 +1,7 @@
 use Rattle.std.proofs.Common.{◌∙◌, ℕ, ◌+◌, List, Option, map, sym, ap}
-use Rattle.std.specs.Prelude.{flat_map}
 use Rattle.kp_core.specs.Keeping.{seen_of}
-use Rattle.kp_rules.specs.Due.{earliest, id_moments, next_due, partition_moments}
-use Rattle.kp_rules.specs.Records.{Core, Partition, Request}
+use Rattle.kp_rules.specs.Due.{earliest, id_moments, next_due}
+use Rattle.kp_rules.specs.Records.{Core, Request}
 use Rattle.kp_parts.specs.PartitionRooms.{sooner}
 use Rattle.kp_core.proofs.DueLemmas.{due-is}
 use Rattle.kp_core.proofs.machine.Core.next_due.Goals as goal
@@ -11,8 +10,7 @@ pub returns : goal.returns
 returns c =
     let s = seen_of c.self.inside in
     let timeout = c.earliest_timeout-timeout.ensures ∙ ap (λ (rs : List Request). earliest (map (λ r. r.sent + s.config.request_timeout_ms) rs)) c.deref.ensures.value in
-    let partitions = c.earliest_moment-partitions.ensures ∙ ap (λ (ts : List Partition). earliest (flat_map (partition_moments s.config) ts)) c.deref-2.ensures.value in
     c.sooner-2.ensures ∙ ap (λ (x : Option ℕ). sooner x c.id_moment.result) c.sooner.ensures
-    ∙ due-is s c.earliest_timeout-timeout.result c.earliest_moment-partitions.result c.id_moment.result timeout partitions
+    ∙ due-is s c.earliest_timeout-timeout.result c.earliest_moment-partitions.result c.id_moment.result timeout c.earliest_moment-partitions.ensures
     (c.id_moment.ensures ∙ ap (λ (x : Core). earliest (id_moments x)) (sym c.self.view_is))
     ∙ ap next_due c.self.view_is

@@ -77,9 +77,9 @@ answers_each-requires c =
       named = awaited-is x.correlation s (Some r) c.deref.result.now (search rules) c.deref.ensures.value c.in-Some.ensures;
       under = c.correlation-correlation.ensures;
     } in
-    let ps = c.deref-in-Produce-Produce-2.result.now in
-    let has : r.demand ≡ Produce ps = sym c.demand.ensures ∙ ap demand_of c.in-Produce-Produce.is-0 ∙ ap Produce (sym c.deref-in-Produce-Produce-2.ensures.value) in
-    subst (λ (ts : List Partition). AllByRecursion (λ p. p < length ts) ps) (sym c.deref-in-Produce-Produce.ensures.value)
+    let ps = c.deref-in-Produce-Produce.result.now in
+    let has : r.demand ≡ Produce ps = sym c.demand.ensures ∙ ap demand_of c.in-Produce-Produce.is-0 ∙ ap Produce (sym c.deref-in-Produce-Produce.ensures.value) in
+    subst (λ (ts : List Partition). AllByRecursion (λ p. p < length ts) ps) (sym c.all.ensures)
     (asked x.correlation s r ps c.self.invariant.order heard.named has).0
 
 pub returns-then-not-answers_each : goal.returns-then-not-answers_each
@@ -107,7 +107,7 @@ returns-then-not-answers_each c =
     (subst (λ (es : List PartitionProduceResponse). AreEntries c.len-in-Produce-Produce.result es found) c.in-Some-entries_of_topic.ensures.entries
     (subst (λ (f : List Entry). AreEntries c.len-in-Produce-Produce.result c.in-Some-entries_of_topic.entries.now f) (sym refl) made)) in
     let each : c.answers_each.result ≡ list_all (λ p. answers_one (entries_of y) k p (partition_at p s.partitions)) ps =
-    each-is s k y c.deref-in-Produce-Produce.ensures.value c.deref-in-Produce-Produce-2.ensures.value c.deref-in-Produce-Produce-3.ensures.value entries c.answers_each.ensures in
+    each-is s k y c.all.ensures c.deref-in-Produce-Produce.ensures.value c.deref-in-Produce-Produce-2.ensures.value entries c.answers_each.ensures in
     subst (λ (z : Core). Gives (response_step c.args.now x z) (Err (ReplyFault Mismatch)) z) c.self.view_is
     (gives (batches_refused c.args.now x s k r ps y heard has c.in-Produce-Produce.is-1 (each_says k ps s y topic count ∙ sym each ∙ c.if-not-answers_each.true)))
 
@@ -123,18 +123,18 @@ settle_each-requires c =
       under = c.correlation-correlation.ensures;
     } in
     let y = c.in-Produce-Produce.response in
-    let ps = c.deref-in-Produce-Produce-4.result.now in
-    let places : ps ≡ c.in-Produce-Produce.chosen.items = c.deref-in-Produce-Produce-4.ensures.value in
+    let ps = c.deref-in-Produce-Produce-3.result.now in
+    let places : ps ≡ c.in-Produce-Produce.chosen.items = c.deref-in-Produce-Produce-3.ensures.value in
     let has : r.demand ≡ Produce ps = sym c.demand.ensures ∙ ap demand_of c.in-Produce-Produce.is-0 ∙ ap Produce (sym places) in
-    let found = c.deref-in-Produce-Produce-5.result.now in
+    let found = c.deref-in-Produce-Produce-4.result.now in
     let counted : c.len-in-Produce-Produce.result ≡ length s.partitions = search rules in
     let made : AreEntries c.len-in-Produce-Produce.result c.in-Some-entries_of_topic.entries.now c.in-Ok.found.items = c.in-Ok.ensures in
     let entries : AreEntries (length s.partitions) (entries_of y) found =
     subst (λ (n : ℕ). AreEntries n (entries_of y) found) counted
     (subst (λ (es : List PartitionProduceResponse). AreEntries c.len-in-Produce-Produce.result es found) c.in-Some-entries_of_topic.ensures.entries
-    (subst (λ (f : List Entry). AreEntries c.len-in-Produce-Produce.result c.in-Some-entries_of_topic.entries.now f) (sym c.deref-in-Produce-Produce-5.ensures.value) made)) in
+    (subst (λ (f : List Entry). AreEntries c.len-in-Produce-Produce.result c.in-Some-entries_of_topic.entries.now f) (sym c.deref-in-Produce-Produce-4.ensures.value) made)) in
     let each : c.answers_each.result ≡ list_all (λ p. answers_one (entries_of y) k p (partition_at p s.partitions)) ps =
-    each-is s k y c.deref-in-Produce-Produce.ensures.value (c.deref-in-Produce-Produce-2.ensures.value ∙ sym places) (c.deref-in-Produce-Produce-3.ensures.value ∙ sym c.deref-in-Produce-Produce-5.ensures.value) entries c.answers_each.ensures in
+    each-is s k y c.all.ensures (c.deref-in-Produce-Produce.ensures.value ∙ sym places) (c.deref-in-Produce-Produce-2.ensures.value ∙ sym c.deref-in-Produce-Produce-4.ensures.value) entries c.answers_each.ensures in
     let answered : AreAnswered s k ps y found = are_answered c.self.invariant.order heard has entries (sym each ∙ c.if-not-answers_each.false) in
     record {
       there = answered.there;
@@ -156,26 +156,26 @@ invariant_of-self c =
       under = c.correlation-correlation.ensures;
     } in
     let y = c.in-Produce-Produce.response in
-    let ps = c.deref-in-Produce-Produce-4.result.now in
-    let places : ps ≡ c.in-Produce-Produce.chosen.items = c.deref-in-Produce-Produce-4.ensures.value in
+    let ps = c.deref-in-Produce-Produce-3.result.now in
+    let places : ps ≡ c.in-Produce-Produce.chosen.items = c.deref-in-Produce-Produce-3.ensures.value in
     let has : r.demand ≡ Produce ps = sym c.demand.ensures ∙ ap demand_of c.in-Produce-Produce.is-0 ∙ ap Produce (sym places) in
-    let found = c.deref-in-Produce-Produce-5.result.now in
+    let found = c.deref-in-Produce-Produce-4.result.now in
     let counted : c.len-in-Produce-Produce.result ≡ length s.partitions = search rules in
     let made : AreEntries c.len-in-Produce-Produce.result c.in-Some-entries_of_topic.entries.now c.in-Ok.found.items = c.in-Ok.ensures in
     let entries : AreEntries (length s.partitions) (entries_of y) found =
     subst (λ (n : ℕ). AreEntries n (entries_of y) found) counted
     (subst (λ (es : List PartitionProduceResponse). AreEntries c.len-in-Produce-Produce.result es found) c.in-Some-entries_of_topic.ensures.entries
-    (subst (λ (f : List Entry). AreEntries c.len-in-Produce-Produce.result c.in-Some-entries_of_topic.entries.now f) (sym c.deref-in-Produce-Produce-5.ensures.value) made)) in
+    (subst (λ (f : List Entry). AreEntries c.len-in-Produce-Produce.result c.in-Some-entries_of_topic.entries.now f) (sym c.deref-in-Produce-Produce-4.ensures.value) made)) in
     let each : c.answers_each.result ≡ list_all (λ p. answers_one (entries_of y) k p (partition_at p s.partitions)) ps =
-    each-is s k y c.deref-in-Produce-Produce.ensures.value (c.deref-in-Produce-Produce-2.ensures.value ∙ sym places) (c.deref-in-Produce-Produce-3.ensures.value ∙ sym c.deref-in-Produce-Produce-5.ensures.value) entries c.answers_each.ensures in
+    each-is s k y c.all.ensures (c.deref-in-Produce-Produce.ensures.value ∙ sym places) (c.deref-in-Produce-Produce-2.ensures.value ∙ sym c.deref-in-Produce-Produce-4.ensures.value) entries c.answers_each.ensures in
     let answered : AreAnswered s k ps y found = are_answered c.self.invariant.order heard has entries (sym each ∙ c.if-not-answers_each.false) in
     let d = c.self.inside.desk in
     let e = c.settle_each.new.desk in
-    let were : WereSettled c.args.now k ps found s c.settle_each.new.partitions.items c.keep_live.new.requests.items c.is_still_exhausted-self-inside.result d e = record {
+    let were : WereSettled c.args.now k ps found s c.settle_each.new.self c.keep_live.new.requests.items c.is_still_exhausted-self-inside.result d e = record {
       reports = refl;
       changed = c.settle_each.ensures.after;
       told = c.settle_each.ensures.told;
-      live = c.keep_live.ensures ∙ ap (λ (ts : List Partition). filter (is_live ts) s.requests) c.deref-in-Produce-Produce-6.ensures.value;
+      live = c.keep_live.ensures ∙ ap (λ (ts : List Partition). filter (is_live ts) s.requests) c.all-in-Produce-Produce.ensures;
       memory = c.is_still_exhausted-self-inside.ensures ∙ ap (λ (n : ℕ). c.self.inside.exhausted && (n == 0)) (omega (arith, c.untold-untold.ensures, c.untold.ensures));
     } in
     batches_kept c.self.invariant answered were
@@ -192,36 +192,36 @@ returns-else-not-answers_each c =
       under = c.correlation-correlation.ensures;
     } in
     let y = c.in-Produce-Produce.response in
-    let ps = c.deref-in-Produce-Produce-4.result.now in
-    let places : ps ≡ c.in-Produce-Produce.chosen.items = c.deref-in-Produce-Produce-4.ensures.value in
+    let ps = c.deref-in-Produce-Produce-3.result.now in
+    let places : ps ≡ c.in-Produce-Produce.chosen.items = c.deref-in-Produce-Produce-3.ensures.value in
     let has : r.demand ≡ Produce ps = sym c.demand.ensures ∙ ap demand_of c.in-Produce-Produce.is-0 ∙ ap Produce (sym places) in
-    let found = c.deref-in-Produce-Produce-5.result.now in
+    let found = c.deref-in-Produce-Produce-4.result.now in
     let counted : c.len-in-Produce-Produce.result ≡ length s.partitions = search rules in
     let made : AreEntries c.len-in-Produce-Produce.result c.in-Some-entries_of_topic.entries.now c.in-Ok.found.items = c.in-Ok.ensures in
     let entries : AreEntries (length s.partitions) (entries_of y) found =
     subst (λ (n : ℕ). AreEntries n (entries_of y) found) counted
     (subst (λ (es : List PartitionProduceResponse). AreEntries c.len-in-Produce-Produce.result es found) c.in-Some-entries_of_topic.ensures.entries
-    (subst (λ (f : List Entry). AreEntries c.len-in-Produce-Produce.result c.in-Some-entries_of_topic.entries.now f) (sym c.deref-in-Produce-Produce-5.ensures.value) made)) in
+    (subst (λ (f : List Entry). AreEntries c.len-in-Produce-Produce.result c.in-Some-entries_of_topic.entries.now f) (sym c.deref-in-Produce-Produce-4.ensures.value) made)) in
     let each : c.answers_each.result ≡ list_all (λ p. answers_one (entries_of y) k p (partition_at p s.partitions)) ps =
-    each-is s k y c.deref-in-Produce-Produce.ensures.value (c.deref-in-Produce-Produce-2.ensures.value ∙ sym places) (c.deref-in-Produce-Produce-3.ensures.value ∙ sym c.deref-in-Produce-Produce-5.ensures.value) entries c.answers_each.ensures in
+    each-is s k y c.all.ensures (c.deref-in-Produce-Produce.ensures.value ∙ sym places) (c.deref-in-Produce-Produce-2.ensures.value ∙ sym c.deref-in-Produce-Produce-4.ensures.value) entries c.answers_each.ensures in
     let answered : AreAnswered s k ps y found = are_answered c.self.invariant.order heard has entries (sym each ∙ c.if-not-answers_each.false) in
     let topic : is_one_topic s.names.topic y.topics ≡ true = sym c.in-Some-entries_of_topic.ensures.one in
     let size : c.len.result ≡ length ps = search rules in
     let count : (length (entries_of y) == length ps) ≡ true = eq-eqb (length (entries_of y)) (length ps) (sym (ap length c.in-Some-entries_of_topic.ensures.entries) ∙ c.if-entries-len.false ∙ size) in
     let d = c.self.inside.desk in
     let e = c.settle_each.new.desk in
-    let were : WereSettled c.args.now k ps found s c.settle_each.new.partitions.items c.keep_live.new.requests.items c.is_still_exhausted-self-inside.result d e = record {
+    let were : WereSettled c.args.now k ps found s c.settle_each.new.self c.keep_live.new.requests.items c.is_still_exhausted-self-inside.result d e = record {
       reports = refl;
       changed = c.settle_each.ensures.after;
       told = c.settle_each.ensures.told;
-      live = c.keep_live.ensures ∙ ap (λ (ts : List Partition). filter (is_live ts) s.requests) c.deref-in-Produce-Produce-6.ensures.value;
+      live = c.keep_live.ensures ∙ ap (λ (ts : List Partition). filter (is_live ts) s.requests) c.all-in-Produce-Produce.ensures;
       memory = c.is_still_exhausted-self-inside.ensures ∙ ap (λ (n : ℕ). c.self.inside.exhausted && (n == 0)) (omega (arith, c.untold-untold.ensures, c.untold.ensures));
     } in
     let is = batches_heard c.args.now x s k r ps y heard has c.in-Produce-Produce.is-1 (each_says k ps s y topic count ∙ answered.each) in
     let reports : c.untold-untold.result - c.untold.result ≡ (settle_batches c.args.now k ps y s).answer =
     omega (arith, c.untold-untold.ensures, c.untold.ensures, count_settled c.self.invariant answered were) in
     let after : Core = record s {
-      partitions = c.settle_each.new.partitions.items;
+      partitions = c.settle_each.new.self;
       requests = c.keep_live.new.requests.items;
       exhausted = c.is_still_exhausted-self-inside.result;
       reports = all_reports e;

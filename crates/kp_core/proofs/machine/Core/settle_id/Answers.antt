@@ -22,10 +22,10 @@ invariant_of-self-2 c =
       | then-response-eq0+else-is_err w ↦
           let small : SFits w64 x.producer_id = search rules in
           let id : w.unsigned_abs-id.result ≡ nat_abs x.producer_id = w.unsigned_abs-id.ensures.value ∙ ap nat_abs (to_z-of_z w64 x.producer_id small) in
-          let after : w.give_id.new.partitions.items ≡ id_given s.config w.unsigned_abs-id.result c.args.partition s.partitions =
+          let after : w.give_id.new.self ≡ id_given s.config w.unsigned_abs-id.result c.args.partition s.partitions =
           was_given w.give_id.result w.give_id.ensures.ok (sym w.is_err.ensures.value ∙ w.if-is_err.false) in
           subst (λ (i : Inside). IsKept (seen_of (record i { requests = requests })) i.desk) (sym w.self-inside-is)
-          (id_kept c.args.now c.args.partition x w.give_id.new.partitions.items requests.items small c.requires.answers
+          (id_kept c.args.now c.args.partition x w.give_id.new.self requests.items small c.requires.answers
           (code_gives x coded w.if-response-eq0.true) going (after ∙ ap (λ n. id_given s.config n c.args.partition s.partitions) id)
           (c.keep_batches.ensures ∙ ap (λ (i : Inside). filter (λ r. not (asks_for_id r)) i.requests.items) w.self-inside-is) c.self.invariant)
       | else-response-eq0 w ↦

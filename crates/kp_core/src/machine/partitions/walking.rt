@@ -1,0 +1,151 @@
+//! What the partitions that have something to do say: the others say nothing to it.
+
+ghost use Rattle.std.specs.Prelude.{◌≡◌, ◌≤◌, ◌<◌, ◌+◌, ◌++◌, ◌&&◌, [], drop, filter_map, find, flat_map, take, length, option_map, OnOk, IfErr};
+ghost use Rattle.std.specs.List.{AllByRecursion, list_any, enumerate_from};
+ghost use Rattle.kp_rules.specs.Due.{earliest, partition_moments};
+ghost use Rattle.kp_rules.specs.Flush.{has_marks};
+ghost use Rattle.kp_rules.specs.MaySend.{wants_id};
+ghost use Rattle.kp_rules.specs.Partitions.{leads, partition_at};
+ghost use Rattle.kp_core.specs.Busy.{busy_from, has_work_for};
+ghost use Rattle.kp_core.specs.Choosing.{sends_in};
+
+use crate::machine::partitions::Partitions;
+use kp_accum::{Config, Flags};
+use kp_parts::{Sending, sooner};
+use std::alloc::AllocError;
+
+impl Partitions {
+    /// Whether something is queued or open of one that this node leads.
+    pub(crate) fn have_work(&self, node: u32) -> bool
+        ensures { result ≡ list_any (has_work_for node) self.now }
+    {
+        for place in &self.busy {
+            if self.at(*place).is_led_by(node) {
+                return true;
+            }
+        }
+        false
+    }
+
+    /// Whether a flush waits for a batch of one of them.
+    pub(crate) fn any_marked(&self) -> bool
+        ensures { result ≡ list_any has_marks self.now }
+    {
+        for place in &self.busy {
+            if self.at(*place).has_marks() {
+                return true;
+            }
+        }
+        false
+    }
+
+    /// Whether one of them wants a fresh id.
+    pub(crate) fn any_wants_id(&self, config: &Config) -> bool
+        ensures { result ≡ list_any (wants_id config.now) self.now }
+    {
+        for place in &self.busy {
+            if self.at(*place).wants_id(config) {
+                return true;
+            }
+        }
+        false
+    }
+
+    /// The number of the node's first one that wants a fresh id.
+    pub(crate) fn first_wanting(&self, node: u32, config: &Config) -> Option<u32>
+        ensures { result ≡ option_map (λ x. x.0) (find (λ x. leads node x.1 && wants_id config.now x.1) (enumerate_from 0 self.now)) }
+    {
+        for place in &self.busy {
+            let partition = self.at(*place);
+            if partition.is_led_by(node) && partition.wants_id(config) {
+                return Some(*place);
+            }
+        }
+        None
+    }
+
+    /// The earliest of their moments.
+    pub(crate) fn earliest_moment(&self, config: &Config) -> Option<u64>
+        ensures { result ≡ earliest (flat_map (partition_moments config.now) self.now) }
+    {
+        let mut earliest = None;
+        for place in &self.busy {
+            earliest = sooner(earliest, self.at(*place).next_moment(config));
+        }
+        earliest
+    }
+
+    /// What those from this one on send to this node goes behind what there is.
+    pub(crate) fn gather_from<'a>(
+        &'a self,
+        sendings: &mut Vec<Sending<'a>>,
+        first: usize,
+        node: u32,
+        config: &Config,
+        flags: Flags,
+        now: u64,
+    ) -> Result<(), AllocError>
+        requires { first ≤ length self.now }
+        ensures ok { OnOk result (sendings.new.items ≡
+            sendings.old.items ++ filter_map (sends_in node config.now flags now) (enumerate_from first (drop first self.now))) }
+        ensures some { IfErr result (λ e. filter_map (sends_in node config.now flags now) (enumerate_from first (drop first self.now)) ≡ [] → ⊥) }
+    {
+        let (_, places) = self.split(first);
+        self.gather(sendings, places, node, config, flags, now)
+    }
+
+    /// What those below this one send to this node goes behind what there is.
+    pub(crate) fn gather_below<'a>(
+        &'a self,
+        sendings: &mut Vec<Sending<'a>>,
+        first: usize,
+        node: u32,
+        config: &Config,
+        flags: Flags,
+        now: u64,
+    ) -> Result<(), AllocError>
+        requires { first ≤ length self.now }
+        ensures ok { OnOk result (sendings.new.items ≡
+            sendings.old.items ++ filter_map (sends_in node config.now flags now) (enumerate_from 0 (take first self.now))) }
+        ensures some { IfErr result (λ e. filter_map (sends_in node config.now flags now) (enumerate_from 0 (take first self.now)) ≡ [] → ⊥) }
+    {
+        let (places, _) = self.split(first);
+        self.gather(sendings, places, node, config, flags, now)
+    }
+
+    /// Those that have something to do, below this one, and from it on.
+    fn split(&self, first: usize) -> (&[u32], &[u32])
+        requires { first ≤ length self.now }
+        ensures below { result.0.now ≡ busy_from 0 (take first self.now) }
+        ensures behind { result.1.now ≡ busy_from first (drop first self.now) }
+    {
+        let count = self.busy.partition_point(|place| (*place as usize) < first);
+        self.busy.split_at(count)
+    }
+
+    /// What these send to this node goes behind what there is.
+    fn gather<'a>(
+        &'a self,
+        sendings: &mut Vec<Sending<'a>>,
+        places: &[u32],
+        node: u32,
+        config: &Config,
+        flags: Flags,
+        now: u64,
+    ) -> Result<(), AllocError>
+        requires { AllByRecursion (λ p. p < length self.now) places.now }
+        ensures ok { OnOk result (sendings.new.items ≡
+            sendings.old.items ++ filter_map (λ p. sends_in node config.now flags now (p, partition_at p self.now)) places.now) }
+        ensures some { IfErr result (λ e. filter_map (λ p. sends_in node config.now flags now (p, partition_at p self.now)) places.now ≡ [] → ⊥) }
+    {
+        for place in places {
+            if let Some(batch) = self.at(*place).sends_to(node, config, flags, now) {
+                sendings.push(Sending {
+                    partition: *place,
+                    batch,
+                })?;
+            }
+        }
+        Ok(())
+    }
+}
