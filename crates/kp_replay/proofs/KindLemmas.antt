@@ -27,7 +27,7 @@ use Rattle.kp_world.specs.World.{Reply, ReplyContent, Batches, Id, World}
 use Rattle.kp_world.proofs.EventLemmas.{OfEvent, OfStep, at_step, at_taken}
 use Rattle.kp_world.proofs.HearingLemmas.{names_its, same_correlation}
 use Rattle.kp_world.proofs.LawfulLemmas.{IsLawful}
-use Rattle.kp_world.proofs.LeavingLemmas.{left_appended, left_closed, left_disconnected, left_ended, left_flushed, left_ticked}
+use Rattle.kp_world.proofs.LeavingLemmas.{left_appended, left_closed, left_disconnected, left_ended, left_flushed, left_led, left_ticked}
 use Rattle.kp_world.proofs.ListLemmas.{in_at, left_in, one_more}
 
 -- ---- kinds
@@ -89,8 +89,8 @@ same_kind : (d : Demand Sending) → api_of (of_request d) ≡ kind_of d
 same_kind (Produce xs) = refl
 same_kind (InitProducerId p) = refl
 
-one_goes : (n : ℕ) (w : World) (d : Demand Sending) → IsLawful n w → Kinds w → OfKinds (w.core.requests ++ request_of w.moment w.core (of_request d) ∷ []) (w.packets ++ (record { correlation = w.core.correlation; demand = d }) ∷ []) w.replies
-one_goes n w d g k = record {
+one_goes : (n node : ℕ) (w : World) (d : Demand Sending) → IsLawful n w → Kinds w → OfKinds (w.core.requests ++ request_of node w.moment w.core (of_request d) ∷ []) (w.packets ++ (record { correlation = w.core.correlation; demand = d }) ∷ []) w.replies
+one_goes n node w d g k = record {
   requests = λ q i o j same. ⊎_elim
       (λ (q_old : In q w.core.requests). ⊎_elim
       (λ (o_old : In o w.packets). k.requests q q_old o o_old same)
@@ -108,15 +108,15 @@ one_goes n w d g k = record {
     packet = record { correlation = w.core.correlation; demand = d }
 
     request : Request
-    request = request_of w.moment w.core (of_request d)
+    request = request_of node w.moment w.core (of_request d)
 
-goes : (n : ℕ) (w : World) → IsLawful n w → Kinds w → Kinds (sending w (request_step w.moment w.core).after (request_step w.moment w.core).answer)
+goes : (n node : ℕ) (w : World) → IsLawful n w → Kinds w → Kinds (sending w (request_step node w.moment w.core).after (request_step node w.moment w.core).answer)
 unfolding noted
-goes n w g k = at_request (λ (r : Requested). Kinds (sending w r.after r.answer)) w.moment w.core (record { ended = k; idle = k; spent = k; out = λ going d wanted unspent. out d })
+goes n node w g k = at_request (λ (r : Requested). Kinds (sending w r.after r.answer)) node w.moment w.core (record { ended = k; idle = k; spent = k; out = λ going d wanted unspent. out d })
   where
-    out : (d : Demand Sending) → Kinds (sending w (go_out w.moment w.core d).after (go_out w.moment w.core d).answer)
-    out (Produce xs) = one_goes n w (Produce xs) g k
-    out (InitProducerId p) = one_goes n w (InitProducerId p) g k
+    out : (d : Demand Sending) → Kinds (sending w (go_out node w.moment w.core d).after (go_out node w.moment w.core d).answer)
+    out (Produce xs) = one_goes n node w (Produce xs) g k
+    out (InitProducerId p) = one_goes n node w (InitProducerId p) g k
 
 -- ---- a reply comes
 
@@ -142,10 +142,11 @@ kinds_client n w g k = record {
   none_taken = λ s none. k;
   taken = λ s i there is. let after : OfKinds (append_after i).requests w.packets w.replies = fewer w.core.requests (append_after i).requests w.packets w.replies (left_appended (λ p b. Unit {0}) i w.core).requests k in at_taken Kinds s i w after after;
   now = λ moment. k;
-  tick = fewer w.core.requests _ w.packets w.replies (left_ticked (λ p b. Unit {0}) w.moment w.core).requests k;
-  send = goes n w g k;
+  tick = λ node. fewer w.core.requests _ w.packets w.replies (left_ticked (λ p b. Unit {0}) node w.moment w.core).requests k;
+  send = λ node. goes n node w g k;
   reply = λ j r is. fewer w.core.requests _ w.packets w.replies (fewer_awaited w.moment r.response w.core) k;
-  lost = fewer w.core.requests _ w.packets w.replies (left_disconnected (λ p b. Unit {0}) w.moment w.core).requests k;
+  lost = λ node. fewer w.core.requests _ w.packets w.replies (left_disconnected (λ p b. Unit {0}) node w.moment w.core).requests k;
+  led = λ p node. fewer w.core.requests _ w.packets w.replies (left_led (λ p b. Unit {0}) p node w.moment w.core).requests k;
   close = fewer w.core.requests _ w.packets w.replies (left_closed (λ p b. Unit {0}) w.core).requests k;
   end = fewer w.core.requests _ w.packets w.replies (left_ended (λ p b. Unit {0}) w.core).requests k;
   flush = fewer w.core.requests _ w.packets w.replies (left_flushed (λ p b. Unit {0}) w.core).requests k;

@@ -7,6 +7,7 @@ pub mod KindLemmas
 pub mod ReachedLemmas
 pub mod OrderLemmas
 pub mod HearingLemmas
+pub mod LeadingLemmas
 pub mod EachLemmas
 pub mod SendLemmas
 pub mod OtherLemmas

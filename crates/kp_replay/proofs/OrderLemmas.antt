@@ -18,6 +18,7 @@ use Rattle.kp_rules.specs.Dropping.{disconnect_step}
 use Rattle.kp_rules.specs.Flush.{flush_step}
 use Rattle.kp_rules.specs.Held.{IsRecord}
 use Rattle.kp_rules.specs.InOrder.{IsInOrder}
+use Rattle.kp_rules.specs.Leading.{lead_step}
 use Rattle.kp_rules.specs.Records.{Core}
 use Rattle.kp_rules.specs.Replies.{response_step}
 use Rattle.kp_rules.specs.Requesting.{Requested, request_step}
@@ -76,9 +77,9 @@ MayBe e = Unit {0}
 abbrev Comes : World → WorldEvent → World → Type 0
 Comes w e v = MayBe e → AllFit v.replies → Ordered v
 
-sends : (w : World) → Ordered w → Ordered (sending w (request_step w.moment w.core).after (request_step w.moment w.core).answer)
+sends : (node : ℕ) (w : World) → Ordered w → Ordered (sending w (request_step node w.moment w.core).after (request_step node w.moment w.core).answer)
 unfolding noted
-sends w h = at_request (λ (r : Requested). Ordered (sending w r.after r.answer)) w.moment w.core (record { ended = h; idle = h; spent = h; out = λ going d wanted left. (order_out w.moment w.core d going wanted h.0, h.1) })
+sends node w h = at_request (λ (r : Requested). Ordered (sending w r.after r.answer)) node w.moment w.core (record { ended = h; idle = h; spent = h; out = λ going d wanted left. (order_out node w.moment w.core d going wanted h.0, h.1) })
 
 accepts : (w : World) (s p at : ℕ) (body : Record) → IsRecord body → Ordered w → AreRecords (with_accepted (item_for s p at body w) w)
 accepts w s p at body may h t i = at_put (λ items. In i items → IsRecord i.body) w.accepted s t (accepted_by s w ++ item_for s p at body w ∷ []) []
@@ -93,10 +94,11 @@ order_client w h = record {
   none_taken = λ s none may fit. h;
   taken = λ s i there is. taken s i (in_at (accepted_by s w) (taken_by s w) i is);
   now = λ moment may fit. h;
-  tick = λ may fit. (kept w.core (tick_step w.moment w.core).after (call.Tick w.moment (tick_step w.moment w.core).answer) tt (refl, refl) h.0, h.1);
-  send = λ may fit. sends w h;
+  tick = λ node may fit. (kept w.core (tick_step node w.moment w.core).after (call.Tick node w.moment (tick_step node w.moment w.core).answer) tt (refl, refl) h.0, h.1);
+  send = λ node may fit. sends node w h;
   reply = λ j r is may fit. (heard w.moment r.response w.core (fit r (in_at w.replies j r is)) h.0, h.1);
-  lost = λ may fit. (kept w.core (disconnect_step w.moment w.core) (call.Disconnect w.moment) tt refl h.0, h.1);
+  lost = λ node may fit. (kept w.core (disconnect_step node w.moment w.core) (call.Disconnect node w.moment) tt refl h.0, h.1);
+  led = λ p node may fit. (kept w.core (lead_step p node w.moment w.core) (call.Lead p node w.moment) tt refl h.0, h.1);
   close = λ may fit. (kept w.core (close_step w.core) call.Close tt refl h.0, h.1);
   end = λ may fit. (kept w.core (end_step w.core).after (call.End (end_step w.core).answer) tt (refl, refl) h.0, h.1);
   flush = λ may fit. (kept w.core (flush_step w.core) call.Flush tt refl h.0, h.1);
@@ -127,10 +129,11 @@ keeps_client r w i = record {
   none_taken = λ s none. i;
   taken = λ s x there is. at_taken (λ (v : World). In r v.replies) s x w i i;
   now = λ moment. i;
-  tick = i;
-  send = at_request (λ (y : Requested). In r (sending w y.after y.answer).replies) w.moment w.core (record { ended = i; idle = i; spent = i; out = λ going d wanted left. i });
+  tick = λ node. i;
+  send = λ node. at_request (λ (y : Requested). In r (sending w y.after y.answer).replies) node w.moment w.core (record { ended = i; idle = i; spent = i; out = λ going d wanted left. i });
   reply = λ j x is. i;
-  lost = i;
+  lost = λ node. i;
+  led = λ p node. i;
   close = i;
   end = i;
   flush = i;
@@ -161,10 +164,14 @@ all_may now (schedule.Accept s p value ∷ es) small may = (record { moment = sm
 all_may now (schedule.Take s ∷ es) small may = (tt, all_may now es small may.1)
 all_may now (schedule.Now moment ∷ es) small may = (tt, all_may moment es may.0 may.1)
 all_may now (schedule.Tick ∷ es) small may = (tt, all_may now es small may.1)
+all_may now (schedule.TickNode node ∷ es) small may = (tt, all_may now es small may.1)
 all_may now (schedule.Send ∷ es) small may = (tt, all_may now es small may.1)
+all_may now (schedule.SendNode node ∷ es) small may = (tt, all_may now es small may.1)
 all_may now (schedule.Deliver k how ∷ es) small may = (tt, all_may now es small may.1)
 all_may now (schedule.Reply j ∷ es) small may = (tt, all_may now es small may.1)
 all_may now (schedule.Drop ∷ es) small may = (tt, all_may now es small may.1)
+all_may now (schedule.DropNode node ∷ es) small may = (tt, all_may now es small may.1)
+all_may now (schedule.Leader p node ∷ es) small may = (tt, all_may now es small may.1)
 all_may now (schedule.Other p n ∷ es) small may = (tt, all_may now es small may.1)
 all_may now (schedule.Close ∷ es) small may = (tt, all_may now es small may.1)
 all_may now (schedule.End ∷ es) small may = (tt, all_may now es small may.1)

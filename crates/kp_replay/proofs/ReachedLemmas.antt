@@ -14,7 +14,7 @@ use Rattle.kp_world.specs.Replay.{MayAnswer, MayHappen}
 use Rattle.kp_world.specs.Run.{IsReached}
 use Rattle.kp_world.specs.World.{Opening, World, opening, scheduled}
 use Rattle.kp_world.specs.declared.event.Event.{Event}
-use Rattle.kp_world.specs.declared.event.Event.TheVariants.{Accept, Take, Now, Tick, Send, Deliver, Reply, Drop, Other, Close, End, Flush}
+use Rattle.kp_world.specs.declared.event.Event.TheVariants.{Accept, Take, Now, Tick, TickNode, Send, SendNode, Deliver, Reply, Drop, DropNode, Leader, Other, Close, End, Flush}
 use Rattle.kp_world.specs.declared.event.Treatment.TheVariants.{Judged, Refused, Late}
 use Rattle.kp_world.proofs.ReplayLemmas.{replay_is_run}
 use Rattle.kp_world.proofs.EventLemmas.{at_run}
@@ -31,12 +31,16 @@ may-happen (Accept s p value) may = tt
 may-happen (Take s) may = tt
 may-happen (Now moment) may = tt
 may-happen Tick may = tt
+may-happen (TickNode node) may = tt
 may-happen Send may = tt
+may-happen (SendNode node) may = tt
 may-happen (Deliver k Judged) may = tt
 may-happen (Deliver k (Refused code)) may = may-answer code may.1
 may-happen (Deliver k (Late code)) may = may-answer code may.1
 may-happen (Reply j) may = tt
 may-happen Drop may = tt
+may-happen (DropNode node) may = tt
+may-happen (Leader p node) may = tt
 may-happen (Other p n) may = tt
 may-happen Close may = tt
 may-happen End may = tt

@@ -14,7 +14,7 @@ use Rattle.kp_schedule.specs.Grammar.{MayBeSaid}
 use Rattle.kp_schedule.specs.declared.schedule.Schedule.{Schedule}
 use Rattle.kp_schedule.specs.declared.schedule.Scheduled.{Scheduled}
 use Rattle.kp_world.specs.Accepting.{accepted_by, accepting, item_for, taken_by, taking}
-use Rattle.kp_world.specs.Client.{client, only_if}
+use Rattle.kp_world.specs.Client.{client, leading, only_if}
 use Rattle.kp_world.specs.Delivering.{logs_with_others}
 use Rattle.kp_world.specs.Events.{other_records, record_at}
 use Rattle.kp_world.specs.Noting.{only_noted}
@@ -50,12 +50,16 @@ module _ (c : Config) (w : World) (a : Seen) (sh : Shows c w a) where
       ap (λ there. only_if there (taking s (slice_get (accepted_by s w) (taken_by s w)) w)) (same-senders s ∙ none)
   nothing-there (event.Deliver k how) none = rw (not-below (IsSent c) w.packets a.packets sh.packets k none) refl
   nothing-there (event.Reply j) none = rw (not-below IsReplied w.replies a.replies sh.replies j none) refl
+  nothing-there (event.Leader p node) none = ap (λ there. only_if there (leading p node w)) (same-logs p ∙ none)
   nothing-there (event.Other p n) none =
       ap (λ there. only_if there (only_noted [] (record w { logs = logs_with_others p (other_records n) w.logs }))) (same-logs p ∙ none)
   nothing-there (event.Now moment) none = absurd cc
   nothing-there event.Tick none = absurd cc
+  nothing-there (event.TickNode node) none = absurd cc
   nothing-there event.Send none = absurd cc
+  nothing-there (event.SendNode node) none = absurd cc
   nothing-there event.Drop none = absurd cc
+  nothing-there (event.DropNode node) none = absurd cc
   nothing-there event.Close none = absurd cc
   nothing-there event.End none = absurd cc
   nothing-there event.Flush none = absurd cc
@@ -67,12 +71,16 @@ said-prop (event.Accept s p value) = hlevel props
 said-prop (event.Take s) = hlevel props
 said-prop (event.Now moment) = hlevel props
 said-prop event.Tick = hlevel props
+said-prop (event.TickNode node) = hlevel props
 said-prop event.Send = hlevel props
+said-prop (event.SendNode node) = hlevel props
 said-prop (event.Deliver k Judged) = hlevel props
 said-prop (event.Deliver k (Refused code)) = hlevel props
 said-prop (event.Deliver k (Late code)) = hlevel props
 said-prop (event.Reply j) = hlevel props
 said-prop event.Drop = hlevel props
+said-prop (event.DropNode node) = hlevel props
+said-prop (event.Leader p node) = hlevel props
 said-prop (event.Other p n) = hlevel props
 said-prop event.Close = hlevel props
 said-prop event.End = hlevel props

@@ -52,8 +52,8 @@ use Rattle.kp_replay.proofs.OrderLemmas.{replayed-order}
 use Rattle.kp_replay.proofs.ShownLemmas.{lead-on, same-answer, shows-noted, within}
 use Rattle.kp_replay.proofs.TellingLemmas.{tells-request}
 
-quiet : (now : ℕ) (s : Core) → (request_step now s).told ≡ []
-quiet now s = at_request (λ (x : Requested). x.told ≡ []) now s (record { ended = refl; idle = refl; spent = refl; out = λ going d wanted left. refl })
+quiet : (node now : ℕ) (s : Core) → (request_step node now s).told ≡ []
+quiet node now s = at_request (λ (x : Requested). x.told ≡ []) node now s (record { ended = refl; idle = refl; spent = refl; out = λ going d wanted left. refl })
 
 -- replies that are seen fit
 pub all-fit : (replies : List Reply) (seen : List (List ℕ)) → Each IsReplied replies seen → (r : Reply) → In r replies → response.FitsResponse r.response
@@ -94,28 +94,28 @@ sending-quiet w core s (Err (fault.ReplyFault f)) x e q = ap (λ y. noted core (
 
 -- ---- the event
 
-same : (c : Config) (w : World) (a : Seen) → Shows c w a → (request_step w.moment w.core).answer ≡ (request_step a.moment a.core).answer
-same c w a sh =
-    same-answer (request_step w.moment) (λ r s. request_behind r w.moment s) (tells-request w.moment) w.core
-    ∙ sym (λ i. (request_step (sh.moment i) (sh.core i)).answer)
+same : (c : Config) (node : ℕ) (w : World) (a : Seen) → Shows c w a → (request_step node w.moment w.core).answer ≡ (request_step node a.moment a.core).answer
+same c node w a sh =
+    same-answer (request_step node w.moment) (λ r s. request_behind r node w.moment s) (tells-request node w.moment) w.core
+    ∙ sym (λ i. (request_step node (sh.moment i) (sh.core i)).answer)
 
-after-it : (c : Config) (w u : World) (a x : Seen) (ls : List Line) → u.core ≡ w.core → x.core ≡ a.core → w.moment ≡ a.moment → Shows c u x
-    → Shows c (noted (request_step w.moment w.core).after ls [] u) (with_noted ls (is_flushed a.core) (record x { core = (request_step a.moment a.core).after }))
-after-it c w u a x ls core seen moment sh =
-    let before = shows-noted (request_step w.moment) (λ r s. request_behind r w.moment s) (tells-request w.moment) c u x sh ls in
-    subst (λ told. Shows c (noted (request_step w.moment w.core).after ls told u) (with_noted ls (is_flushed a.core) (record x { core = (request_step a.moment a.core).after }))) (quiet w.moment w.core)
-    (subst (λ (s : Core). Shows c (noted (request_step w.moment s).after ls (request_step w.moment s).told u) (with_noted ls (is_flushed a.core) (record x { core = (request_step a.moment a.core).after }))) core
-    (subst (λ m. Shows c (noted (request_step w.moment u.core).after ls (request_step w.moment u.core).told u) (with_noted ls (is_flushed a.core) (record x { core = (request_step m a.core).after }))) moment
-    (subst (λ (s : Core). Shows c (noted (request_step w.moment u.core).after ls (request_step w.moment u.core).told u) (with_noted ls (is_flushed s) (record x { core = (request_step w.moment s).after }))) seen before)))
+after-it : (c : Config) (node : ℕ) (w u : World) (a x : Seen) (ls : List Line) → u.core ≡ w.core → x.core ≡ a.core → w.moment ≡ a.moment → Shows c u x
+    → Shows c (noted (request_step node w.moment w.core).after ls [] u) (with_noted ls (is_flushed a.core) (record x { core = (request_step node a.moment a.core).after }))
+after-it c node w u a x ls core seen moment sh =
+    let before = shows-noted (request_step node w.moment) (λ r s. request_behind r node w.moment s) (tells-request node w.moment) c u x sh ls in
+    subst (λ told. Shows c (noted (request_step node w.moment w.core).after ls told u) (with_noted ls (is_flushed a.core) (record x { core = (request_step node a.moment a.core).after }))) (quiet node w.moment w.core)
+    (subst (λ (s : Core). Shows c (noted (request_step node w.moment s).after ls (request_step node w.moment s).told u) (with_noted ls (is_flushed a.core) (record x { core = (request_step node a.moment a.core).after }))) core
+    (subst (λ m. Shows c (noted (request_step node w.moment u.core).after ls (request_step node w.moment u.core).told u) (with_noted ls (is_flushed a.core) (record x { core = (request_step node m a.core).after }))) moment
+    (subst (λ (s : Core). Shows c (noted (request_step node w.moment u.core).after ls (request_step node w.moment u.core).told u) (with_noted ls (is_flushed s) (record x { core = (request_step node w.moment s).after }))) seen before)))
 
-pub quiet-leads : (a b : Seen) (x : Result (Option Outgoing) CoreFault) (t : Core) → IsQuiet x → answered_as a.core (request_step a.moment a.core).answer ≡ x → t ≡ (request_step a.moment a.core).after
-    → b ≡ with_noted (quiet_line x ∷ []) (is_flushed a.core) (record a { core = t }) → LeadsOn event.Send a b
+pub quiet-leads : (node : ℕ) (a b : Seen) (x : Result (Option Outgoing) CoreFault) (t : Core) → IsQuiet x → answered_as a.core (request_step node a.moment a.core).answer ≡ x → t ≡ (request_step node a.moment a.core).after
+    → b ≡ with_noted (quiet_line x ∷ []) (is_flushed a.core) (record a { core = t }) → LeadsOn (event.SendNode node) a b
 unfolding stepped client
-quiet-leads a b x t q answered step is = λ c w replayed sh.
-    let v : World = noted (request_step w.moment w.core).after (quiet_line x ∷ []) [] w in (
+quiet-leads node a b x t q answered step is = λ c w replayed sh.
+    let v : World = noted (request_step node w.moment w.core).after (quiet_line x ∷ []) [] w in (
       v,
-      ap (λ u. Some u) (sending-quiet w (request_step w.moment w.core).after a.core (request_step w.moment w.core).answer x (ap (answered_as a.core) (same c w a sh) ∙ answered) q),
-      subst (Shows c v) (sym (is ∙ (λ i. with_noted (quiet_line x ∷ []) (is_flushed a.core) (record a { core = step i })))) (after-it c w w a a (quiet_line x ∷ []) refl refl (sym sh.moment) sh),
+      ap (λ u. Some u) (sending-quiet w (request_step node w.moment w.core).after a.core (request_step node w.moment w.core).answer x (ap (answered_as a.core) (same c node w a sh) ∙ answered) q),
+      subst (Shows c v) (sym (is ∙ (λ i. with_noted (quiet_line x ∷ []) (is_flushed a.core) (record a { core = step i })))) (after-it c node w w a a (quiet_line x ∷ []) refl refl (sym sh.moment) sh),
     )
 
 -- ---- a packet is read as what it is
@@ -169,14 +169,14 @@ tells-of bytes k l said = λ c n o fits is.
     let body : said.0 ≡ body_for c n o.demand = asked-is bytes said.0 c n o said.1 fits is in
     told-of k l c n o.demand fits.batches (subst (λ b. Tells k b l) body said.2)
 
-pub out-leads : (a b : Seen) (o : Outgoing) (t : Core) (l : Line) → TellsOf o.bytes (length a.packets) l → answered_as a.core (request_step a.moment a.core).answer ≡ Ok (Some o) → t ≡ (request_step a.moment a.core).after
-    → b ≡ with_noted (l ∷ []) (is_flushed a.core) (record a { core = t; packets = a.packets ++ o ∷ [] }) → LeadsOn event.Send a b
+pub out-leads : (node : ℕ) (a b : Seen) (o : Outgoing) (t : Core) (l : Line) → TellsOf o.bytes (length a.packets) l → answered_as a.core (request_step node a.moment a.core).answer ≡ Ok (Some o) → t ≡ (request_step node a.moment a.core).after
+    → b ≡ with_noted (l ∷ []) (is_flushed a.core) (record a { core = t; packets = a.packets ++ o ∷ [] }) → LeadsOn (event.SendNode node) a b
 unfolding stepped client
-out-leads a b o t l tells answered step is = λ c w replayed sh.
-    let out = goes-out a.core (request_step a.moment a.core).answer o answered in
+out-leads node a b o t l tells answered step is = λ c w replayed sh.
+    let out = goes-out a.core (request_step node a.moment a.core).answer o answered in
     let p : Packet = out.packet in
-    let answer : (request_step w.moment w.core).answer ≡ Ok (Some p) = same c w a sh ∙ out.is in
-    let fits : FitsPacket w.core.config w.core.names p = request_fits w.moment w.core p (replayed-order c w replayed (all-fit w.replies a.replies sh.replies)) answer in
+    let answer : (request_step node w.moment w.core).answer ≡ Ok (Some p) = same c node w a sh ∙ out.is in
+    let fits : FitsPacket w.core.config w.core.names p = request_fits node w.moment w.core p (replayed-order c w replayed (all-fit w.replies a.replies sh.replies)) answer in
     let fits-it : FitsPacket c names p = subst (λ n. FitsPacket c n p) sh.called (subst (λ d. FitsPacket d w.core.names p) sh.config fits) in
     let bytes : o.bytes ≡ frame_of c names p =
     sym (ap (λ (x : Outgoing). x.bytes) out.goes) ∙ (λ i. frame_of (sh.core i).config (sh.core i).names p) ∙ (λ i. frame_of (sh.config i) (sh.called i) p) in
@@ -198,36 +198,36 @@ out-leads a b o t l tells answered step is = λ c w replayed sh.
       is_shut = sh.is_shut;
       past = sh.past;
     } in
-    let v : World = noted (request_step w.moment w.core).after (sent_line (length w.packets) p.demand ∷ []) [] (with_packet p w) in (
+    let v : World = noted (request_step node w.moment w.core).after (sent_line (length w.packets) p.demand ∷ []) [] (with_packet p w) in (
       v,
-      ap (λ r. Some (sending w (request_step w.moment w.core).after r)) answer,
+      ap (λ r. Some (sending w (request_step node w.moment w.core).after r)) answer,
       subst (Shows c v) (sym (is ∙ (λ i. with_noted (told i ∷ []) (is_flushed a.core) (record x { core = step i }))))
-          (after-it c w (with_packet p w) a x (sent_line (length w.packets) p.demand ∷ []) refl refl (sym sh.moment) more),
+          (after-it c node w (with_packet p w) a x (sent_line (length w.packets) p.demand ∷ []) refl refl (sym sh.moment) more),
     )
 
 -- ---- what is left of the event
 
-pub out-returns : {T E : Type 0} (r : Result T E) (a v b : Seen) (is : v ≡ a) (was : Bool) → was ≡ is_flushed v.core → (o : Outgoing) (t : Core) (l : Line) → TellsOf o.bytes (length v.packets) l → Step v.core (Request v.moment (Ok (Some o))) t
-    → (packets : List Outgoing) → packets ≡ v.packets ++ o ∷ [] → OnOk r (b ≡ with_noted (l ∷ []) was (record v { core = t; packets = packets })) → OnOk r (LeadsOn event.Send a b)
-out-returns r a v b is was flushed o t l tells step packets pushed = lead-on (l ∷ []) was event.Send a (record v { core = t; packets = packets }) b r (λ same.
-    subst (λ a. LeadsOn event.Send a b) is (out-leads v b o t l tells step.0 step.1 (same ∙ (λ i. with_noted (l ∷ []) (flushed i) (record v { core = t; packets = pushed i })))))
+pub out-returns : {T E : Type 0} (r : Result T E) (node : ℕ) (a v b : Seen) (is : v ≡ a) (was : Bool) → was ≡ is_flushed v.core → (o : Outgoing) (t : Core) (l : Line) → TellsOf o.bytes (length v.packets) l → Step v.core (Request node v.moment (Ok (Some o))) t
+    → (packets : List Outgoing) → packets ≡ v.packets ++ o ∷ [] → OnOk r (b ≡ with_noted (l ∷ []) was (record v { core = t; packets = packets })) → OnOk r (LeadsOn (event.SendNode node) a b)
+out-returns r node a v b is was flushed o t l tells step packets pushed = lead-on (l ∷ []) was (event.SendNode node) a (record v { core = t; packets = packets }) b r (λ same.
+    subst (λ a. LeadsOn (event.SendNode node) a b) is (out-leads node v b o t l tells step.0 step.1 (same ∙ (λ i. with_noted (l ∷ []) (flushed i) (record v { core = t; packets = pushed i })))))
 
-pub quiet-returns : {T E : Type 0} (r : Result T E) (a v b : Seen) (is : v ≡ a) (was : Bool) → was ≡ is_flushed v.core → (x : Result (Option Outgoing) CoreFault) (t : Core) → IsQuiet x → answered_as v.core (request_step v.moment v.core).answer ≡ x → t ≡ (request_step v.moment v.core).after
-    → OnOk r (b ≡ with_noted (quiet_line x ∷ []) was (record v { core = t })) → OnOk r (LeadsOn event.Send a b)
-quiet-returns r a v b is was flushed x t q answered step = lead-on (quiet_line x ∷ []) was event.Send a (record v { core = t }) b r (λ same.
-    subst (λ a. LeadsOn event.Send a b) is (quiet-leads v b x t q answered step (same ∙ (λ i. with_noted (quiet_line x ∷ []) (flushed i) (record v { core = t })))))
+pub quiet-returns : {T E : Type 0} (r : Result T E) (node : ℕ) (a v b : Seen) (is : v ≡ a) (was : Bool) → was ≡ is_flushed v.core → (x : Result (Option Outgoing) CoreFault) (t : Core) → IsQuiet x → answered_as v.core (request_step node v.moment v.core).answer ≡ x → t ≡ (request_step node v.moment v.core).after
+    → OnOk r (b ≡ with_noted (quiet_line x ∷ []) was (record v { core = t })) → OnOk r (LeadsOn (event.SendNode node) a b)
+quiet-returns r node a v b is was flushed x t q answered step = lead-on (quiet_line x ∷ []) was (event.SendNode node) a (record v { core = t }) b r (λ same.
+    subst (λ a. LeadsOn (event.SendNode node) a b) is (quiet-leads node v b x t q answered step (same ∙ (λ i. with_noted (quiet_line x ∷ []) (flushed i) (record v { core = t })))))
 
 -- whatever is answered, the bounds stay
-pub request-within : {accepted taken logs moment : ℕ} (now : ℕ) (x : Result (Option Outgoing) CoreFault) (s t : Core) → Step s (Request now x) t → IsInBounds s accepted taken logs moment → IsInBounds t accepted taken logs moment
-request-within now (Ok x) s t step bounds = within s (request_step now s) (tells-request now s) t step.1 bounds
-request-within {accepted = accepted} {taken = taken} {logs = logs} {moment = moment} now (Err fault.OutOfMemory) s t step bounds = subst (λ (x : Core). IsInBounds x accepted taken logs moment) (sym step.1) bounds
-request-within now (Err fault.CorrelationSpent) s t step bounds = within s (request_step now s) (tells-request now s) t step.1 bounds
-request-within now (Err (fault.ReplyFault x)) s t step bounds = within s (request_step now s) (tells-request now s) t step.1 bounds
-request-within now (Err fault.Ended) s t step bounds = within s (request_step now s) (tells-request now s) t step.1 bounds
+pub request-within : {accepted taken logs moment : ℕ} (node now : ℕ) (x : Result (Option Outgoing) CoreFault) (s t : Core) → Step s (Request node now x) t → IsInBounds s accepted taken logs moment → IsInBounds t accepted taken logs moment
+request-within node now (Ok x) s t step bounds = within s (request_step node now s) (tells-request node now s) t step.1 bounds
+request-within {accepted = accepted} {taken = taken} {logs = logs} {moment = moment} node now (Err fault.OutOfMemory) s t step bounds = subst (λ (x : Core). IsInBounds x accepted taken logs moment) (sym step.1) bounds
+request-within node now (Err fault.CorrelationSpent) s t step bounds = within s (request_step node now s) (tells-request node now s) t step.1 bounds
+request-within node now (Err (fault.ReplyFault x)) s t step bounds = within s (request_step node now s) (tells-request node now s) t step.1 bounds
+request-within node now (Err fault.Ended) s t step bounds = within s (request_step node now s) (tells-request node now s) t step.1 bounds
 
 -- where memory is there, a fault is the call's
-pub refused : (now : ℕ) (f : CoreFault) (s t : Core) → f ≢ fault.OutOfMemory → Step s (Request now (Err f)) t → (answered_as s (request_step now s).answer ≡ Err f) × (t ≡ (request_step now s).after)
-refused now fault.OutOfMemory s t memory step = absurd (memory refl)
-refused now fault.CorrelationSpent s t memory step = step
-refused now (fault.ReplyFault x) s t memory step = step
-refused now fault.Ended s t memory step = step
+pub refused : (node now : ℕ) (f : CoreFault) (s t : Core) → f ≢ fault.OutOfMemory → Step s (Request node now (Err f)) t → (answered_as s (request_step node now s).answer ≡ Err f) × (t ≡ (request_step node now s).after)
+refused node now fault.OutOfMemory s t memory step = absurd (memory refl)
+refused node now fault.CorrelationSpent s t memory step = step
+refused node now (fault.ReplyFault x) s t memory step = step
+refused node now fault.Ended s t memory step = step

@@ -192,15 +192,15 @@ now-leads a b m is = λ c w replayed sh. (
       (shows-noted (λ s. quietly s (tt {0})) (λ r s. refl) (λ s. tells-quietly s (tt {0})) c (record w { moment = m }) (record a { moment = m }) (at-moment c w a m sh) []),
 )
 
-pub drop-leads : (a b : Seen) → b ≡ with_noted [] (is_flushed a.core) (record a { core = disconnect_step a.moment a.core }) → LeadsOn event.Drop a b
+pub drop-leads : (node : ℕ) (a b : Seen) → b ≡ with_noted [] (is_flushed a.core) (record a { core = disconnect_step node a.moment a.core }) → LeadsOn (event.DropNode node) a b
 unfolding stepped client
-drop-leads a b is = λ c w replayed sh.
-    let call : Core → Called (Unit {0}) = λ s. quietly (disconnect_step w.moment s) (tt {0}) in
-    let same : b ≡ with_noted [] (is_flushed a.core) (record a { core = disconnect_step w.moment a.core }) = is ∙ ap (λ m. with_noted [] (is_flushed a.core) (record a { core = disconnect_step m a.core })) sh.moment in (
-      noted (disconnect_step w.moment w.core) [] [] w,
+drop-leads node a b is = λ c w replayed sh.
+    let call : Core → Called (Unit {0}) = λ s. quietly (disconnect_step node w.moment s) (tt {0}) in
+    let same : b ≡ with_noted [] (is_flushed a.core) (record a { core = disconnect_step node w.moment a.core }) = is ∙ ap (λ m. with_noted [] (is_flushed a.core) (record a { core = disconnect_step node m a.core })) sh.moment in (
+      noted (disconnect_step node w.moment w.core) [] [] w,
       refl,
-      subst (Shows c (noted (disconnect_step w.moment w.core) [] [] w)) (sym same)
-          (shows-noted call (λ r s. ap (λ (t : Core). let x : Called (Unit {0}) = quietly t (tt {0}) in x) (disconnect_behind r w.moment s)) (tells-disconnect w.moment) c w a sh []),
+      subst (Shows c (noted (disconnect_step node w.moment w.core) [] [] w)) (sym same)
+          (shows-noted call (λ r s. ap (λ (t : Core). let x : Called (Unit {0}) = quietly t (tt {0}) in x) (disconnect_behind r node w.moment s)) (tells-disconnect node w.moment) c w a sh []),
     )
 
 pub close-leads : (a b : Seen) → b ≡ with_noted [] (is_flushed a.core) (record a { core = close_step a.core; is_shut = true }) → LeadsOn event.Close a b
@@ -226,17 +226,17 @@ end-leads a b is = λ c w replayed sh. (
 abbrev pub tick_line : Bool → List Line
 tick_line reconnect = cond reconnect (line.Reconnect ∷ []) []
 
-pub tick-leads : (a b : Seen) → b ≡ with_noted (tick_line (tick_step a.moment a.core).answer.reconnect) (is_flushed a.core) (record a { core = (tick_step a.moment a.core).after }) → LeadsOn event.Tick a b
+pub tick-leads : (node : ℕ) (a b : Seen) → b ≡ with_noted (tick_line (tick_step node a.moment a.core).answer.reconnect) (is_flushed a.core) (record a { core = (tick_step node a.moment a.core).after }) → LeadsOn (event.TickNode node) a b
 unfolding stepped client
-tick-leads a b is = λ c w replayed sh.
-    let answer : (tick_step a.moment a.core).answer ≡ (tick_step w.moment w.core).answer = (λ i. (tick_step (sh.moment i) (sh.core i)).answer) ∙ sym (ap (λ (x : Called Ticked). x.answer) (at-fetched (tick_step w.moment) (λ r s. tick_behind r w.moment s) (tells-tick w.moment) w.core)) in
-    let same : b ≡ with_noted (tick_line (tick_step w.moment w.core).answer.reconnect) (is_flushed a.core) (record a { core = (tick_step w.moment a.core).after }) =
-    is ∙ (λ i. with_noted (tick_line (answer i).reconnect) (is_flushed a.core) (record a { core = (tick_step (sh.moment i) a.core).after })) in
-    let ls = tick_line (tick_step w.moment w.core).answer.reconnect in (
-      noted (tick_step w.moment w.core).after ls (tick_step w.moment w.core).told w,
+tick-leads node a b is = λ c w replayed sh.
+    let answer : (tick_step node a.moment a.core).answer ≡ (tick_step node w.moment w.core).answer = (λ i. (tick_step node (sh.moment i) (sh.core i)).answer) ∙ sym (ap (λ (x : Called Ticked). x.answer) (at-fetched (tick_step node w.moment) (λ r s. tick_behind r node w.moment s) (tells-tick node w.moment) w.core)) in
+    let same : b ≡ with_noted (tick_line (tick_step node w.moment w.core).answer.reconnect) (is_flushed a.core) (record a { core = (tick_step node w.moment a.core).after }) =
+    is ∙ (λ i. with_noted (tick_line (answer i).reconnect) (is_flushed a.core) (record a { core = (tick_step node (sh.moment i) a.core).after })) in
+    let ls = tick_line (tick_step node w.moment w.core).answer.reconnect in (
+      noted (tick_step node w.moment w.core).after ls (tick_step node w.moment w.core).told w,
       refl,
-      subst (Shows c (noted (tick_step w.moment w.core).after ls (tick_step w.moment w.core).told w)) (sym same)
-          (shows-noted (tick_step w.moment) (λ r s. tick_behind r w.moment s) (tells-tick w.moment) c w a sh ls),
+      subst (Shows c (noted (tick_step node w.moment w.core).after ls (tick_step node w.moment w.core).told w)) (sym same)
+          (shows-noted (tick_step node w.moment) (λ r s. tick_behind r node w.moment s) (tells-tick node w.moment) c w a sh ls),
     )
 
 pub flush-leads : (a b : Seen) → b ≡ with_noted (flush_line a.core ∷ []) (is_flushed a.core) (record a { core = flush_step a.core }) → LeadsOn event.Flush a b
@@ -319,6 +319,20 @@ opened-within c partitions senders s is let_through few_partitions few_senders a
       moment = omega (arith, first);
     }
 
+-- ---- what names no node is of node 0
+
+pub tick-bare : {T E : Type 0} (r : Result T E) (a b : Seen) → OnOk r (LeadsOn (event.TickNode 0) a b) → OnOk r (LeadsOn event.Tick a b)
+unfolding stepped
+tick-bare r a b leads = leads
+
+pub send-bare : {T E : Type 0} (r : Result T E) (a b : Seen) → OnOk r (LeadsOn (event.SendNode 0) a b) → OnOk r (LeadsOn event.Send a b)
+unfolding stepped
+send-bare r a b leads = leads
+
+pub drop-bare : {T E : Type 0} (r : Result T E) (a b : Seen) → OnOk r (LeadsOn (event.DropNode 0) a b) → OnOk r (LeadsOn event.Drop a b)
+unfolding stepped
+drop-bare r a b leads = leads
+
 -- ---- what is left of an event
 
 pub within : {A : Type 0} {accepted taken logs moment : ℕ} (s : Core) (called : Called A) → Tells s called → (t : Core) → t ≡ called.after → IsInBounds s accepted taken logs moment → IsInBounds t accepted taken logs moment
@@ -336,9 +350,9 @@ module _ {T E : Type 0} (r : Result T E) (a v b : Seen) (is : v ≡ a) (was : Bo
   now-returns m = lead-on [] was (event.Now m) a (record v { moment = m }) b r (λ same.
       subst (λ a. LeadsOn (event.Now m) a b) is (now-leads v b m (same ∙ (λ i. with_noted [] (flushed i) (record v { moment = m })))))
 
-  pub drop-returns : (t : Core) → t ≡ disconnect_step v.moment v.core → OnOk r (b ≡ with_noted [] was (record v { core = t })) → OnOk r (LeadsOn event.Drop a b)
-  drop-returns t step = lead-on [] was event.Drop a (record v { core = t }) b r (λ same.
-      subst (λ a. LeadsOn event.Drop a b) is (drop-leads v b (same ∙ (λ i. with_noted [] (flushed i) (record v { core = step i })))))
+  pub drop-returns : (node : ℕ) (t : Core) → t ≡ disconnect_step node v.moment v.core → OnOk r (b ≡ with_noted [] was (record v { core = t })) → OnOk r (LeadsOn (event.DropNode node) a b)
+  drop-returns node t step = lead-on [] was (event.DropNode node) a (record v { core = t }) b r (λ same.
+      subst (λ a. LeadsOn (event.DropNode node) a b) is (drop-leads node v b (same ∙ (λ i. with_noted [] (flushed i) (record v { core = step i })))))
 
   pub close-returns : (t : Core) → t ≡ close_step v.core → OnOk r (b ≡ with_noted [] was (record v { core = t; is_shut = true })) → OnOk r (LeadsOn event.Close a b)
   close-returns t step = lead-on [] was event.Close a (record v { core = t; is_shut = true }) b r (λ same.
@@ -348,11 +362,11 @@ module _ {T E : Type 0} (r : Result T E) (a v b : Seen) (is : v ≡ a) (was : Bo
   end-returns t step = lead-on [] was event.End a (record v { core = t }) b r (λ same.
       subst (λ a. LeadsOn event.End a b) is (end-leads v b (same ∙ (λ i. with_noted [] (flushed i) (record v { core = step i })))))
 
-  pub tick-returns : (t : Core) (answer : Ticked) → (tick_step v.moment v.core).answer ≡ answer → t ≡ (tick_step v.moment v.core).after → (ls : List Line) → ls ≡ tick_line answer.reconnect
-      → OnOk r (b ≡ with_noted ls was (record v { core = t })) → OnOk r (LeadsOn event.Tick a b)
-  tick-returns t answer answered step ls lines = lead-on ls was event.Tick a (record v { core = t }) b r (λ same.
-      let told : ls ≡ tick_line (tick_step v.moment v.core).answer.reconnect = lines ∙ ap (λ (x : Ticked). tick_line x.reconnect) (sym answered) in
-      subst (λ a. LeadsOn event.Tick a b) is (tick-leads v b (same ∙ (λ i. with_noted (told i) (flushed i) (record v { core = step i })))))
+  pub tick-returns : (node : ℕ) (t : Core) (answer : Ticked) → (tick_step node v.moment v.core).answer ≡ answer → t ≡ (tick_step node v.moment v.core).after → (ls : List Line) → ls ≡ tick_line answer.reconnect
+      → OnOk r (b ≡ with_noted ls was (record v { core = t })) → OnOk r (LeadsOn (event.TickNode node) a b)
+  tick-returns node t answer answered step ls lines = lead-on ls was (event.TickNode node) a (record v { core = t }) b r (λ same.
+      let told : ls ≡ tick_line (tick_step node v.moment v.core).answer.reconnect = lines ∙ ap (λ (x : Ticked). tick_line x.reconnect) (sym answered) in
+      subst (λ a. LeadsOn (event.TickNode node) a b) is (tick-leads node v b (same ∙ (λ i. with_noted (told i) (flushed i) (record v { core = step i })))))
 
   pub flush-returns : (t : Core) → t ≡ flush_step v.core → (l : Line) → l ≡ flush_line v.core → OnOk r (b ≡ with_noted (l ∷ []) was (record v { core = t })) → OnOk r (LeadsOn event.Flush a b)
   flush-returns t step l lines = lead-on (l ∷ []) was event.Flush a (record v { core = t }) b r (λ same.

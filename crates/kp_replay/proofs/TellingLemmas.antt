@@ -14,6 +14,7 @@ use Rattle.kp_rules.specs.Closing.{close_step, end_all, end_step}
 use Rattle.kp_rules.specs.Dropping.{disconnect_step, drop_requests}
 use Rattle.kp_rules.specs.Flush.{flush_step}
 use Rattle.kp_rules.specs.HandingOver.{send_in}
+use Rattle.kp_rules.specs.Leading.{led_by, lead_step}
 use Rattle.kp_rules.specs.Next.{Sending}
 use Rattle.kp_rules.specs.Partitions.{partition_at}
 use Rattle.kp_rules.specs.Records.{Core, Called, Demand, Produce, InitProducerId, quietly}
@@ -65,15 +66,15 @@ tells-ticks now reconnect s d reports config names partitions = record {
   partitions = length-map d.partitions _ ∙ partitions;
 }
 
-pub tells-tick : (now : ℕ) (s : Core) → Tells s (tick_step now s)
+pub tells-tick : (node now : ℕ) (s : Core) → Tells s (tick_step node now s)
 unfolding tick_step drop_requests
-tells-tick now s =
+tells-tick node now s =
     let nothing : Ticked = record { reports = 0; reconnect = false } in
-    let dropped : Ticks = tick_partitions heed_deadlines now true (drop_requests now s) in
+    let dropped : Ticks = tick_partitions heed_deadlines now true (drop_requests node now s) in
     let looked : Ticks = tick_partitions heed_deadlines now false s in
-    tells-if s s.ended (quietly s nothing) (cond (has_timed_out now s) dropped looked)
+    tells-if s s.ended (quietly s nothing) (cond (has_timed_out node now s) dropped looked)
     (tells-quietly s nothing)
-    (tells-if s (has_timed_out now s) dropped looked (tells-ticks now true s (drop_requests now s) refl refl refl (length-map s.partitions _)) (tells-ticks now false s s refl refl refl refl))
+    (tells-if s (has_timed_out node now s) dropped looked (tells-ticks now true s (drop_requests node now s) refl refl refl (length-map s.partitions _)) (tells-ticks now false s s refl refl refl refl))
 
 tells-all : (s : Core) → Tells s (end_all s)
 unfolding at_each with_partitions
@@ -87,9 +88,14 @@ pub quiet-if : (b : Bool) (s t : Core) → t.reports ≡ s.reports → t.config 
 quiet-if true s t reports config names partitions = tells-quietly s (tt {0})
 quiet-if false s t reports config names partitions = tells-nothing s t (tt {0}) reports config names partitions
 
-pub tells-disconnect : (now : ℕ) (s : Core) → Tells s (quietly (disconnect_step now s) (tt {0}))
+pub tells-disconnect : (node now : ℕ) (s : Core) → Tells s (quietly (disconnect_step node now s) (tt {0}))
 unfolding disconnect_step drop_requests
-tells-disconnect now s = quiet-if s.ended s (drop_requests now s) refl refl refl (length-map s.partitions _)
+tells-disconnect node now s = quiet-if s.ended s (drop_requests node now s) refl refl refl (length-map s.partitions _)
+
+pub tells-lead : (p leader now : ℕ) (s : Core) → Tells s (quietly (lead_step p leader now s) (tt {0}))
+unfolding lead_step
+tells-lead p leader now s =
+    tells-nothing s (lead_step p leader now s) (tt {0}) refl refl refl (length-set s.partitions p (led_by leader now (partition_at p s.partitions)))
 
 pub tells-close : (s : Core) → Tells s (quietly (close_step s) (tt {0}))
 unfolding close_step
@@ -110,17 +116,17 @@ tells-append i s = at_append (λ (x : Appends). Tells s x) i s (record {
   room = λ may going free room. tells-nothing s (with_queued i s) (Ok tt) refl refl refl (length-set s.partitions i.partition (enqueue s.config i (partition_at i.partition s.partitions)));
 })
 
-pub tells-request : (now : ℕ) (s : Core) → Tells s (request_step now s)
-tells-request now s = at_request (λ (x : Requested). Tells s x) now s (record {
+pub tells-request : (node now : ℕ) (s : Core) → Tells s (request_step node now s)
+tells-request node now s = at_request (λ (x : Requested). Tells s x) node now s (record {
   ended = tells-quietly s (Err fault.Ended);
   idle = tells-quietly s (Ok None);
   spent = tells-quietly s (Err fault.CorrelationSpent);
   out = λ going d wanted left. out d;
 })
   where
-    out : (d : Demand Sending) → Tells s (go_out now s d)
-    out (Produce xs) = tells-nothing s (sent_out now s (Produce xs)) _ refl refl refl (length-changed_at (partitions_in xs) (λ p t. send_in s.correlation t) s.partitions)
-    out (InitProducerId p) = tells-nothing s (sent_out now s (InitProducerId p)) _ refl refl refl refl
+    out : (d : Demand Sending) → Tells s (go_out node now s d)
+    out (Produce xs) = tells-nothing s (sent_out node now s (Produce xs)) _ refl refl refl (length-changed_at (partitions_in xs) (λ p t. send_in s.correlation t) s.partitions)
+    out (InitProducerId p) = tells-nothing s (sent_out node now s (InitProducerId p)) _ refl refl refl refl
 
 pub tells-response : (now : ℕ) (response : Response) (s : Core) → Tells s (response_step now response s)
 unfolding at_these with_partitions

@@ -123,5 +123,6 @@ is_there (event.Accept s p value) a = nat_lt s (length a.accepted) && nat_lt p (
 is_there (event.Take s) a = nat_lt s (length a.accepted)
 is_there (event.Deliver k how) a = nat_lt k (length a.packets)
 is_there (event.Reply j) a = nat_lt j (length a.replies)
+is_there (event.Leader p node) a = nat_lt p (length a.logs)
 is_there (event.Other p n) a = nat_lt p (length a.logs)
 is_there _ a = true

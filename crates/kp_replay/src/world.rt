@@ -76,10 +76,10 @@ impl Model for World {
 }
 
 impl World {
-    ghost use Rattle.std.specs.Prelude.{◌≡◌, ◌<◌, ◌≤◌, ◌^◌, Ok, IfOk, OnOk};
+    ghost use Rattle.std.specs.Prelude.{◌≡◌, ◌<◌, ◌≤◌, ◌^◌, true, Ok, IfOk, OnOk};
     ghost use Rattle.kp_accum.specs.Config.{checked};
     ghost use Rattle.kp_replay.specs.Line.{lines_of};
-    ghost use Rattle.kp_replay.specs.Shown.{LeadsOn, Shows, with_noted};
+    ghost use Rattle.kp_replay.specs.Shown.{LeadsOn, Shows, is_there, with_noted};
     ghost use Rattle.kp_world.specs.World.{opening, scheduled};
     ghost use Rattle.kp_world.specs.declared.event.Event.TheVariants as event;
 
@@ -147,21 +147,31 @@ impl World {
         self.note(was_flushed, None)
     }
 
-    /// The producer looks at the clock.
-    pub fn tick(&mut self) -> Result<(), AllocError>
-        ensures { OnOk result (LeadsOn event.Tick self.old self.new) }
+    /// The producer looks at the clock, for this node.
+    pub fn tick(&mut self, node: u32) -> Result<(), AllocError>
+        ensures { OnOk result (LeadsOn (event.TickNode node) self.old self.new) }
     {
         let was_flushed = self.core.flushed();
-        let ticked = self.core.tick(self.moment);
+        let ticked = self.core.tick(node, self.moment);
         self.note(was_flushed, reconnect_line(ticked.reconnect))
     }
 
-    /// The connection is gone.
-    pub fn drop_connection(&mut self) -> Result<(), AllocError>
-        ensures { OnOk result (LeadsOn event.Drop self.old self.new) }
+    /// The connection to this node is gone.
+    pub fn drop_connection(&mut self, node: u32) -> Result<(), AllocError>
+        ensures { OnOk result (LeadsOn (event.DropNode node) self.old self.new) }
     {
         let was_flushed = self.core.flushed();
-        self.core.on_disconnect(self.moment);
+        self.core.on_disconnect(node, self.moment);
+        self.note(was_flushed, None)
+    }
+
+    /// This node leads the partition from now on.
+    pub fn lead(&mut self, partition: u64, node: u32) -> Result<(), AllocError>
+        requires { is_there (event.Leader partition node) self.old ≡ true }
+        ensures { OnOk result (LeadsOn (event.Leader partition node) self.old self.new) }
+    {
+        let was_flushed = self.core.flushed();
+        self.core.lead(partition as u32, node, self.moment);
         self.note(was_flushed, None)
     }
 

@@ -11,7 +11,7 @@ use Rattle.std.proofs.lemmas.List.Sums.{AllPass-from_list_all}
 use Rattle.std.proofs.lemmas.Str.{IsAscii-append, IsUtf8-from_ascii}
 use Rattle.std.proofs.lemmas.Str.Ascii.{IsAscii-from_all}
 use Rattle.kp_world.specs.declared.event.Event.{Event}
-use Rattle.kp_world.specs.declared.event.Event.TheVariants.{Accept, Take, Now, Tick, Send, Deliver, Reply, Drop, Other, Close, End, Flush}
+use Rattle.kp_world.specs.declared.event.Event.TheVariants.{Accept, Take, Now, Tick, TickNode, Send, SendNode, Deliver, Reply, Drop, DropNode, Leader, Other, Close, End, Flush}
 use Rattle.kp_world.specs.declared.event.Treatment.TheVariants.{Judged, Refused, Late}
 use Rattle.kp_schedule.specs.Grammar.{IsCode, IsSilent, IsValue, MayBeSaid, ReadsSaying, Says, WordsSay, event_words, name_of}
 use Rattle.kp_schedule.specs.Lines.{Text}
@@ -58,7 +58,9 @@ event-ascii (Accept s p value) may =
 event-ascii (Take s) may = (known (codes "take") refl, (IsAscii-decimal s may, tt))
 event-ascii (Now moment) may = (known (codes "now") refl, (IsAscii-decimal moment (omega (arith, may)), tt))
 event-ascii Tick may = (known (codes "tick") refl, tt)
+event-ascii (TickNode node) may = (known (codes "tick") refl, (IsAscii-decimal node (omega (arith, may)), tt))
 event-ascii Send may = (known (codes "send") refl, tt)
+event-ascii (SendNode node) may = (known (codes "send") refl, (IsAscii-decimal node (omega (arith, may)), tt))
 event-ascii (Deliver k Judged) may = (known (codes "deliver") refl, (IsAscii-decimal k may.0, tt))
 event-ascii (Deliver k (Refused code)) may =
     (known (codes "deliver") refl, (IsAscii-decimal k may.0, (known (codes "fail") refl, (code-ascii code may.1, tt))))
@@ -66,6 +68,9 @@ event-ascii (Deliver k (Late code)) may =
     (known (codes "deliver") refl, (IsAscii-decimal k may.0, (known (codes "late") refl, (code-ascii code may.1, tt))))
 event-ascii (Reply j) may = (known (codes "reply") refl, (IsAscii-decimal j may, tt))
 event-ascii Drop may = (known (codes "drop") refl, tt)
+event-ascii (DropNode node) may = (known (codes "drop") refl, (IsAscii-decimal node (omega (arith, may)), tt))
+event-ascii (Leader p node) may =
+    (known (codes "leader") refl, (IsAscii-decimal p may.0, (IsAscii-decimal node (omega (arith, may.1)), tt)))
 event-ascii (Other p n) may =
     (known (codes "other") refl, (IsAscii-decimal p may.0, (IsAscii-decimal n (omega (arith, may.1)), tt)))
 event-ascii Close may = (known (codes "close") refl, tt)

@@ -1,12 +1,13 @@
 -- Which texts are decimal numbers.
-use Rattle.std.proofs.Common.{◌≡◌, ◌≢◌, ℕ, ◌<◌, ◌≤◌, ◌^◌, List, length, get_or, Result, Ok, Err, arith, sym, ap, lit<, inl, inr, eq-zero-or-pos}
+use Rattle.std.proofs.Common.{◌≡◌, ◌≢◌, ℕ, ◌<◌, ◌≤◌, ◌^◌, List, length, get_or, Result, Ok, Err, arith, sym, ap, lit<, inl, inr, eq-zero-or-pos, subst, ◌∙◌}
 use Rattle.std.specs.Fmt.{decimal}
 use Rattle.std.specs.Str.Parse.{ParsesUnsigned, AllDigits, digits_value}
 use Rattle.std.specs.Int.{IsInRange}
+use Rattle.std.specs.Prelude.{OkIff}
 use Rattle.std.specs.Result.{result_ok}
 use Rattle.std.proofs.lemmas.Str.Parse.{IsNumeralModel, numerals_by_value, tells_digits, digit_at, parse_plain}
-use Rattle.std.proofs.lemmas.Fmt.{digits_decimal, first_decimal, decimal_digit, decimal_nonempty, decimal-digits_value, parse-decimal}
-use Rattle.kp_schedule.specs.Grammar.{IsNumber, Reads}
+use Rattle.std.proofs.lemmas.Fmt.{decimal_injective, digits_decimal, first_decimal, decimal_digit, decimal_nonempty, decimal-digits_value, parse-decimal}
+use Rattle.kp_schedule.specs.Grammar.{IsNode, IsNumber, Reads}
 
 own : IsNumeralModel (AllDigits 10) (digits_value 10)
 own = numerals_by_value (AllDigits 10) tells_digits
@@ -39,3 +40,9 @@ parsed-decimal {E} text (Ok n) parses plain alone =
     (rw read.1 read.0.2, rw read.1 (sym (decimal-digits_value own text read.0.0 read.0.1 one read.0.2)))
 parsed-decimal {E} text (Err e) parses plain alone =
     λ n small is. let read = parse-decimal {E = E} 64 n text (Err e) small small is parses in cc
+
+-- the numbers that are a node's
+pub node-decimal : {E : Type 0} (text : List ℕ) (n : ℕ) (r : Result ℕ E) → IsNumber n × (text ≡ decimal n) → OkIff r (IsNode n) n → Reads IsNode decimal text (result_ok r)
+node-decimal {E} text n (Ok m) read fits = (subst IsNode (sym fits.1) fits.0, read.1 ∙ ap decimal (sym fits.1))
+node-decimal {E} text n (Err e) read large =
+    λ m small is. large (subst IsNode (decimal_injective m n (omega (arith, small)) read.0 (sym is ∙ read.1)) small)

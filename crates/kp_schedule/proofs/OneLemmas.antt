@@ -4,7 +4,7 @@ use Rattle.std.specs.Fmt.{decimal}
 use Rattle.std.specs.List.{onto_first}
 use Rattle.std.proofs.lemmas.Fmt.{decimal_injective}
 use Rattle.kp_world.specs.declared.event.Event.{Event}
-use Rattle.kp_world.specs.declared.event.Event.TheVariants.{Accept, Take, Now, Tick, Send, Deliver, Reply, Drop, Other, Close, End, Flush}
+use Rattle.kp_world.specs.declared.event.Event.TheVariants.{Accept, Take, Now, Tick, TickNode, Send, SendNode, Deliver, Reply, Drop, DropNode, Leader, Other, Close, End, Flush}
 use Rattle.kp_world.specs.declared.event.Treatment.TheVariants.{Judged, Refused, Late}
 use Rattle.kp_schedule.specs.Grammar.{IsSilent, MayBeSaid, MayBeSet, Says, event_words, name_of, setting_words}
 use Rattle.kp_schedule.specs.Lines.{Text}
@@ -53,11 +53,21 @@ event_words-injective Tick (Deliver t Judged) h k is = absurd (omega (arith, ap 
 event_words-injective Tick (Deliver t (Refused d)) h k is = absurd (omega (arith, ap tag is))
 event_words-injective Tick (Deliver t (Late d)) h k is = absurd (omega (arith, ap tag is))
 event_words-injective Tick f h k is = absurd (omega (arith, ap tag is))
+event_words-injective (TickNode s) (TickNode t) h k is = ap TickNode (decimal_injective s t (omega (arith, h)) (omega (arith, k)) cc)
+event_words-injective (TickNode s) (Deliver t Judged) h k is = absurd (omega (arith, ap tag is))
+event_words-injective (TickNode s) (Deliver t (Refused d)) h k is = absurd (omega (arith, ap tag is))
+event_words-injective (TickNode s) (Deliver t (Late d)) h k is = absurd (omega (arith, ap tag is))
+event_words-injective (TickNode s) f h k is = absurd (omega (arith, ap tag is))
 event_words-injective Send Send h k is = refl
 event_words-injective Send (Deliver t Judged) h k is = absurd (omega (arith, ap tag is))
 event_words-injective Send (Deliver t (Refused d)) h k is = absurd (omega (arith, ap tag is))
 event_words-injective Send (Deliver t (Late d)) h k is = absurd (omega (arith, ap tag is))
 event_words-injective Send f h k is = absurd (omega (arith, ap tag is))
+event_words-injective (SendNode s) (SendNode t) h k is = ap SendNode (decimal_injective s t (omega (arith, h)) (omega (arith, k)) cc)
+event_words-injective (SendNode s) (Deliver t Judged) h k is = absurd (omega (arith, ap tag is))
+event_words-injective (SendNode s) (Deliver t (Refused d)) h k is = absurd (omega (arith, ap tag is))
+event_words-injective (SendNode s) (Deliver t (Late d)) h k is = absurd (omega (arith, ap tag is))
+event_words-injective (SendNode s) f h k is = absurd (omega (arith, ap tag is))
 event_words-injective (Deliver s Judged) (Deliver t Judged) h k is = ap (λ n. Deliver n Judged) (decimal_injective s t h.0 k.0 cc)
 event_words-injective (Deliver s Judged) (Deliver t (Refused d)) h k is = absurd (omega (arith, ap tag is))
 event_words-injective (Deliver s Judged) (Deliver t (Late d)) h k is = absurd (omega (arith, ap tag is))
@@ -86,6 +96,19 @@ event_words-injective Drop (Deliver t Judged) h k is = absurd (omega (arith, ap 
 event_words-injective Drop (Deliver t (Refused d)) h k is = absurd (omega (arith, ap tag is))
 event_words-injective Drop (Deliver t (Late d)) h k is = absurd (omega (arith, ap tag is))
 event_words-injective Drop f h k is = absurd (omega (arith, ap tag is))
+event_words-injective (DropNode s) (DropNode t) h k is = ap DropNode (decimal_injective s t (omega (arith, h)) (omega (arith, k)) cc)
+event_words-injective (DropNode s) (Deliver t Judged) h k is = absurd (omega (arith, ap tag is))
+event_words-injective (DropNode s) (Deliver t (Refused d)) h k is = absurd (omega (arith, ap tag is))
+event_words-injective (DropNode s) (Deliver t (Late d)) h k is = absurd (omega (arith, ap tag is))
+event_words-injective (DropNode s) f h k is = absurd (omega (arith, ap tag is))
+event_words-injective (Leader s p) (Leader t q) h k is =
+    let partition = decimal_injective s t h.0 k.0 cc in
+    let node = decimal_injective p q (omega (arith, h.1)) (omega (arith, k.1)) cc in
+    cc
+event_words-injective (Leader s p) (Deliver t Judged) h k is = absurd (omega (arith, ap tag is))
+event_words-injective (Leader s p) (Deliver t (Refused d)) h k is = absurd (omega (arith, ap tag is))
+event_words-injective (Leader s p) (Deliver t (Late d)) h k is = absurd (omega (arith, ap tag is))
+event_words-injective (Leader s p) f h k is = absurd (omega (arith, ap tag is))
 event_words-injective (Other s p) (Other t q) h k is =
     let partition = decimal_injective s t h.0 k.0 cc in
     let count = decimal_injective p q (omega (arith, h.1)) (omega (arith, k.1)) cc in

@@ -4,7 +4,7 @@ use Rattle.std.specs.declared.alloc.AllocError.{AllocError}
 use Rattle.std.specs.Fmt.{signed_decimal}
 use Rattle.std.specs.List.{All}
 use Rattle.kp_world.specs.declared.event.Event.{Event}
-use Rattle.kp_world.specs.declared.event.Event.TheVariants.{Accept, Take, Now, Tick, Send, Deliver, Reply, Drop, Other, Close, End, Flush}
+use Rattle.kp_world.specs.declared.event.Event.TheVariants.{Accept, Take, Now, Tick, TickNode, Send, SendNode, Deliver, Reply, Drop, DropNode, Leader, Other, Close, End, Flush}
 use Rattle.kp_world.specs.declared.event.Treatment.{Treatment}
 use Rattle.kp_world.specs.declared.event.Treatment.TheVariants.{Judged, Refused, Late}
 use Rattle.kp_schedule.specs.Lines.{Text}
@@ -21,7 +21,9 @@ event_words (Accept s p value) = codes "accept" ∷ decimal s ∷ decimal p ∷ 
 event_words (Take s) = codes "take" ∷ decimal s ∷ []
 event_words (Now moment) = codes "now" ∷ decimal moment ∷ []
 event_words Tick = codes "tick" ∷ []
+event_words (TickNode node) = codes "tick" ∷ decimal node ∷ []
 event_words Send = codes "send" ∷ []
+event_words (SendNode node) = codes "send" ∷ decimal node ∷ []
 event_words (Deliver k Judged) = codes "deliver" ∷ decimal k ∷ []
 event_words (Deliver k (Refused code)) =
     codes "deliver" ∷ decimal k ∷ codes "fail" ∷ signed_decimal code ∷ []
@@ -29,6 +31,8 @@ event_words (Deliver k (Late code)) =
     codes "deliver" ∷ decimal k ∷ codes "late" ∷ signed_decimal code ∷ []
 event_words (Reply j) = codes "reply" ∷ decimal j ∷ []
 event_words Drop = codes "drop" ∷ []
+event_words (DropNode node) = codes "drop" ∷ decimal node ∷ []
+event_words (Leader p node) = codes "leader" ∷ decimal p ∷ decimal node ∷ []
 event_words (Other p n) = codes "other" ∷ decimal p ∷ decimal n ∷ []
 event_words Close = codes "close" ∷ []
 event_words End = codes "end" ∷ []
@@ -38,6 +42,10 @@ event_words Flush = codes "flush" ∷ []
 
 abbrev pub IsNumber : ℕ → Type 0
 IsNumber n = n < 2 ^ 64
+
+-- a node's number
+abbrev pub IsNode : ℕ → Type 0
+IsNode n = n < 2 ^ 32
 
 -- a byte that is seen when it is printed, and is no blank
 abbrev pub IsVisible : ℕ → Type 0
@@ -63,8 +71,12 @@ abbrev pub MayBeSaid : Event → Type 0
 MayBeSaid (Accept s p value) = IsNumber s × IsNumber p × IsValue value
 MayBeSaid (Take s) = IsNumber s
 MayBeSaid (Now moment) = moment < 2 ^ 63
+MayBeSaid (TickNode node) = IsNode node
+MayBeSaid (SendNode node) = IsNode node
 MayBeSaid (Deliver k how) = IsNumber k × MayTreat how
 MayBeSaid (Reply j) = IsNumber j
+MayBeSaid (DropNode node) = IsNode node
+MayBeSaid (Leader p node) = IsNumber p × IsNode node
 MayBeSaid (Other p n) = IsNumber p × (n ≤ 1000)
 MayBeSaid _ = Unit {0}
 

@@ -1,7 +1,7 @@
 //! An event, read from its words.
 
 ghost use Rattle.std.specs.Prelude.{◌≡◌, ◌∷◌, ◌↔◌, [], IsTrue, codes, decimal};
-ghost use Rattle.kp_schedule.specs.Grammar.{IsCode, IsValue, IsVisible, Reads, ReadsEvent, ReadsWords};
+ghost use Rattle.kp_schedule.specs.Grammar.{IsCode, IsNode, IsValue, IsVisible, Reads, ReadsEvent, ReadsWords};
 ghost use Rattle.kp_schedule.specs.Words.{texts};
 ghost use Rattle.std.specs.List.{All};
 ghost use Rattle.std.specs.Fmt.{signed_decimal};
@@ -50,6 +50,13 @@ fn code_of(word: &str) -> Option<i16>
     Some(code as i16)
 }
 
+/// A node's number.
+fn node_of(word: &str) -> Option<u32>
+    ensures { Reads IsNode decimal word.now result }
+{
+    u32::try_from(number_of(word)?).ok()
+}
+
 /// An event of one word.
 fn bare_event(word: &str) -> Option<Event>
     ensures { ReadsEvent (word.now ∷ []) result }
@@ -79,17 +86,38 @@ fn now_event(moment: u64) -> Option<Event>
 fn numbered_event(word: &str, number: &str) -> Option<Event>
     ensures { ReadsEvent (word.now ∷ number.now ∷ []) result }
 {
-    let number = number_of(number)?;
     match word {
-        "take" => Some(Event::Take { sender: number }),
-        "now" => now_event(number),
+        "take" => Some(Event::Take {
+            sender: number_of(number)?,
+        }),
+        "now" => now_event(number_of(number)?),
+        "tick" => Some(Event::TickNode {
+            node: node_of(number)?,
+        }),
+        "send" => Some(Event::SendNode {
+            node: node_of(number)?,
+        }),
         "deliver" => Some(Event::Deliver {
-            packet: number,
+            packet: number_of(number)?,
             treatment: Treatment::Judged,
         }),
-        "reply" => Some(Event::Reply { reply: number }),
+        "reply" => Some(Event::Reply {
+            reply: number_of(number)?,
+        }),
+        "drop" => Some(Event::DropNode {
+            node: node_of(number)?,
+        }),
         _ => None,
     }
+}
+
+/// A partition's leader.
+fn leader_event(partition: &str, node: &str) -> Option<Event>
+    ensures { ReadsEvent (codes "leader" ∷ partition.now ∷ node.now ∷ []) result }
+{
+    let partition = number_of(partition)?;
+    let node = node_of(node)?;
+    Some(Event::Leader { partition, node })
 }
 
 /// Another producer's records.
@@ -150,6 +178,7 @@ pub fn event_of(alloc: Global, words: Words<'_>) -> Result<Option<Event>, AllocE
     match words {
         Words::One(word) => Ok(bare_event(word)),
         Words::Two(word, number) => Ok(numbered_event(word, number)),
+        Words::Three("leader", partition, node) => Ok(leader_event(partition, node)),
         Words::Three("other", partition, count) => Ok(other_event(partition, count)),
         Words::Three(_, _, _) => Ok(None),
         Words::Four("accept", sender, partition, value) => {

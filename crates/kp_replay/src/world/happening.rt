@@ -8,6 +8,9 @@ use crate::world::World;
 use kp_world::Event;
 use std::alloc::AllocError;
 
+/// The node of what names none; it leads each partition at first.
+const FIRST_NODE: u32 = 0;
+
 impl World {
     /// Whether what the event names is there.
     pub fn is_there(&self, event: &Event) -> bool
@@ -22,11 +25,16 @@ impl World {
             Event::Take { sender } => self.has_sender(*sender),
             Event::Deliver { packet, .. } => *packet < self.packets.len() as u64,
             Event::Reply { reply } => *reply < self.replies.len() as u64,
-            Event::Other { partition, .. } => self.has_partition(*partition),
+            Event::Leader { partition, .. } | Event::Other { partition, .. } => {
+                self.has_partition(*partition)
+            }
             Event::Now { .. }
             | Event::Tick
+            | Event::TickNode { .. }
             | Event::Send
+            | Event::SendNode { .. }
             | Event::Drop
+            | Event::DropNode { .. }
             | Event::Close
             | Event::End
             | Event::Flush => true,
@@ -59,11 +67,15 @@ impl World {
             } => self.accept(sender, partition, value),
             Event::Take { sender } => self.take(sender),
             Event::Now { moment } => self.now(moment),
-            Event::Tick => self.tick(),
-            Event::Send => self.send(),
+            Event::Tick => self.tick(FIRST_NODE),
+            Event::TickNode { node } => self.tick(node),
+            Event::Send => self.send(FIRST_NODE),
+            Event::SendNode { node } => self.send(node),
             Event::Deliver { packet, treatment } => self.deliver(packet, treatment),
             Event::Reply { reply } => self.reply(reply),
-            Event::Drop => self.drop_connection(),
+            Event::Drop => self.drop_connection(FIRST_NODE),
+            Event::DropNode { node } => self.drop_connection(node),
+            Event::Leader { partition, node } => self.lead(partition, node),
             Event::Other { partition, count } => self.other(partition, count),
             Event::Close => self.close(),
             Event::End => self.end(),

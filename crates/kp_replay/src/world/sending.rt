@@ -13,12 +13,12 @@ use kp_rules::CoreFault;
 use std::alloc::AllocError;
 
 impl World {
-    /// The next request goes out, as a packet, where there is one.
-    pub fn send(&mut self) -> Result<(), AllocError>
-        ensures { OnOk result (LeadsOn event.Send self.old self.new) }
+    /// The next request to this node goes out, as a packet, where there is one.
+    pub fn send(&mut self, node: u32) -> Result<(), AllocError>
+        ensures { OnOk result (LeadsOn (event.SendNode node) self.old self.new) }
     {
         let was_flushed = self.core.flushed();
-        match self.core.next_request(self.moment) {
+        match self.core.next_request(node, self.moment) {
             Ok(Some(outgoing)) => {
                 let number = self.packets.len() as u64;
                 let line = sent_line(self.alloc, number, outgoing.bytes.as_slice())?;
