@@ -35,6 +35,10 @@ serves_here o plan (Here text) partitions port first after here many is serves =
 )
 serves_here o plan (At address) partitions port first after here many is serves = absurd here
 
+pub at_here : (p : Place) (a : SocketAddr) → IsHere p → IsAt p a
+at_here (Here text) a here = tt
+at_here (At named) a here = absurd here
+
 pub is_produced : (a : SocketAddr) (deal : Deal) (most : ℕ) (s : Settings) (r : Result Produced RunFault)
     → IfOk r (λ p. Comes deal most p.accepted p.reports.items) → IfOk r (λ p. IsSorted by_place p.reports.items)
     → IfOk r (λ p. AreOfService a s p.reports.items) → IfOk r (λ p. IsProduced a s deal most p.accepted p.reports.items)
