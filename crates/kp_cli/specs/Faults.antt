@@ -5,7 +5,7 @@ use Rattle.kp_cli.specs.declared.fault.Fault.TheVariants.{CannotRead, OutOfMemor
 use Rattle.kp_offline.specs.declared.fault.PackFault.{PackFault}
 use Rattle.kp_offline.specs.declared.fault.PackFault.TheVariants as pack
 use Rattle.kp_accum.specs.Config.{number_of}
-use Rattle.kp_connection.specs.Fault.{fault_number}
+use Rattle.kp_hello.specs.Fault.{fault_number}
 use Rattle.kp_run.specs.declared.fault.RunFault.{RunFault}
 use Rattle.kp_run.specs.declared.fault.RunFault.TheVariants as run
 use Rattle.kp_schedule.specs.declared.fault.ReplayFault.{ReplayFault}

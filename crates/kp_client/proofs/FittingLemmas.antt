@@ -3,7 +3,7 @@ use Rattle.std.proofs.Common.{◌≡◌, ℕ, ◌≤◌, Bool, true, false, [], 
 use Rattle.std.specs.Prelude.{All, replicate}
 use Rattle.std.proofs.lemmas.List.{length-map, length-replicate}
 use Rattle.kp_accum.specs.declared.config.Config.{Config}
-use Rattle.kp_connection.specs.declared.hello.Hello.{Hello}
+use Rattle.kp_hello.specs.declared.hello.Hello.{Hello}
 use Rattle.kp_engine.specs.Opening.{MayTurn}
 use Rattle.kp_lanes.specs.Intake.{lanes_of, intake_limits, passed_lists, told_lists}
 use Rattle.kp_lanes.specs.declared.intake.Intake.{Intake}

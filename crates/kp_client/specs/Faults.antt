@@ -3,8 +3,8 @@ use Rattle.std.specs.IoError.{error_kind}
 use Rattle.std.specs.declared.io.Error.{Error}
 use Rattle.std.specs.declared.io.ErrorKind.{ErrorKind}
 use Rattle.std.specs.declared.io.ErrorKind.TheVariants as kinds
-use Rattle.kp_connection.specs.declared.fault.HandshakeFault.{HandshakeFault}
-use Rattle.kp_connection.specs.declared.fault.HandshakeFault.TheVariants as handshake
+use Rattle.kp_hello.specs.declared.fault.HandshakeFault.{HandshakeFault}
+use Rattle.kp_hello.specs.declared.fault.HandshakeFault.TheVariants as handshake
 use Rattle.kp_lanes.specs.declared.fault.OpenFault.{OpenFault as LanesFault}
 use Rattle.kp_lanes.specs.declared.fault.OpenFault.TheVariants as lanes
 use Rattle.kp_client.specs.declared.fault.OpenFault.{OpenFault}

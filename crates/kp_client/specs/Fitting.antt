@@ -1,6 +1,6 @@
 -- A new core, as a hello has it, and the lanes that it serves.
 use Rattle.std.specs.Prelude.{◌≡◌, ◌≤◌, Bool, [], length, All}
-use Rattle.kp_connection.specs.declared.hello.Hello.{Hello}
+use Rattle.kp_hello.specs.declared.hello.Hello.{Hello}
 use Rattle.kp_lanes.specs.Intake.{intake_limits, lanes_of, passed_lists, told_lists}
 use Rattle.kp_lanes.specs.declared.intake.Intake.{Intake}
 use Rattle.kp_rules.specs.Auditing.{opened}

@@ -2,8 +2,8 @@
 use Rattle.std.specs.Prelude.{◌≡◌, ℕ, ◌*◌, List, Ok, All, IfSome, length, map}
 use Rattle.std.specs.Duration.{as_nanos}
 use Rattle.std.specs.declared.net.socket_addr.SocketAddr.{SocketAddr}
-use Rattle.kp_connection.specs.Hello.{metadata_given, producer_id_given}
-use Rattle.kp_connection.specs.declared.hello.Hello.{Hello}
+use Rattle.kp_hello.specs.Hello.{metadata_given, producer_id_given}
+use Rattle.kp_hello.specs.declared.hello.Hello.{Hello}
 use Rattle.kp_lanes.specs.Closer.{closer_gate}
 use Rattle.kp_lanes.specs.Intake.{intake_gate, lanes_of, numbers_below}
 use Rattle.kp_lanes.specs.Sender.{sender_number, IsFresh, IsSenderOf}

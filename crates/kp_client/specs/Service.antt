@@ -1,6 +1,6 @@
 -- What contracts see of a service.
 use Rattle.std.specs.Prelude.{ℕ, Bool, ◌<◌, length}
-use Rattle.kp_connection.specs.declared.hello.Hello.{Hello}
+use Rattle.kp_hello.specs.declared.hello.Hello.{Hello}
 use Rattle.kp_lanes.specs.Sender.{sender_number}
 use Rattle.kp_lanes.specs.declared.sender.Sender.{Sender}
 use Rattle.kp_running.specs.Bells.{sender_bells}

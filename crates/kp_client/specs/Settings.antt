@@ -2,7 +2,7 @@
 use Rattle.std.specs.Prelude.{ℕ, List, false, None, nat_lt, length, min, Result, Ok, Err, if◌then◌else◌}
 use Rattle.kp_accum.specs.Config.{checked, default_config}
 use Rattle.kp_accum.specs.declared.fault.ConfigFault.{ConfigFault}
-use Rattle.kp_connection.specs.declared.hello.Hello.{Hello}
+use Rattle.kp_hello.specs.declared.hello.Hello.{Hello}
 use Rattle.kp_lanes.specs.declared.limits.Limits.{Limits}
 use Rattle.kp_rules.specs.Opening.{NAME_LIMIT}
 use Rattle.kp_client.specs.declared.fault.OpenFault.{OpenFault}

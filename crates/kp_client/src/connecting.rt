@@ -7,8 +7,9 @@ ghost use Rattle.kp_client.specs.Policy.{limit_of};
 
 use crate::again::Again;
 use crate::fault::OpenFault;
-use kp_connection::{Handshake, HandshakeFault, Hello, Plain};
+use kp_connection::{Handshake, Plain};
 use kp_core::Names;
+use kp_hello::{HandshakeFault, Hello};
 use std::alloc::AllocGlobal;
 use std::net::{Net, SocketAddr};
 use std::random::RandomSource;

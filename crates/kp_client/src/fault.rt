@@ -5,7 +5,7 @@ ghost use Rattle.kp_client.specs.Faults.{of_error, of_handshake, of_lanes, of_lo
 ghost use Rattle.kp_client.specs.declared.fault.OpenFault.TheVariants as opening;
 
 use kp_accum::ConfigFault;
-use kp_connection::HandshakeFault;
+use kp_hello::HandshakeFault;
 use std::alloc::{AllocError, AllocFailed};
 use std::io;
 use thiserror::Error;

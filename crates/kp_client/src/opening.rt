@@ -16,7 +16,7 @@ use crate::producer::Producer;
 use crate::service::Service;
 use crate::settings::Settings;
 use crate::shared::Shared;
-use kp_connection::Hello;
+use kp_hello::Hello;
 use kp_lanes::{Sender, open_lanes};
 use std::alloc::{AllocError, AllocFailed, AllocGlobal, Global};
 use std::net::{Net, SocketAddr};

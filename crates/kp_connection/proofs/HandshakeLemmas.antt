@@ -7,14 +7,15 @@ use Rattle.std.proofs.lemmas.List.Folds.{concat-append}
 use Rattle.kp_frames.specs.Stream as framing
 use Rattle.kp_wire.proofs.ReadLemmas.{done}
 use Rattle.kp_rules.specs.declared.names.Names.{Names}
-use Rattle.kp_connection.specs.declared.fault.HandshakeFault.{HandshakeFault}
-use Rattle.kp_connection.specs.declared.fault.HandshakeFault.TheVariants.{Io, Frame, BadAnswer, Refused, OutOfMemory}
+use Rattle.kp_hello.specs.declared.fault.HandshakeFault.{HandshakeFault}
+use Rattle.kp_hello.specs.declared.fault.HandshakeFault.TheVariants.{Io, Frame, BadAnswer, Refused, OutOfMemory}
 use Rattle.kp_connection.specs.declared.handshake.stage.Stage.{Stage}
 use Rattle.kp_connection.specs.declared.handshake.stage.Stage.TheVariants.{Opening, Metadata, ProducerId}
-use Rattle.kp_connection.specs.declared.hello.Hello.{Hello}
+use Rattle.kp_hello.specs.declared.hello.Hello.{Hello}
 use Rattle.kp_connection.specs.Answers.{Answer, came, gone, came_by, gone_by}
-use Rattle.kp_connection.specs.Handshake.{Talking, asked, frame_of, Counts, Hears, Turns, InTurn, Comes, Waits, Concludes, HasFailed, Fails, Lacks, GivesFault, Refuses, Overflows, Unwritable, Unasked, HalfAsked, metadata_request, producer_id_request, EndsWith, Ends}
-use Rattle.kp_connection.specs.Hello.{metadata_given}
+use Rattle.kp_hello.specs.Asking.{frame_of, Unwritable, metadata_request, producer_id_request}
+use Rattle.kp_connection.specs.Handshake.{Talking, asked, Counts, Hears, Turns, InTurn, Comes, Waits, Concludes, HasFailed, Fails, Lacks, GivesFault, Refuses, Overflows, Unasked, HalfAsked, EndsWith, Ends}
+use Rattle.kp_hello.specs.Hello.{metadata_given}
 use Rattle.kp_connection.specs.Talking.{Steps}
 use Rattle.kp_connection.specs.Wire.{Told, Wired, frames, Goes, Met}
 use Rattle.kp_connection.proofs.WireLemmas.{through, Goes-then, Stops-then}

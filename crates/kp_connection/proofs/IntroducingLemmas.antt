@@ -10,14 +10,15 @@ use Rattle.kp_frames.specs.declared.frame.TheConstants.{CONTENT_LIMIT}
 use Rattle.kp_frames.specs.Stream as framing
 use Rattle.kp_frames.proofs.FirstLemmas.{first_short, front_first, frame_front}
 use Rattle.kp_rules.specs.declared.names.Names.{Names}
-use Rattle.kp_connection.specs.declared.fault.HandshakeFault.{HandshakeFault}
-use Rattle.kp_connection.specs.declared.fault.HandshakeFault.TheVariants.{Io, Frame, BadAnswer, Refused, OutOfMemory}
+use Rattle.kp_hello.specs.declared.fault.HandshakeFault.{HandshakeFault}
+use Rattle.kp_hello.specs.declared.fault.HandshakeFault.TheVariants.{Io, Frame, BadAnswer, Refused, OutOfMemory}
 use Rattle.kp_connection.specs.declared.handshake.stage.Stage.{Stage}
 use Rattle.kp_connection.specs.declared.handshake.stage.Stage.TheVariants.{Opening, Metadata, ProducerId}
-use Rattle.kp_connection.specs.declared.hello.Hello.{Hello}
+use Rattle.kp_hello.specs.declared.hello.Hello.{Hello}
 use Rattle.kp_connection.specs.Answers.{Answer, came, gone, came_by, gone_by}
-use Rattle.kp_connection.specs.Handshake.{Talking, Waits, Comes, Concludes, Refuses, Overflows, Unasked, HalfAsked, EndsWith, asked, frame_of, metadata_request, producer_id_request, Hears, Turns, InTurn}
-use Rattle.kp_connection.specs.Hello.{metadata_given}
+use Rattle.kp_hello.specs.Asking.{frame_of, metadata_request, producer_id_request}
+use Rattle.kp_connection.specs.Handshake.{Talking, Waits, Comes, Concludes, Refuses, Overflows, Unasked, HalfAsked, EndsWith, asked, Hears, Turns, InTurn}
+use Rattle.kp_hello.specs.Hello.{metadata_given}
 use Rattle.kp_connection.specs.Introducing.{fresh, Waited, Begins, Asks, AsksInTurn, IsTwoAtMost, Speaks, Introduces, MetAWait}
 use Rattle.kp_connection.specs.Talking.{Steps}
 use Rattle.kp_connection.specs.Wire.{Told, Wired, frames, AreContents, IsOneAtMost, Stops}

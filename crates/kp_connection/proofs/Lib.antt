@@ -1,8 +1,5 @@
 pub mod WireLemmas
 pub mod HearingLemmas
-pub mod NumberLemmas
-pub mod GivenLemmas
-pub mod FaultLemmas
 pub mod WantLemmas
 pub mod HandshakeLemmas
 pub mod TalkLemmas

@@ -14,8 +14,8 @@ use Rattle.kp_frames.specs.Stream as framing
 use Rattle.kp_frames.proofs.StreamLemmas.{first_none}
 use Rattle.kp_connection.specs.declared.fault.ReadFault.{ReadFault}
 use Rattle.kp_connection.specs.declared.fault.ReadFault.TheVariants as read
-use Rattle.kp_connection.specs.declared.fault.HandshakeFault.{HandshakeFault}
-use Rattle.kp_connection.specs.declared.fault.HandshakeFault.TheVariants.{Io, Frame, BadAnswer, Refused, OutOfMemory}
+use Rattle.kp_hello.specs.declared.fault.HandshakeFault.{HandshakeFault}
+use Rattle.kp_hello.specs.declared.fault.HandshakeFault.TheVariants.{Io, Frame, BadAnswer, Refused, OutOfMemory}
 use Rattle.kp_connection.specs.Answers.{Answer, came, gone}
 use Rattle.kp_connection.specs.Answers.Answer.{Came, Read_waits, Read_failed}
 use Rattle.kp_connection.specs.Fault.{of_read}

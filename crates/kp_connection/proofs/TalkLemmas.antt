@@ -11,15 +11,16 @@ use Rattle.kp_frames.specs.declared.fault.FrameFault.{FrameFault}
 use Rattle.kp_frames.specs.declared.fault.FrameFault.TheVariants as frame
 use Rattle.kp_frames.specs.declared.frame.TheConstants.{CONTENT_LIMIT}
 use Rattle.kp_rules.specs.declared.names.Names.{Names}
-use Rattle.kp_connection.specs.declared.fault.HandshakeFault.{HandshakeFault}
-use Rattle.kp_connection.specs.declared.fault.HandshakeFault.TheVariants.{Io, Frame, BadAnswer, Refused, OutOfMemory}
+use Rattle.kp_hello.specs.declared.fault.HandshakeFault.{HandshakeFault}
+use Rattle.kp_hello.specs.declared.fault.HandshakeFault.TheVariants.{Io, Frame, BadAnswer, Refused, OutOfMemory}
 use Rattle.kp_connection.specs.declared.handshake.stage.Stage.{Stage}
 use Rattle.kp_connection.specs.declared.handshake.stage.Stage.TheVariants.{Opening, Metadata, ProducerId}
-use Rattle.kp_connection.specs.declared.hello.Hello.{Hello}
+use Rattle.kp_hello.specs.declared.hello.Hello.{Hello}
 use Rattle.kp_connection.specs.Answers.{Answer, gone}
-use Rattle.kp_connection.specs.Handshake.{Talking, asked, frame_of, Hears, InTurn, Comes, Waits, Concludes, Lacks, GivesFault, Ends, IsWritten, metadata_request, producer_id_request, EndsWith}
+use Rattle.kp_hello.specs.Asking.{frame_of, IsWritten, metadata_request, producer_id_request}
+use Rattle.kp_connection.specs.Handshake.{Talking, asked, Hears, InTurn, Comes, Waits, Concludes, Lacks, GivesFault, Ends, EndsWith}
 use Rattle.kp_frames.specs.Stream as framing
-use Rattle.kp_connection.specs.Hello.{metadata_given, producer_id_given, UnlessMemory}
+use Rattle.kp_hello.specs.Hello.{metadata_given, producer_id_given, UnlessMemory}
 use Rattle.kp_connection.specs.Listening as listening
 use Rattle.kp_connection.specs.Talking.{IsCounted, IsSound, Steps, StepsTo, Learns, Talks}
 use Rattle.futures.specs.declared.task.Poll.{Poll}

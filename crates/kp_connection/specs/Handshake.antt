@@ -1,55 +1,20 @@
 -- The handshake that introduces a producer to its broker: it asks for the topic's metadata, and once that is answered for
 -- a producer id (protocol guide, "Metadata API (Key: 3)" and "InitProducerId API (Key: 22)"; KIP-98).
-use Rattle.std.specs.Prelude.{◌≡◌, ◌⊎◌, ℕ, ◌^◌, ◌-◌, List, [], ◌∷◌, ◌++◌, length, pos, Some, None, Result, Ok, Err}
-use Rattle.std.specs.Global.{Vec}
+use Rattle.std.specs.Prelude.{◌≡◌, ◌⊎◌, ℕ, List, [], ◌∷◌, ◌++◌, length, Result, Ok, Err}
 use Rattle.std.specs.List.{concat}
 use Rattle.kp_frames.specs.declared.fault.FrameFault.TheVariants as frame
-use Rattle.kp_frames.specs.declared.request.Request.{Request}
-use Rattle.kp_frames.specs.declared.request.RequestBody.TheVariants as body
-use Rattle.kp_frames.specs.Request as message
 use Rattle.kp_frames.specs.Stream as framing
-use Rattle.kp_frames.specs.Writing as writing
 use Rattle.kp_rules.specs.declared.names.Names.{Names}
-use Rattle.kp_connection.specs.declared.fault.HandshakeFault.{HandshakeFault}
-use Rattle.kp_connection.specs.declared.fault.HandshakeFault.TheVariants.{Io, Frame, OutOfMemory}
+use Rattle.kp_hello.specs.declared.fault.HandshakeFault.{HandshakeFault}
+use Rattle.kp_hello.specs.declared.fault.HandshakeFault.TheVariants.{Io, Frame, OutOfMemory}
 use Rattle.kp_connection.specs.declared.handshake.stage.Stage.{Stage}
 use Rattle.kp_connection.specs.declared.handshake.stage.Stage.TheVariants.{Opening, Metadata, ProducerId}
-use Rattle.kp_connection.specs.declared.hello.Hello.{Hello}
+use Rattle.kp_hello.specs.declared.hello.Hello.{Hello}
 use Rattle.kp_connection.specs.Answers.{Answer, came, gone}
 use Rattle.kp_connection.specs.Answers.Answer.{Came, Read_waits, Read_failed, Went, Write_waits, Write_failed}
-use Rattle.kp_connection.specs.Hello.{metadata_given, producer_id_given}
+use Rattle.kp_hello.specs.Asking.{frame_of, metadata_request, producer_id_request, Unwritable}
+use Rattle.kp_hello.specs.Hello.{metadata_given, producer_id_given}
 use Rattle.kp_connection.specs.Wire.{Told, Wired, frames, Goes, Stops, IsOneAtMost, Met}
-
--- ---- the requests
-
-unfoldable pub metadata_request : Names → Request
-metadata_request names = record {
-  correlation = pos 0;
-  client = Some names.client;
-  body = body.Metadata (record { topics = Some (names.topic ∷ []) });
-}
-
-unfoldable pub producer_id_request : Names → Request
-producer_id_request names = record {
-  correlation = pos 1;
-  client = Some names.client;
-  body = body.InitProducerId (record { transactional_id = None; transaction_timeout_ms = pos (2 ^ 31 - 1) });
-}
-
-abbrev pub frame_of : Request → List ℕ
-frame_of r = framing.frame.spell (message.spelling r)
-
--- A request that has no frame is refused as it is when it is written.
-abbrev pub Unwritable : Request → HandshakeFault → Type 0
-Unwritable r (Frame frame.OutOfMemory) = ⊥
-Unwritable r (Frame fault) = writing.IsRefused (message.FitsRequest r) (message.spelling r) fault
-Unwritable r fault = ⊥
-
--- What writing it gave: its frame, or why it has none, unless memory was refused.
-abbrev pub IsWritten : Request → Result (Vec ℕ) HandshakeFault → Type 0
-IsWritten r (Ok bytes) = bytes.items ≡ frame_of r
-IsWritten r (Err OutOfMemory) = Unit {0}
-IsWritten r (Err fault) = Unwritable r fault
 
 -- ---- how far it has come
 

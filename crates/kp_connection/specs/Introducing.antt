@@ -4,11 +4,12 @@ use Rattle.kp_frames.specs.declared.frame.TheConstants.{CONTENT_LIMIT}
 use Rattle.kp_frames.specs.Stream as framing
 use Rattle.kp_rules.specs.declared.names.Names.{Names}
 use Rattle.kp_connection.specs.declared.handshake.stage.Stage.TheVariants.{Opening}
-use Rattle.kp_connection.specs.declared.hello.Hello.{Hello}
+use Rattle.kp_hello.specs.declared.hello.Hello.{Hello}
 use Rattle.kp_connection.specs.Answers.{Answer, came, gone}
 use Rattle.kp_connection.specs.Answers.Answer.{Read_waits, Write_waits}
-use Rattle.kp_connection.specs.Handshake.{Talking, Waits, frame_of, metadata_request, producer_id_request}
-use Rattle.kp_connection.specs.Hello.{metadata_given, producer_id_given}
+use Rattle.kp_hello.specs.Asking.{frame_of, metadata_request, producer_id_request}
+use Rattle.kp_connection.specs.Handshake.{Talking, Waits}
+use Rattle.kp_hello.specs.Hello.{metadata_given, producer_id_given}
 use Rattle.kp_connection.specs.Wire.{Told, Met}
 
 -- one of which nothing was said

@@ -4,7 +4,6 @@ pub mod Wire
 pub mod Script
 pub mod ScriptLaws
 pub mod Fault
-pub mod Hello
 pub mod Handshake
 pub mod Listening
 pub mod Talking

@@ -4,10 +4,10 @@ use Rattle.futures.specs.declared.task.Poll.{Poll}
 use Rattle.futures.specs.declared.task.Poll.TheVariants.{Ready, Pending}
 use Rattle.kp_frames.specs.declared.fault.FrameFault.TheVariants.{Short}
 use Rattle.kp_frames.specs.Stream.{first}
-use Rattle.kp_connection.specs.declared.fault.HandshakeFault.{HandshakeFault}
+use Rattle.kp_hello.specs.declared.fault.HandshakeFault.{HandshakeFault}
 use Rattle.kp_connection.specs.declared.handshake.stage.Stage.{Stage}
 use Rattle.kp_connection.specs.declared.handshake.stage.Stage.TheVariants.{Opening, Metadata, ProducerId}
-use Rattle.kp_connection.specs.declared.hello.Hello.{Hello}
+use Rattle.kp_hello.specs.declared.hello.Hello.{Hello}
 use Rattle.kp_connection.specs.Answers.{Answer}
 use Rattle.kp_connection.specs.Handshake.{Talking, Comes, Waits, Concludes, EndsWith}
 use Rattle.kp_connection.specs.Wire.{Told}

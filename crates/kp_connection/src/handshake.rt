@@ -6,18 +6,15 @@ ghost use Rattle.futures.specs.Poll.{IfReady, OnPending};
 ghost use Rattle.kp_connection.specs.Handshake.{Ends, Waits};
 ghost use Rattle.kp_connection.specs.declared.handshake.stage.Stage.TheVariants.{Opening};
 
-mod asking;
-mod judging;
 mod listening;
 mod stage;
 mod talk;
 
-use crate::fault::HandshakeFault;
 use crate::handshake::talk::Talk;
-use crate::hello::Hello;
 use crate::stream::Stream;
 use futures::Future;
 use futures::task::{Context, Poll};
+use kp_hello::{HandshakeFault, Hello};
 use kp_rules::Names;
 use std::alloc::Global;
 use std::marker::Model;

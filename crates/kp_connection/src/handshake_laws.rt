@@ -2,8 +2,8 @@
 
 ghost use Rattle.std.specs.Prelude.{Ok, Err};
 ghost use Rattle.kp_rules.specs.declared.names.Names.{Names};
-ghost use Rattle.kp_connection.specs.declared.fault.HandshakeFault.{HandshakeFault};
-ghost use Rattle.kp_connection.specs.declared.hello.Hello.{Hello};
+ghost use Rattle.kp_hello.specs.declared.fault.HandshakeFault.{HandshakeFault};
+ghost use Rattle.kp_hello.specs.declared.hello.Hello.{Hello};
 ghost use Rattle.kp_connection.specs.Handshake.{Talking, Waits, Ends};
 ghost use Rattle.kp_connection.specs.Introducing.{fresh, Waited, Speaks, Introduces, MetAWait};
 

@@ -5,15 +5,13 @@
 mod fault;
 mod handshake;
 pub mod handshake_laws;
-mod hello;
 mod kept;
 pub mod laws;
 pub mod script;
 mod stream;
 mod wire;
 
-pub use fault::{HandshakeFault, ReadFault};
+pub use fault::ReadFault;
 pub use handshake::Handshake;
-pub use hello::{Hello, PARTITION_LIMIT};
 pub use stream::{Plain, Stream};
 pub use wire::Wire;

@@ -1,8 +1,8 @@
 //! How connections end.
 
 use kp_broker::{BrokerFault, Served};
-use kp_connection::HandshakeFault;
 use kp_frames::FrameFault;
+use kp_hello::HandshakeFault;
 use kp_wire::WireFault;
 
 /// How a connection ended.

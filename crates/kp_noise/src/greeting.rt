@@ -3,8 +3,9 @@
 use crate::ending::Ending;
 use futures::task::Poll;
 use futures::test::MockTask;
+use kp_connection::Handshake;
 use kp_connection::script::Script;
-use kp_connection::{Handshake, HandshakeFault, Hello};
+use kp_hello::{HandshakeFault, Hello};
 use kp_rules::Names;
 use kp_wire::Text;
 use std::alloc::{AllocError, Global};

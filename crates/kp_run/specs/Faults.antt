@@ -7,7 +7,7 @@ use Rattle.kp_client.specs.declared.fault.OpenFault.{OpenFault}
 use Rattle.kp_client.specs.declared.fault.OpenFault.TheVariants as opening
 use Rattle.kp_client.specs.declared.fault.ServiceFault.{ServiceFault}
 use Rattle.kp_client.specs.declared.fault.ServiceFault.TheVariants as service
-use Rattle.kp_connection.specs.declared.fault.HandshakeFault.TheVariants.{BadAnswer}
+use Rattle.kp_hello.specs.declared.fault.HandshakeFault.TheVariants.{BadAnswer}
 use Rattle.kp_run.specs.declared.fault.RunFault.{RunFault}
 use Rattle.kp_run.specs.declared.fault.RunFault.TheVariants.{Topic, Plan, Config, Network, Handshake, OutOfMemory}
 

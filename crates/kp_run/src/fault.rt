@@ -8,7 +8,7 @@ ghost use Rattle.kp_run.specs.Faults.{of_kind, of_opening, of_plan, of_service};
 use kp_accum::ConfigFault;
 use kp_broker::PlanFault;
 use kp_client::{OpenFault, ServiceFault};
-use kp_connection::HandshakeFault;
+use kp_hello::HandshakeFault;
 use kp_log::LogFault;
 use std::alloc::{AllocError, AllocFailed};
 use std::io;

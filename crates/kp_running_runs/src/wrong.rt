@@ -1,7 +1,7 @@
 //! What goes wrong in a run.
 
 use kp_broker::BrokerFault;
-use kp_connection::HandshakeFault;
+use kp_hello::HandshakeFault;
 use kp_lanes::OpenFault;
 use std::alloc::{AllocError, AllocFailed};
 use std::io;

@@ -6,11 +6,12 @@ ghost use Rattle.futures.specs.Poll.{OnPending};
 ghost use Rattle.kp_frames.specs.Stream.{first};
 ghost use Rattle.kp_connection.specs.Listening.{Listens};
 
-use crate::fault::{HandshakeFault, ReadFault};
+use crate::fault::ReadFault;
 use crate::stream::Stream;
 use crate::wire::Wire;
 use futures::task::{Context, Poll};
 use kp_frames::FrameFault;
+use kp_hello::HandshakeFault;
 
 /// Writes what is kept, and reads the content of the next frame, and not a byte behind it.
 pub(crate) fn poll_answer<S: Stream>(

@@ -5,15 +5,14 @@ ghost use Rattle.futures.specs.Task.{IsArmed, Keeps};
 ghost use Rattle.futures.specs.Poll.{OnPending};
 ghost use Rattle.kp_connection.specs.Talking.{IsSound, Opens, Learns, Talks};
 
-use crate::fault::HandshakeFault;
-use crate::handshake::asking::{write_metadata, write_producer_id};
-use crate::handshake::judging::{read_metadata, read_producer_id};
 use crate::handshake::listening::poll_answer;
 use crate::handshake::stage::Stage;
-use crate::hello::Hello;
 use crate::stream::Stream;
 use crate::wire::Wire;
 use futures::task::{Context, Poll};
+use kp_hello::{
+    HandshakeFault, Hello, read_metadata, read_producer_id, write_metadata, write_producer_id,
+};
 use kp_rules::Names;
 use std::alloc::Global;
 use std::marker::Model;

@@ -1,6 +1,6 @@
 use Rattle.std.proofs.Common.{◌≡◌, ◌∙◌, ap, subst, sym}
 use Rattle.std.specs.Prelude.{All, IfSome, length, ℕ}
-use Rattle.kp_connection.specs.declared.hello.Hello.{Hello}
+use Rattle.kp_hello.specs.declared.hello.Hello.{Hello}
 use Rattle.kp_lanes.specs.Closer.{closer_gate}
 use Rattle.kp_lanes.specs.Intake.{intake_gate, lanes_of}
 use Rattle.kp_lanes.specs.Sender.{IsFresh, IsSenderOf}

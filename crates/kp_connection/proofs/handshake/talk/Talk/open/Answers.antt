@@ -1,6 +1,7 @@
 use Rattle.std.proofs.Common.{◌≡◌, Err, ap, subst, ◌∙◌}
 use Rattle.kp_rules.specs.declared.names.Names.{Names}
-use Rattle.kp_connection.specs.Handshake.{Talking, IsWritten, metadata_request, frame_of}
+use Rattle.kp_hello.specs.Asking.{IsWritten, metadata_request, frame_of}
+use Rattle.kp_connection.specs.Handshake.{Talking}
 use Rattle.kp_connection.specs.Talking.{Opens}
 use Rattle.kp_connection.specs.Wire.{Wired}
 use Rattle.kp_connection.proofs.TalkLemmas.{not_written, opened, given_back}

@@ -1,11 +1,12 @@
 use Rattle.std.proofs.Common.{◌≡◌, ℕ, List, Ok, Err, ap, subst, sym, ◌∙◌}
 use Rattle.kp_rules.specs.declared.names.Names.{Names}
 use Rattle.kp_connection.specs.declared.handshake.stage.Stage.{Stage}
-use Rattle.kp_connection.specs.Handshake.{Talking, IsWritten, GivesFault, producer_id_request, frame_of}
-use Rattle.kp_connection.specs.Hello.{metadata_given, UnlessMemory}
+use Rattle.kp_hello.specs.Asking.{IsWritten, producer_id_request, frame_of}
+use Rattle.kp_connection.specs.Handshake.{Talking, GivesFault}
+use Rattle.kp_hello.specs.Hello.{metadata_given, UnlessMemory}
 use Rattle.kp_connection.specs.Listening.{Listens}
 use Rattle.kp_connection.specs.Wire.{Wired}
-use Rattle.kp_connection.proofs.FaultLemmas.{metadata_no_io}
+use Rattle.kp_hello.proofs.FaultLemmas.{metadata_no_io}
 use Rattle.kp_connection.proofs.TalkLemmas.{listens_not, judged_not, half_written, learned, learns_back, heard_by}
 use Rattle.kp_connection.proofs.handshake.talk.Talk.poll_partitions.Goals as goal
 

@@ -1,10 +1,10 @@
 use Rattle.std.proofs.Common.{◌≡◌, ℕ, List, Ok, Err, ap, subst, sym, refl}
 use Rattle.kp_connection.specs.declared.handshake.stage.Stage.{Stage}
 use Rattle.kp_connection.specs.Handshake.{Talking, GivesFault}
-use Rattle.kp_connection.specs.Hello.{producer_id_given, UnlessMemory}
+use Rattle.kp_hello.specs.Hello.{producer_id_given, UnlessMemory}
 use Rattle.kp_connection.specs.Listening.{Listens}
 use Rattle.kp_connection.specs.Wire.{Wired}
-use Rattle.kp_connection.proofs.FaultLemmas.{producer_id_no_io}
+use Rattle.kp_hello.proofs.FaultLemmas.{producer_id_no_io}
 use Rattle.kp_connection.proofs.TalkLemmas.{listens_not, judged_not, concluded, talks_back, heard_by}
 use Rattle.kp_connection.proofs.handshake.talk.Talk.poll_producer_id.Goals as goal
 

@@ -3,13 +3,13 @@ use Rattle.std.proofs.Common.{◌≡◌, ℕ, zero, suc, ◌+◌, ◌<◌, ◌�
 use Rattle.std.specs.Prelude.{count_by, ◌==◌, ◌&&◌, nat_le}
 use Rattle.std.proofs.Math.ListN.{replicate, set, length-set}
 use Rattle.std.proofs.lemmas.List.{get_or-set_same, get_or-set_other, take_all}
-use Rattle.kp_connection.specs.declared.hello.TheConstants.{PARTITION_LIMIT}
+use Rattle.kp_hello.specs.declared.hello.TheConstants.{PARTITION_LIMIT}
 use Rattle.std.specs.Bool.{Decides}
 use Rattle.std.proofs.lemmas.Bool.{cases_lt, cases_eq, le-leb}
 use Rattle.std.proofs.lemmas.Bool.Decides.{Decides-int_eq, Decides-eqb, Decides-below_and}
 use Rattle.std.proofs.lemmas.List.Sums.{sum_by-cons, sum_by_more, sum_by_more_le}
 use Rattle.kp_frames.specs.declared.metadata.PartitionMetadata.{PartitionMetadata}
-use Rattle.kp_connection.specs.Hello.{has_number, each_once, are_numbered}
+use Rattle.kp_hello.specs.Hello.{has_number, each_once, are_numbered}
 
 -- ---- one partition
 
@@ -20,7 +20,7 @@ pos_same a b h = cc
 abbrev pub hit : ℕ → PartitionMetadata → ℕ
 hit k p = cond (has_number k p) 1 0
 
-hit_same : (k : ℕ) (p : PartitionMetadata) → p.partition ≡ pos k → hit k p ≡ 1
+pub hit_same : (k : ℕ) (p : PartitionMetadata) → p.partition ≡ pos k → hit k p ≡ 1
 hit_same k p e = ap (λ (b : Bool). cond {A = ℕ} b 1 0) ((Decides-int_eq p.partition (pos k)).1 e)
 
 hit_other : (k : ℕ) (p : PartitionMetadata) → (p.partition ≡ pos k → ⊥) → hit k p ≡ 0

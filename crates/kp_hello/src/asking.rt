@@ -1,18 +1,18 @@
-//! The two requests of a handshake.
+//! The two requests: for what a broker knows of the topic, and for a producer id.
 
 ghost use Rattle.std.specs.Prelude.{◌≡◌, [], ◌∷◌, IfOk, Some};
-ghost use Rattle.kp_connection.specs.Handshake.{metadata_request, producer_id_request, IsWritten};
+ghost use Rattle.kp_hello.specs.Asking.{metadata_request, producer_id_request, IsWritten};
 
 use crate::fault::HandshakeFault;
-use crate::handshake::judging::{METADATA_CORRELATION, PRODUCER_ID_CORRELATION};
+use crate::judging::{METADATA_CORRELATION, PRODUCER_ID_CORRELATION};
 use kp_frames::{InitProducerIdRequest, MetadataRequest, Request, RequestBody, write_request};
 use kp_rules::Names;
 use kp_wire::{Seq, Text};
 use std::alloc::{AllocError, Global};
 
 /// The frame of the request for what the broker knows of the topic.
-#[tactic(auto, unfolding(crate::specs::Handshake::metadata_request))]
-pub(crate) fn write_metadata(alloc: Global, names: &Names) -> Result<Vec<u8>, HandshakeFault>
+#[tactic(auto, unfolding(crate::specs::Asking::metadata_request))]
+pub fn write_metadata(alloc: Global, names: &Names) -> Result<Vec<u8>, HandshakeFault>
     ensures { IsWritten (metadata_request names.now) result }
 {
     let topics = only_topic(alloc, names)?;
@@ -35,8 +35,8 @@ fn only_topic(alloc: Global, names: &Names) -> Result<Seq<Text>, AllocError>
 }
 
 /// The frame of the request for a producer id.
-#[tactic(auto, unfolding(crate::specs::Handshake::producer_id_request))]
-pub(crate) fn write_producer_id(alloc: Global, names: &Names) -> Result<Vec<u8>, HandshakeFault>
+#[tactic(auto, unfolding(crate::specs::Asking::producer_id_request))]
+pub fn write_producer_id(alloc: Global, names: &Names) -> Result<Vec<u8>, HandshakeFault>
     ensures { IsWritten (producer_id_request names.now) result }
 {
     write_asked(

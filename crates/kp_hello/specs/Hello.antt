@@ -13,10 +13,10 @@ use Rattle.kp_frames.specs.declared.response.ResponseBody.{ResponseBody}
 use Rattle.kp_frames.specs.declared.response.ResponseBody.TheVariants.{Produce, Metadata, InitProducerId}
 use Rattle.kp_frames.specs.declared.fault.FrameFault.{FrameFault}
 use Rattle.kp_frames.specs.Response.{response_at}
-use Rattle.kp_connection.specs.declared.fault.HandshakeFault.{HandshakeFault}
-use Rattle.kp_connection.specs.declared.fault.HandshakeFault.TheVariants.{BadAnswer, Refused, OutOfMemory}
-use Rattle.kp_connection.specs.declared.hello.TheConstants.{PARTITION_LIMIT}
-use Rattle.kp_connection.specs.Fault.{of_frame}
+use Rattle.kp_hello.specs.declared.fault.HandshakeFault.{HandshakeFault}
+use Rattle.kp_hello.specs.declared.fault.HandshakeFault.TheVariants.{BadAnswer, Refused, OutOfMemory}
+use Rattle.kp_hello.specs.declared.hello.TheConstants.{PARTITION_LIMIT}
+use Rattle.kp_hello.specs.Fault.{of_frame}
 
 -- ---- the partitions of a topic
 
@@ -44,14 +44,20 @@ abbrev pub only_topic : List ℕ → List TopicMetadata → Result TopicMetadata
 only_topic name (topic ∷ []) = if bytes_eq topic.name name then Ok topic else Err BadAnswer
 only_topic name topics = Err BadAnswer
 
--- how many partitions the topic has, or the first fault
-unfoldable pub metadata_judged : List ℕ → Response → Result ℕ HandshakeFault
-metadata_judged name r = do
+-- the topic's partitions, or the first fault
+unfoldable pub partitions_judged : List ℕ → Response → Result (List PartitionMetadata) HandshakeFault
+partitions_judged name r = do
   _ ← refuse (not (int_eq r.correlation (pos 0))) BadAnswer
   topic ← only_topic name (topics_of r.body)
   _ ← refuse (not (int_eq topic.error_code (pos 0))) (Refused topic.error_code)
   _ ← refuse (not (are_numbered topic.partitions)) BadAnswer
-  Ok (length topic.partitions)
+  Ok topic.partitions
+
+-- how many partitions it has
+unfoldable pub metadata_judged : List ℕ → Response → Result ℕ HandshakeFault
+metadata_judged name r = do
+  partitions ← partitions_judged name r
+  Ok (length partitions)
 
 -- ---- the answer to InitProducerId, whose correlation id is 1
 

@@ -1,7 +1,7 @@
 //! What a broker's answers give.
 
-ghost use Rattle.std.specs.Prelude.{◌≡◌, ◌<◌, ◌≤◌, ◌^◌, ℕ, pos, IfOk, IfSome, IfNone};
-ghost use Rattle.kp_connection.specs.Hello.{are_numbered, metadata_judged, producer_id_judged, metadata_given, producer_id_given, UnlessMemory, only_topic, topics_of};
+ghost use Rattle.std.specs.Prelude.{◌≡◌, ◌<◌, ◌≤◌, ◌^◌, ℕ, true, pos, IfOk, IfSome, IfNone};
+ghost use Rattle.kp_hello.specs.Hello.{are_numbered, partitions_judged, metadata_judged, producer_id_judged, metadata_given, producer_id_given, UnlessMemory, only_topic, topics_of};
 ghost use Rattle.kp_wire.specs.Reading.{IsRead};
 
 use crate::fault::HandshakeFault;
@@ -14,17 +14,13 @@ use kp_wire::Text;
 use std::alloc::Global;
 
 /// The correlation id of the Metadata request.
-pub(crate) const METADATA_CORRELATION: i32 = 0;
+pub const METADATA_CORRELATION: i32 = 0;
 
 /// The correlation id of the InitProducerId request.
-pub(crate) const PRODUCER_ID_CORRELATION: i32 = 1;
+pub const PRODUCER_ID_CORRELATION: i32 = 1;
 
 /// How many partitions the topic has, by the content of the answer to Metadata.
-pub(crate) fn read_metadata(
-    alloc: Global,
-    topic: &Text,
-    content: &[u8],
-) -> Result<u32, HandshakeFault>
+pub fn read_metadata(alloc: Global, topic: &Text, content: &[u8]) -> Result<u32, HandshakeFault>
     ensures given { UnlessMemory result (metadata_given topic.now content.now) }
     ensures some { IfOk result (λ n. 1 ≤ n) }
     ensures limit { IfOk result (λ n. n ≤ 1024) }
@@ -34,7 +30,7 @@ pub(crate) fn read_metadata(
 }
 
 /// The producer id, by the content of the answer to InitProducerId.
-pub(crate) fn read_producer_id(alloc: Global, content: &[u8]) -> Result<u64, HandshakeFault>
+pub fn read_producer_id(alloc: Global, content: &[u8]) -> Result<u64, HandshakeFault>
     ensures given { UnlessMemory result (producer_id_given content.now) }
     ensures known { IfOk result (λ id. id < 2 ^ 63) }
 {
@@ -49,6 +45,19 @@ fn judge_metadata(topic: &Text, response: &Response) -> Result<u32, HandshakeFau
     ensures some { IfOk result (λ n. 1 ≤ n) }
     ensures limit { IfOk result (λ n. n ≤ 1024) }
 {
+    let partitions = judge_partitions(topic, response)?;
+    Ok(partitions.len() as u32)
+}
+
+/// The topic's partitions, by the answer to Metadata: from 1 to `PARTITION_LIMIT`, with the numbers from 0 on in any order.
+#[tactic(auto, unfolding(crate::specs::Hello::partitions_judged))]
+pub(crate) fn judge_partitions<'a>(
+    topic: &Text,
+    response: &'a Response,
+) -> Result<&'a [PartitionMetadata], HandshakeFault>
+    ensures judged { IsRead (λ partitions. partitions.now) result (partitions_judged topic.now response.now) }
+    ensures numbered { IfOk result (λ partitions. are_numbered partitions.now ≡ true) }
+{
     if response.correlation != METADATA_CORRELATION {
         return Err(HandshakeFault::BadAnswer);
     }
@@ -60,7 +69,7 @@ fn judge_metadata(topic: &Text, response: &Response) -> Result<u32, HandshakeFau
     if !are_numbered(partitions) {
         return Err(HandshakeFault::BadAnswer);
     }
-    Ok(partitions.len() as u32)
+    Ok(partitions)
 }
 
 /// The one topic of an answer to Metadata, which has this name.
@@ -98,7 +107,7 @@ fn are_numbered(partitions: &[PartitionMetadata]) -> bool
 }
 
 /// The partition's number, where it is below how many there are.
-fn place_of(partition: &PartitionMetadata, count: usize) -> Option<usize>
+pub(crate) fn place_of(partition: &PartitionMetadata, count: usize) -> Option<usize>
     ensures some { IfSome result (λ place. (partition.now.partition ≡ pos place) × (place < count)) }
     ensures none { IfNone result ((k : ℕ) → k < count → partition.now.partition ≡ pos k → ⊥) }
 {

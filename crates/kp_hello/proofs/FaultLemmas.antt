@@ -14,10 +14,10 @@ use Rattle.kp_frames.specs.declared.response.Response.{Response}
 use Rattle.kp_frames.specs.declared.response.ResponseBody.{ResponseBody}
 use Rattle.kp_frames.specs.declared.response.ResponseBody.TheVariants.{Produce, Metadata, InitProducerId}
 use Rattle.kp_frames.specs.Response.{response_at}
-use Rattle.kp_connection.specs.declared.fault.HandshakeFault.{HandshakeFault}
-use Rattle.kp_connection.specs.declared.fault.HandshakeFault.TheVariants.{Io, BadAnswer, Refused}
-use Rattle.kp_connection.specs.Fault.{of_frame}
-use Rattle.kp_connection.specs.Hello.{in_handshake, are_numbered, only_topic, topics_of, given_id, metadata_judged, producer_id_judged, metadata_given, producer_id_given}
+use Rattle.kp_hello.specs.declared.fault.HandshakeFault.{HandshakeFault}
+use Rattle.kp_hello.specs.declared.fault.HandshakeFault.TheVariants.{Io, BadAnswer, Refused}
+use Rattle.kp_hello.specs.Fault.{of_frame}
+use Rattle.kp_hello.specs.Hello.{in_handshake, are_numbered, only_topic, topics_of, given_id, partitions_judged, metadata_judged, producer_id_judged, metadata_given, producer_id_given}
 
 -- what is known of the fault of one step, or else of the next
 either : {A B : Type 0} (P : HandshakeFault → Type 0) (r : Result A HandshakeFault) (f : A → Result B HandshakeFault) (e : HandshakeFault) → (r ≡ Err e → P e) → ((x : A) → f x ≡ Err e → P e) → (r >>= f) ≡ Err e → P e
@@ -65,12 +65,16 @@ id_not (Produce r) e h = subst NotIo (error_is {A = InitProducerIdResponse} BadA
 id_not (Metadata r) e h = subst NotIo (error_is {A = InitProducerIdResponse} BadAnswer e h) bad_not
 id_not (InitProducerId r) e h = absurd (no_fault e r (sym h))
 
-metadata_not : (topic : List ℕ) (r : Response) (e : HandshakeFault) → metadata_judged topic r ≡ Err e → NotIo e
-unfolding metadata_judged
-metadata_not topic r e h =
+partitions_not : (topic : List ℕ) (r : Response) (e : HandshakeFault) → partitions_judged topic r ≡ Err e → NotIo e
+unfolding partitions_judged
+partitions_not topic r e h =
     either NotIo _ _ e (refused_so (not (int_eq r.correlation (pos 0))) BadAnswer e bad_not) (λ _. either NotIo _ _ e (topic_not topic (topics_of r.body) e) (λ t.
     either NotIo _ _ e (refused_so (not (int_eq t.error_code (pos 0))) (Refused t.error_code) e (refused_not t.error_code)) (λ _.
-    either NotIo _ _ e (refused_so (not (are_numbered t.partitions)) BadAnswer e bad_not) (λ _ h'. absurd (no_fault e (length t.partitions) (sym h')))))) h
+    either NotIo _ _ e (refused_so (not (are_numbered t.partitions)) BadAnswer e bad_not) (λ _ h'. absurd (no_fault e t.partitions (sym h')))))) h
+
+metadata_not : (topic : List ℕ) (r : Response) (e : HandshakeFault) → metadata_judged topic r ≡ Err e → NotIo e
+unfolding metadata_judged
+metadata_not topic r e h = either NotIo _ _ e (partitions_not topic r e) (λ ps h'. absurd (no_fault e (length ps) (sym h'))) h
 
 producer_id_not : (r : Response) (e : HandshakeFault) → producer_id_judged r ≡ Err e → NotIo e
 unfolding producer_id_judged

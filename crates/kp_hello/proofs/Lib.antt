@@ -1,0 +1,4 @@
+pub mod NumberLemmas
+pub mod GivenLemmas
+pub mod FaultLemmas
+mod ChartLemmas

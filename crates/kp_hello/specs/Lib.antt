@@ -1,0 +1,4 @@
+pub mod Fault
+pub mod Hello
+pub mod Asking
+pub mod Chart
