@@ -23,7 +23,7 @@ use Rattle.kp_headline.specs.Laws.{AfterAnyMoves, calls_in}
 use Rattle.kp_headline.specs.Moves.{Move, Accepting, Calling, Meeting, Drawing, Others, IsMove, AreMoves, Throughout, after, led}
 use Rattle.kp_headline.specs.Offering.{AllOffered, MayComeFirst, accepting, having_accepted}
 use Rattle.kp_headline.specs.Outside.{State, new_state}
-use Rattle.kp_headline.proofs.OfferingLemmas.{led_further, may_come_first, throughout_further}
+use Rattle.kp_headline.proofs.FedLemmas.{of_fed}
 use Rattle.kp_lanes.specs.Intake.{intake_limits, lanes_of}
 use Rattle.kp_lanes.specs.Sender.{all_entered, all_accepted, finished_number}
 use Rattle.kp_lanes.specs.Lane.{LaneId}
@@ -32,7 +32,7 @@ use Rattle.kp_lanes.specs.declared.intake.Intake.{Intake}
 use Rattle.kp_lanes.specs.declared.limits.Limits.{Limits}
 use Rattle.kp_lanes.specs.declared.entry.Entry.{Entry}
 use Rattle.kp_lanes.specs.declared.sender.Finished.{Finished}
-use Rattle.kp_polls.specs.Around.{Around, AssumedAround}
+use Rattle.kp_headline.specs.Around.{Around, AssumedAround}
 use Rattle.kp_polls.specs.Polling.{HaveAccepted, Polling}
 use Rattle.kp_polls.specs.Polling as polling
 use Rattle.kp_polls.specs.Settled.{AreSettled, HadAccepted}
@@ -53,28 +53,6 @@ none_in_turn a (Calling c t ∷ ms) none = absurd cc
 none_in_turn a (Meeting k x answer log ∷ ms) none = (tt, none_in_turn (after (Meeting k x answer log) a) ms none)
 none_in_turn a (Drawing k ids reply ∷ ms) none = (tt, none_in_turn (after (Drawing k ids reply) a) ms none)
 none_in_turn a (Others p records ∷ ms) none = (tt, none_in_turn (after (Others p records) a) ms none)
-
--- Moves by which the core is fed in turn, behind those by which all was accepted.
-module _ (o : Opening) (accepted : List (List Item)) (ms : List Move) (senders : length accepted ≡ o.senders) (offered : AllOffered o 0 accepted)
-    (moves : AreMoves (having_accepted o accepted) ms) (turn : Throughout IsInTurn (having_accepted o accepted) ms) (t : AssumedAround (having_accepted o accepted) ms) where
-  come : MayComeFirst o accepted
-  come = may_come_first o accepted senders offered
-
-  abbrev whole : List Move
-  whole = accepting accepted ++ ms
-
-  joined : (Holds : State → Move → Type 0) → Throughout Holds (new_state o) (accepting accepted) → Throughout Holds (having_accepted o accepted) ms → Throughout Holds (new_state o) whole
-  joined Holds a b = throughout_further Holds (new_state o) (accepting accepted) ms a (subst (λ (s : State). Throughout Holds s ms) (sym come.lead) b)
-
-  pub of_fed : (Holds : State → Type 0) → MayBegin o → AfterAnyMoves o Holds → Holds (led (having_accepted o accepted) ms)
-  of_fed Holds may law =
-      subst Holds (led_further (new_state o) (accepting accepted) ms ∙ ap (λ (s : State). led s ms) come.lead)
-      (law whole may (joined IsMove come.moves moves) (record {
-        honest = joined IsHonest come.assumed.honest t.honest;
-        not_made_up = joined IsNotMadeUp come.assumed.not_made_up t.not_made_up;
-        in_turn = joined IsInTurn come.assumed.in_turn turn;
-        ids_once = joined KeepsIdsApart come.assumed.ids_once t.ids_once;
-      }))
 
 -- ---- a service that is over
 

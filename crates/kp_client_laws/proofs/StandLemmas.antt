@@ -17,7 +17,7 @@ use Rattle.kp_lanes.specs.Sender.{all_accepted, finished_number}
 use Rattle.kp_lanes.specs.declared.limits.Limits.{Limits}
 use Rattle.kp_lanes.specs.declared.sender.Finished.{Finished}
 use Rattle.kp_log.proofs.PlaceLemmas.{In, In-cons, In-filter, In-from_contains, In-head, In-nil, In-tail, contains_from_In, cut_cases}
-use Rattle.kp_polls.specs.Around.{accepted_in}
+use Rattle.kp_headline.specs.Around.{accepted_in}
 use Rattle.kp_rules.specs.Calls.{Call, packets_by}
 use Rattle.kp_rules.specs.Calls as call
 use Rattle.kp_rules.specs.Records.{Core, Told}

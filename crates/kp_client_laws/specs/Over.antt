@@ -13,7 +13,7 @@ use Rattle.kp_headline.specs.Offering.{having_accepted}
 use Rattle.kp_headline.specs.Outside.{State}
 use Rattle.kp_lanes.specs.Sender.{all_accepted, finished_number}
 use Rattle.kp_lanes.specs.declared.sender.Finished.{Finished}
-use Rattle.kp_polls.specs.Around.{Around, AssumedAround}
+use Rattle.kp_headline.specs.Around.{Around, AssumedAround}
 use Rattle.kp_world.specs.World.{Opening}
 
 -- what the service's core was made of

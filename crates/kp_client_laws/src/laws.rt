@@ -10,7 +10,7 @@ ghost use Rattle.kp_client_laws.specs.Told.{AreReported, DeliveredStand};
 ghost use Rattle.kp_headline.specs.Moves.{Move};
 ghost use Rattle.kp_headline.specs.Outside.{known};
 ghost use Rattle.kp_lanes.specs.declared.sender.Finished.{Finished};
-ghost use Rattle.kp_polls.specs.Around.{Around};
+ghost use Rattle.kp_headline.specs.Around.{Around};
 ghost use Rattle.kp_world.specs.Accounts.{AreInOrder, IsToldOnce};
 ghost use Rattle.kp_world.specs.Handed.{AreItems};
 ghost use Rattle.kp_world.specs.LogLaws.{IsPrefix};

@@ -14,3 +14,6 @@ pub mod LawLemmas
 pub mod ReportLemmas
 pub mod LifeLemmas
 pub mod OfferingLemmas
+pub mod FeedLemmas
+pub mod InTurnLemmas
+pub mod FedLemmas

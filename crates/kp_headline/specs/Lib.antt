@@ -5,3 +5,4 @@ pub mod Matching
 pub mod Exhibits
 pub mod Laws
 pub mod Offering
+pub mod Around

@@ -5,6 +5,7 @@ use Rattle.kp_headline.specs.Assumptions.{IsHonest, IsNotMadeUp, IsInTurn, Keeps
 use Rattle.kp_headline.specs.Moves.{Move, Calling, IsMove, AreMoves, Throughout, after, led}
 use Rattle.kp_headline.specs.Offering.{accepting, having_accepted}
 use Rattle.kp_headline.specs.Outside.{State, known, new_state}
+use Rattle.kp_headline.proofs.FedLemmas.{come, whole_assumed, whole_moves}
 use Rattle.kp_headline.proofs.LawLemmas.{flushed_all, grown}
 use Rattle.kp_headline.proofs.OfferingLemmas.{led_further}
 use Rattle.kp_rules.specs.Calls.{Flush}
@@ -16,7 +17,7 @@ use Rattle.kp_world.specs.Run.{MayBegin}
 use Rattle.kp_world.specs.World.{Opening}
 use Rattle.kp_polls.specs.Around.{AroundAnyPolls}
 use Rattle.kp_polls.specs.Laws.{AreToldByAnyFlush, GrowsAllAlong}
-use Rattle.kp_polls.proofs.AroundLemmas.{come, whole, whole_assumed, whole_moves}
+use Rattle.kp_polls.proofs.AroundLemmas.{feed_in_turn}
 
 first_of : (Holds : State → Move → Type 0) (a : State) (ms ns : List Move) → Throughout Holds a (ms ++ ns) → Throughout Holds a ms
 first_of Holds a [] ns h = tt
@@ -54,12 +55,13 @@ along : {S : Type 0} (answers : Told S) (o : Opening) (Two : State → List Move
 along answers o Two law calls x accepted ms p h r t before later made =
     let a : State = having_accepted o accepted in
     let front : List Move = accepting accepted ++ before in
-    let same : whole answers o calls x p accepted h ms r ≡ front ++ later =
+    let turn = feed_in_turn answers o calls x accepted ms p h r in
+    let same : accepting accepted ++ ms ≡ front ++ later =
     ap (λ (ns : List Move). accepting accepted ++ ns) made ∙ sym (append_assoc (accepting accepted) before later) in
-    let moves : AreMoves (new_state o) (front ++ later) = subst (AreMoves (new_state o)) same (whole_moves answers o calls x p accepted h ms r) in
-    let assumed : Assumed (new_state o) (front ++ later) = subst (Assumed (new_state o)) same (whole_assumed answers o calls x p accepted h ms r t) in
+    let moves : AreMoves (new_state o) (front ++ later) = subst (AreMoves (new_state o)) same (whole_moves o accepted ms h.senders h.offered r.moves turn t) in
+    let assumed : Assumed (new_state o) (front ++ later) = subst (Assumed (new_state o)) same (whole_assumed o accepted ms h.senders h.offered r.moves turn t) in
     let there : led (new_state o) front ≡ led a before =
-    led_further (new_state o) (accepting accepted) before ∙ ap (λ (s : State). led s before) (come answers o calls x p accepted h ms r).lead in
+    led_further (new_state o) (accepting accepted) before ∙ ap (λ (s : State). led s before) (come o accepted ms h.senders h.offered r.moves turn t).lead in
     let behind : led (led a before) later ≡ led a ms = sym (led_further a before later) ∙ ap (led a) (sym made) in
     let two = law front p.may_begin (first_of IsMove (new_state o) front later moves) (all_first (new_state o) front later assumed) later
     (rest_of IsMove (new_state o) front later moves) (all_rest (new_state o) front later assumed) in

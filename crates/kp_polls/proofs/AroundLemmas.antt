@@ -18,7 +18,7 @@ use Rattle.kp_headline.specs.Moves.{Move, Calling, IsMove, AreMoves, Throughout,
 use Rattle.kp_headline.specs.Offering.{AllOffered, AreOffered, MayComeFirst, accepting, having_accepted}
 use Rattle.kp_headline.specs.Outside.{State, new_state}
 use Rattle.kp_headline.proofs.LifeLemmas.{leads_to}
-use Rattle.kp_headline.proofs.OfferingLemmas.{led_further, may_come_first, throughout_further}
+use Rattle.kp_headline.proofs.FedLemmas.{Alone, all_alone, of_fed}
 use Rattle.kp_lanes.specs.Entries.{items_of}
 use Rattle.kp_lanes.specs.Intake.{lanes_of, passed_lists, passed_of}
 use Rattle.kp_lanes.specs.declared.intake.Intake.{Intake}
@@ -29,12 +29,13 @@ use Rattle.kp_rules.specs.Records.{Core}
 use Rattle.kp_rules.specs.Reports.{reports_to}
 use Rattle.kp_rules.proofs.ListLemmas.{all_front}
 use Rattle.kp_world.specs.World.{Opening}
-use Rattle.kp_polls.specs.Around.{AfterAnyPolls, Around, AroundAnyPolls, AssumedAround, accepted_in}
+use Rattle.kp_headline.specs.Around.{Around, AssumedAround, accepted_in}
+use Rattle.kp_polls.specs.Around.{AfterAnyPolls, AroundAnyPolls}
 use Rattle.kp_polls.specs.Laws.{ReportsAreOfTold}
 use Rattle.kp_polls.specs.Polling.{HaveAccepted, Polling, core_of}
 use Rattle.kp_polls.proofs.FeedingLemmas.{FeedsSide, IsSized, polls_feed, none_passed, sized_then}
-use Rattle.kp_polls.proofs.InTurnLemmas.{in_turn}
-use Rattle.kp_polls.proofs.OfferLemmas.{Feeds, Theirs, offers}
+use Rattle.kp_headline.proofs.InTurnLemmas.{in_turn}
+use Rattle.kp_headline.proofs.FeedLemmas.{Feeds, Theirs, offers}
 
 -- ---- what was accepted is its sender's
 
@@ -124,9 +125,6 @@ module _ {S : Type 0} (answers : Told S) (o : Opening) (calls : List Call) (x : 
         (option_to_list (side_of x k).held ++ t.later, subst (λ (xs : List Item). Feeds xs (offers k calls) (option_to_list (side_of x k).held ++ t.later)) all (f.feeds t.later))
 
     module _ (ms : List Move) (r : Around o accepted calls ms) where
-      begin : State
-      begin = having_accepted o accepted
-
       pub fed_in_turn : Throughout IsInTurn (having_accepted o accepted) ms
       fed_in_turn = in_turn (having_accepted o accepted) ms r.all_before (record {
         same = length-replicate o.senders 0 ∙ sym h.senders;
@@ -143,35 +141,10 @@ module _ {S : Type 0} (answers : Told S) (o : Opening) (calls : List Call) (x : 
           (subst (λ (cs : List Call). Lives (core_of o) cs served.life x.core) (sym r.same_calls)
           (subst (λ (s : Core). Lives s calls served.life x.core) p.is_new.core served.lives))
 
-      pub come : MayComeFirst o accepted
-      come = may_come_first o accepted h.senders h.offered
-
-      abbrev pub whole : List Move
-      whole = accepting accepted ++ ms
-
-      -- what holds of these moves from then on holds of them behind those by which all was accepted
-      joined : (Holds : State → Move → Type 0) → Throughout Holds (new_state o) (accepting accepted) → Throughout Holds (having_accepted o accepted) ms → Throughout Holds (new_state o) whole
-      joined Holds a b = throughout_further Holds (new_state o) (accepting accepted) ms a (subst (λ (s : State). Throughout Holds s ms) (sym come.lead) b)
-
-      pub whole_moves : AreMoves (new_state o) whole
-      whole_moves = joined IsMove come.moves r.moves
-
-      pub whole_assumed : AssumedAround (having_accepted o accepted) ms → Assumed (new_state o) whole
-      whole_assumed t = record {
-        honest = joined IsHonest come.assumed.honest t.honest;
-        not_made_up = joined IsNotMadeUp come.assumed.not_made_up t.not_made_up;
-        in_turn = joined IsInTurn come.assumed.in_turn fed_in_turn;
-        ids_once = joined KeepsIdsApart come.assumed.ids_once t.ids_once;
-      }
-
-      pub whole_leads : led (new_state o) whole ≡ led (having_accepted o accepted) ms
-      whole_leads = led_further (new_state o) (accepting accepted) ms ∙ ap (λ (s : State). led s ms) come.lead
-
 -- What holds after any moves holds after any polls.
 pub of_polls : {S : Type 0} (answers : Told S) (o : Opening) (Holds : State → Type 0) → AfterAnyMoves o Holds → AfterAnyPolls answers o Holds
 of_polls answers o Holds law calls x accepted ms p h r t =
-    subst Holds (whole_leads answers o calls x p accepted h ms r)
-    (law (whole answers o calls x p accepted h ms r) p.may_begin (whole_moves answers o calls x p accepted h ms r) (whole_assumed answers o calls x p accepted h ms r t))
+    of_fed o accepted ms h.senders h.offered r.moves (fed_in_turn answers o calls x p accepted h ms r) t Holds p.may_begin law
 
 -- They lead to the engine's core.
 pub leads : {S : Type 0} (answers : Told S) (o : Opening) → AroundAnyPolls answers o (λ a ms x. (led a ms).core ≡ x.core)
@@ -182,24 +155,6 @@ pub feed_in_turn : {S : Type 0} (answers : Told S) (o : Opening) (calls : List C
 feed_in_turn answers o calls x accepted ms p h r = fed_in_turn answers o calls x p accepted h ms r
 
 -- ---- with nothing around them
-
-record Alone (a : State) (calls : List Call) : Type 0 where
-  ms : List Move
-  moves : AreMoves a ms
-  same_calls : calls_in ms ≡ calls
-  none : accepted_in ms ≡ []
-
-all_alone : (a : State) (calls : List Call) (life : Life) (t : Core) → Lives a.core calls life t → Alone a calls
-unfolding Lives
-all_alone a [] life t lives = record { ms = []; moves = tt; same_calls = refl; none = refl }
-all_alone a (c ∷ calls) life t lives =
-    let rest : Alone (after (Calling c lives.0) a) calls = all_alone (after (Calling c lives.0) a) calls lives.1 t lives.3 in
-    record {
-      ms = Calling c lives.0 ∷ rest.ms;
-      moves = (lives.2, rest.moves);
-      same_calls = ap (λ (cs : List Call). c ∷ cs) rest.same_calls;
-      none = rest.none;
-    }
 
 pub alone : {S : Type 0} (answers : Told S) (o : Opening) (calls : List Call) (x : Exchange) (accepted : List (List Item)) → Polling answers o calls x
     → (ms : List Move) × Around o accepted calls ms

@@ -32,7 +32,8 @@ use Rattle.kp_lanes.specs.declared.intake.Intake.{Intake}
 use Rattle.kp_rules.specs.Calls.{Call, Close, End, Flush, Lead}
 use Rattle.kp_rules.specs.declared.outgoing.Outgoing.{Outgoing}
 use Rattle.kp_rules.proofs.ListLemmas.{all_back, all_front}
-use Rattle.kp_polls.proofs.OfferLemmas.{Feeds, Offer, Theirs, all_appended, all_feed, appends_elsewhere, appends_here, fails_elsewhere, fails_feeds, feeds_then, offered_by, offers, refused, refused_feeds, refuses_elsewhere, refuses_here, wait_last}
+use Rattle.kp_headline.proofs.FeedLemmas.{Feeds, Offer, Theirs, all_appended, all_feed, feeds_then, offered_by, offers, wait_last}
+use Rattle.kp_polls.proofs.OfferLemmas.{appends_elsewhere, appends_here, fails_elsewhere, fails_feeds, refused, refused_feeds, refuses_elsewhere, refuses_here}
 
 -- ---- one sender's side
 

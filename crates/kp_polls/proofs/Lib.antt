@@ -1,6 +1,5 @@
 pub mod OfferLemmas
 pub mod FeedingLemmas
-pub mod InTurnLemmas
 pub mod AroundLemmas
 pub mod SettledLemmas
 pub mod ClosedLemmas

@@ -13,8 +13,8 @@ use Rattle.kp_rules.specs.Calls.{Call, packets_by}
 use Rattle.kp_rules.specs.Calls as call
 use Rattle.kp_rules.specs.Records.{Core}
 use Rattle.kp_rules.specs.Requesting.{Packet}
-use Rattle.kp_polls.specs.Around.{accepted_in}
-use Rattle.kp_polls.proofs.OfferLemmas.{Feeds, Offer, offer_elsewhere, offer_here, offers}
+use Rattle.kp_headline.specs.Around.{accepted_in}
+use Rattle.kp_headline.proofs.FeedLemmas.{Feeds, Offer, offer_elsewhere, offer_here, offers}
 
 -- ---- lists
 
