@@ -18,23 +18,23 @@ unfolding and_then
 goes_on-at w b None next none = refl
 goes_on-at w b (Some e) next none = absurd cc
 
-module _ (Within : Broker → List ℕ → List ℕ → Broker → Type 0) (plan : Plan) (within : (b : Broker) (content written : List ℕ) (after : Broker) → Within b content written after → (rest : List ℕ) × ((handled plan b content).written ≡ written ++ rest)) where
-  wrote-first : (b after : Broker) (frames : List (List ℕ)) (written : List ℕ) → Breaks Within plan b frames written after → (rest : List ℕ) × ((served plan b frames).written ≡ written ++ rest)
+module _ (Within : Broker → List ℕ → List ℕ → Broker → Type 0) (node : ℕ) (plan : Plan) (within : (b : Broker) (content written : List ℕ) (after : Broker) → Within b content written after → (rest : List ℕ) × ((handled node plan b content).written ≡ written ++ rest)) where
+  wrote-first : (b after : Broker) (frames : List (List ℕ)) (written : List ℕ) → Breaks Within node plan b frames written after → (rest : List ℕ) × ((served node plan b frames).written ≡ written ++ rest)
   wrote-first b after [] written still = ([], sym (ap (λ w. w ++ []) still.0))
-  wrote-first b after (x ∷ xs) written (inl still) = ((served plan b (x ∷ xs)).written, sym (ap (λ w. w ++ (served plan b (x ∷ xs)).written) still.0))
+  wrote-first b after (x ∷ xs) written (inl still) = ((served node plan b (x ∷ xs)).written, sym (ap (λ w. w ++ (served node plan b (x ∷ xs)).written) still.0))
   wrote-first b after (x ∷ xs) written (inr (inl now)) =
       let (lost, is) = within b x written after now in
-      let (others, all) = begins (handled plan b x) (λ m. served plan m xs) in
+      let (others, all) = begins (handled node plan b x) (λ m. served node plan m xs) in
       (lost ++ others, all ∙ ap (λ w. w ++ others) is ∙ append_assoc written lost others)
   wrote-first b after (x ∷ xs) written (inr (inr behind)) =
-      let c = handled plan b x in
+      let c = handled node plan b x in
       let (rest, is) = wrote-first c.broker after xs behind.later behind.next in
-      (rest, goes_on-at c.written c.broker c.ending (λ m. served plan m xs) behind.goes_on ∙ ap (λ w. c.written ++ w) is ∙ sym (append_assoc c.written behind.later rest) ∙ ap (λ w. w ++ rest) (sym behind.split))
+      (rest, goes_on-at c.written c.broker c.ending (λ m. served node plan m xs) behind.goes_on ∙ ap (λ w. c.written ++ w) is ∙ sym (append_assoc c.written behind.later rest) ∙ ap (λ w. w ++ rest) (sym behind.split))
 
-pub answer-lost : (plan : Plan) (b after : Broker) (frames : List (List ℕ)) (written : List ℕ) → Breaks (LosesAnswer plan) plan b frames written after → (rest : List ℕ) × ((served plan b frames).written ≡ written ++ rest)
-answer-lost plan b after frames written breaks =
-    wrote-first (LosesAnswer plan) plan (λ b content written after (lost, is). (lost, ap (λ (c : Course). c.written) is)) b after frames written breaks
+pub answer-lost : (node : ℕ) (plan : Plan) (b after : Broker) (frames : List (List ℕ)) (written : List ℕ) → Breaks (LosesAnswer node plan) node plan b frames written after → (rest : List ℕ) × ((served node plan b frames).written ≡ written ++ rest)
+answer-lost node plan b after frames written breaks =
+    wrote-first (LosesAnswer node plan) node plan (λ b content written after (lost, is). (lost, ap (λ (c : Course). c.written) is)) b after frames written breaks
 
-pub memory-lost : (plan : Plan) (b after : Broker) (frames : List (List ℕ)) (written : List ℕ) → Breaks (LosesMemory plan) plan b frames written after → (rest : List ℕ) × ((served plan b frames).written ≡ written ++ rest)
-memory-lost plan b after frames written breaks =
-    wrote-first (LosesMemory plan) plan (λ b content written after (none, stops). ((handled plan b content).written, sym (ap (λ w. w ++ (handled plan b content).written) none))) b after frames written breaks
+pub memory-lost : (node : ℕ) (plan : Plan) (b after : Broker) (frames : List (List ℕ)) (written : List ℕ) → Breaks (LosesMemory node plan) node plan b frames written after → (rest : List ℕ) × ((served node plan b frames).written ≡ written ++ rest)
+memory-lost node plan b after frames written breaks =
+    wrote-first (LosesMemory node plan) node plan (λ b content written after (none, stops). ((handled node plan b content).written, sym (ap (λ w. w ++ (handled node plan b content).written) none))) b after frames written breaks

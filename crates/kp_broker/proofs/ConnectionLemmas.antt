@@ -22,31 +22,31 @@ use Rattle.kp_broker.proofs.CourseLemmas.{served-append, and_then-ended, still-b
 -- ---- frames behind frames
 
 -- an end stays one, whatever frames come behind it
-served-ended : (plan : Plan) (b : Broker) (xs ys : List (List ℕ)) (w : List ℕ) (m : Broker) (e : Ending) → served plan b xs ≡ record { written = w; broker = m; ending = Some e } → served plan b (xs ++ ys) ≡ record { written = w; broker = m; ending = Some e }
-served-ended plan b xs ys w m e is =
-    served-append plan b xs ys ∙ ap (λ c. and_then c (λ n. served plan n ys)) is ∙ and_then-ended w m e (λ n. served plan n ys)
+served-ended : (node : ℕ) (plan : Plan) (b : Broker) (xs ys : List (List ℕ)) (w : List ℕ) (m : Broker) (e : Ending) → served node plan b xs ≡ record { written = w; broker = m; ending = Some e } → served node plan b (xs ++ ys) ≡ record { written = w; broker = m; ending = Some e }
+served-ended node plan b xs ys w m e is =
+    served-append node plan b xs ys ∙ ap (λ c. and_then c (λ n. served node plan n ys)) is ∙ and_then-ended w m e (λ n. served node plan n ys)
 
-pub serves-more : (plan : Plan) (b : Broker) (xs ys : List (List ℕ)) (r : Result Served BrokerFault) → r ≢ Ok End → (w : List ℕ) (after : Broker) → ServesFrames plan b xs r w after → ServesFrames plan b (xs ++ ys) r w after
-serves-more plan b xs ys (Ok End) other w after s = absurd (other refl)
-serves-more plan b xs ys (Ok HungUp) other w after s = served-ended plan b xs ys w after HangsUp s
-serves-more plan b xs ys (Err (Frame fault)) other w after s = served-ended plan b xs ys w after (Refuses fault) s
-serves-more plan b xs ys (Err Io) other w after s = breaks-more (LosesAnswer plan) plan b xs ys w after s
-serves-more plan b xs ys (Err OutOfMemory) other w after s = breaks-more (LosesMemory plan) plan b xs ys w after s
-serves-more plan b xs ys (Err TooLong) other w after s = s
+pub serves-more : (node : ℕ) (plan : Plan) (b : Broker) (xs ys : List (List ℕ)) (r : Result Served BrokerFault) → r ≢ Ok End → (w : List ℕ) (after : Broker) → ServesFrames node plan b xs r w after → ServesFrames node plan b (xs ++ ys) r w after
+serves-more node plan b xs ys (Ok End) other w after s = absurd (other refl)
+serves-more node plan b xs ys (Ok HungUp) other w after s = served-ended node plan b xs ys w after HangsUp s
+serves-more node plan b xs ys (Err (Frame fault)) other w after s = served-ended node plan b xs ys w after (Refuses fault) s
+serves-more node plan b xs ys (Err Io) other w after s = breaks-more (LosesAnswer node plan) node plan b xs ys w after s
+serves-more node plan b xs ys (Err OutOfMemory) other w after s = breaks-more (LosesMemory node plan) node plan b xs ys w after s
+serves-more node plan b xs ys (Err TooLong) other w after s = s
 
-served-behind : (plan : Plan) (b : Broker) (xs ys : List (List ℕ)) (w : List ℕ) (m : Broker) → served plan b xs ≡ record { written = w; broker = m; ending = None } → (v : List ℕ) (after : Broker) (e : Option Ending) → served plan m ys ≡ record { written = v; broker = after; ending = e }
-    → served plan b (xs ++ ys) ≡ record { written = w ++ v; broker = after; ending = e }
-served-behind plan b xs ys w m is v after e later =
-    served-append plan b xs ys ∙ ap (λ c. and_then c (λ n. served plan n ys)) is ∙ and_then-open w m (λ n. served plan n ys)
+served-behind : (node : ℕ) (plan : Plan) (b : Broker) (xs ys : List (List ℕ)) (w : List ℕ) (m : Broker) → served node plan b xs ≡ record { written = w; broker = m; ending = None } → (v : List ℕ) (after : Broker) (e : Option Ending) → served node plan m ys ≡ record { written = v; broker = after; ending = e }
+    → served node plan b (xs ++ ys) ≡ record { written = w ++ v; broker = after; ending = e }
+served-behind node plan b xs ys w m is v after e later =
+    served-append node plan b xs ys ∙ ap (λ c. and_then c (λ n. served node plan n ys)) is ∙ and_then-open w m (λ n. served node plan n ys)
     ∙ (λ i. record { written = w ++ (later i).written; broker = (later i).broker; ending = (later i).ending })
 
-pub serves-behind : (plan : Plan) (b : Broker) (xs ys : List (List ℕ)) (w : List ℕ) (m : Broker) → served plan b xs ≡ record { written = w; broker = m; ending = None } → (r : Result Served BrokerFault) (v : List ℕ) (after : Broker) → ServesFrames plan m ys r v after → ServesFrames plan b (xs ++ ys) r (w ++ v) after
-serves-behind plan b xs ys w m is (Ok End) v after s = served-behind plan b xs ys w m is v after None s
-serves-behind plan b xs ys w m is (Ok HungUp) v after s = served-behind plan b xs ys w m is v after (Some HangsUp) s
-serves-behind plan b xs ys w m is (Err (Frame fault)) v after s = served-behind plan b xs ys w m is v after (Some (Refuses fault)) s
-serves-behind plan b xs ys w m is (Err Io) v after s = breaks-behind (LosesAnswer plan) plan b xs ys w m v after is s
-serves-behind plan b xs ys w m is (Err OutOfMemory) v after s = breaks-behind (LosesMemory plan) plan b xs ys w m v after is s
-serves-behind plan b xs ys w m is (Err TooLong) v after s = s
+pub serves-behind : (node : ℕ) (plan : Plan) (b : Broker) (xs ys : List (List ℕ)) (w : List ℕ) (m : Broker) → served node plan b xs ≡ record { written = w; broker = m; ending = None } → (r : Result Served BrokerFault) (v : List ℕ) (after : Broker) → ServesFrames node plan m ys r v after → ServesFrames node plan b (xs ++ ys) r (w ++ v) after
+serves-behind node plan b xs ys w m is (Ok End) v after s = served-behind node plan b xs ys w m is v after None s
+serves-behind node plan b xs ys w m is (Ok HungUp) v after s = served-behind node plan b xs ys w m is v after (Some HangsUp) s
+serves-behind node plan b xs ys w m is (Err (Frame fault)) v after s = served-behind node plan b xs ys w m is v after (Some (Refuses fault)) s
+serves-behind node plan b xs ys w m is (Err Io) v after s = breaks-behind (LosesAnswer node plan) node plan b xs ys w m v after is s
+serves-behind node plan b xs ys w m is (Err OutOfMemory) v after s = breaks-behind (LosesMemory node plan) node plan b xs ys w m v after is s
+serves-behind node plan b xs ys w m is (Err TooLong) v after s = s
 
 -- ---- a stream with no frame
 
@@ -75,38 +75,38 @@ err-is (Err e) fault is = ap Err is
 
 -- ---- some frames were taken
 
-pub record HasTaken {C : Type 0} (answers : Told C) (plan : Plan) (before : Broker) (bytes : List ℕ) (old : C) (left : List ℕ) (new : C) (after : Broker) : Type 0 where
+pub record HasTaken {C : Type 0} (answers : Told C) (node : ℕ) (plan : Plan) (before : Broker) (bytes : List ℕ) (old : C) (left : List ℕ) (new : C) (after : Broker) : Type 0 where
   pub earlier : List (List ℕ)
   pub xs : List Answer
   pub told : answers old xs new
   pub no_reads : reads xs ≡ 0
   pub good : AreGood xs
-  pub course : served plan before earlier ≡ record { written = gone xs; broker = after; ending = None }
+  pub course : served node plan before earlier ≡ record { written = gone xs; broker = after; ending = None }
   pub frames : (stream bytes).frames ≡ earlier ++ (stream left).frames
   pub rest : (stream bytes).rest ≡ (stream left).rest
 
-pub none-taken : {C : Type 0} (answers : Told C) → ((s : C) → answers s [] s) → (plan : Plan) (before : Broker) (bytes : List ℕ) (old : C) → HasTaken answers plan before bytes old bytes old before
-none-taken answers nothing plan before bytes old = record { earlier = []; xs = []; told = nothing old; no_reads = refl; good = tt; course = refl; frames = refl; rest = refl }
+pub none-taken : {C : Type 0} (answers : Told C) → ((s : C) → answers s [] s) → (node : ℕ) (plan : Plan) (before : Broker) (bytes : List ℕ) (old : C) → HasTaken answers node plan before bytes old bytes old before
+none-taken answers nothing node plan before bytes old = record { earlier = []; xs = []; told = nothing old; no_reads = refl; good = tt; course = refl; frames = refl; rest = refl }
 
 module _ {C : Type 0} (answers : Told C) (in_order : (a : C) (xs : List Answer) (b : C) (ys : List Answer) (c : C) → answers a xs b → answers b ys c → answers a (xs ++ ys) c)
-    (plan : Plan) (before : Broker) (bytes : List ℕ) (old : C) (left : List ℕ) (now : C) (mid : Broker) (has : HasTaken answers plan before bytes old left now mid) where
-  pub all-taken : (stream left).frames ≡ [] → (left' : List ℕ) → left' ≡ left → TakesFrames answers plan before bytes old (Ok End) left' now mid
+    (node : ℕ) (plan : Plan) (before : Broker) (bytes : List ℕ) (old : C) (left : List ℕ) (now : C) (mid : Broker) (has : HasTaken answers node plan before bytes old left now mid) where
+  pub all-taken : (stream left).frames ≡ [] → (left' : List ℕ) → left' ≡ left → TakesFrames answers node plan before bytes old (Ok End) left' now mid
   all-taken none left' same = record {
     xs = has.xs;
     told = has.told;
     no_reads = has.no_reads;
     go = has.good;
-    served = ap (served plan before) (has.frames ∙ ap (λ fs. has.earlier ++ fs) none ∙ append-nil has.earlier) ∙ has.course;
+    served = ap (served node plan before) (has.frames ∙ ap (λ fs. has.earlier ++ fs) none ∙ append-nil has.earlier) ∙ has.course;
     rest = λ _. same ∙ sym (no_frames-rest left none) ∙ sym has.rest;
   }
 
-  still : Breaks (LosesMemory plan) plan before (stream bytes).frames (gone has.xs) mid
+  still : Breaks (LosesMemory node plan) node plan before (stream bytes).frames (gone has.xs) mid
   still =
-      let breaks = breaks-behind (LosesMemory plan) plan before has.earlier (stream left).frames (gone has.xs) mid [] mid has.course (still-breaks (LosesMemory plan) plan mid (stream left).frames) in
-      subst (λ fs. Breaks (LosesMemory plan) plan before fs (gone has.xs) mid) (sym has.frames)
-      (subst (λ w. Breaks (LosesMemory plan) plan before (has.earlier ++ (stream left).frames) w mid) (append-nil (gone has.xs)) breaks)
+      let breaks = breaks-behind (LosesMemory node plan) node plan before has.earlier (stream left).frames (gone has.xs) mid [] mid has.course (still-breaks (LosesMemory node plan) node plan mid (stream left).frames) in
+      subst (λ fs. Breaks (LosesMemory node plan) node plan before fs (gone has.xs) mid) (sym has.frames)
+      (subst (λ w. Breaks (LosesMemory node plan) node plan before (has.earlier ++ (stream left).frames) w mid) (append-nil (gone has.xs)) breaks)
 
-  pub memory-refused : (fault : FrameFault) (left' : List ℕ) → Next left (Err fault) left' → (r : Result Served BrokerFault) → IsErrAnd r (λ e. e ≡ of_frame fault) → TakesFrames answers plan before bytes old r left' now mid
+  pub memory-refused : (fault : FrameFault) (left' : List ℕ) → Next left (Err fault) left' → (r : Result Served BrokerFault) → IsErrAnd r (λ e. e ≡ of_frame fault) → TakesFrames answers node plan before bytes old r left' now mid
   memory-refused fault left' next r is =
       let refused : r ≡ Err OutOfMemory = err-is r (of_frame fault) is ∙ ap (λ f. Err (of_frame f)) (only_memory left fault left' next) in
       record {
@@ -114,7 +114,7 @@ module _ {C : Type 0} (answers : Told C) (in_order : (a : C) (xs : List Answer) 
         told = has.told;
         no_reads = has.no_reads;
         go = subst (λ r. GoBy r has.xs) (sym refused) has.good;
-        served = subst (λ r. ServesFrames plan before (stream bytes).frames r (gone has.xs) mid) (sym refused) still;
+        served = subst (λ r. ServesFrames node plan before (stream bytes).frames r (gone has.xs) mid) (sym refused) still;
         rest = λ ended. let no = sym refused ∙ ended in absurd cc;
       }
 
@@ -122,29 +122,29 @@ module _ {C : Type 0} (answers : Told C) (in_order : (a : C) (xs : List Answer) 
     none-read : (ys : List Answer) → reads ys ≡ 0 → reads (has.xs ++ ys) ≡ 0
     none-read ys none = omega (arith, reads_behind has.xs ys, has.no_reads)
 
-    pub ended-taken : (r : Result Served BrokerFault) → r ≢ Ok End → TakesFrame answers plan mid content now r new after → TakesFrames answers plan before bytes old r left' new after
+    pub ended-taken : (r : Result Served BrokerFault) → r ≢ Ok End → TakesFrame answers node plan mid content now r new after → TakesFrames answers node plan before bytes old r left' new after
     ended-taken r other t =
         let frames : content ∷ (stream left').frames ≡ (stream left).frames = sym (ap (λ (s : Split). s.frames) next) in
-        let all = serves-more plan mid (content ∷ []) (stream left').frames r other (gone t.xs) after t.served in
-        let taken = serves-behind plan before has.earlier (content ∷ (stream left').frames) (gone has.xs) mid has.course r (gone t.xs) after all in
+        let all = serves-more node plan mid (content ∷ []) (stream left').frames r other (gone t.xs) after t.served in
+        let taken = serves-behind node plan before has.earlier (content ∷ (stream left').frames) (gone has.xs) mid has.course r (gone t.xs) after all in
         record {
           xs = has.xs ++ t.xs;
           told = in_order old has.xs now t.xs new has.told t.told;
           no_reads = none-read t.xs t.no_reads;
           go = goes_behind r has.xs t.xs has.good t.go;
-          served = subst (λ w. ServesFrames plan before (stream bytes).frames r w after) (sym (gone_behind has.xs t.xs))
-              (subst (λ fs. ServesFrames plan before fs r (gone has.xs ++ gone t.xs) after) (sym (has.frames ∙ ap (λ fs. has.earlier ++ fs) (sym frames))) taken);
+          served = subst (λ w. ServesFrames node plan before (stream bytes).frames r w after) (sym (gone_behind has.xs t.xs))
+              (subst (λ fs. ServesFrames node plan before fs r (gone has.xs ++ gone t.xs) after) (sym (has.frames ∙ ap (λ fs. has.earlier ++ fs) (sym frames))) taken);
           rest = λ ended. absurd (other ended);
         }
 
-    pub one-more : TakesFrame answers plan mid content now (Ok End) new after → HasTaken answers plan before bytes old left' new after
+    pub one-more : TakesFrame answers node plan mid content now (Ok End) new after → HasTaken answers node plan before bytes old left' new after
     one-more t = record {
       earlier = has.earlier ++ content ∷ [];
       xs = has.xs ++ t.xs;
       told = in_order old has.xs now t.xs new has.told t.told;
       no_reads = none-read t.xs t.no_reads;
       good = good_behind has.xs t.xs has.good t.go;
-      course = served-behind plan before has.earlier (content ∷ []) (gone has.xs) mid has.course (gone t.xs) after None t.served
+      course = served-behind node plan before has.earlier (content ∷ []) (gone has.xs) mid has.course (gone t.xs) after None t.served
           ∙ (λ i. record { written = sym (gone_behind has.xs t.xs) i; broker = after; ending = None });
       frames = has.frames ∙ ap (λ (s : Split). has.earlier ++ s.frames) next ∙ sym (append_assoc has.earlier (content ∷ []) (stream left').frames);
       rest = has.rest ∙ ap (λ (s : Split). s.rest) next;

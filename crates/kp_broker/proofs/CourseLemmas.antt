@@ -62,39 +62,39 @@ opens c next w m is = opens_at c.written c.broker c.ending next w m is
 
 -- ---- frames behind frames
 
-pub served-append : (plan : Plan) (b : Broker) (xs ys : List (List ℕ)) → served plan b (xs ++ ys) ≡ and_then (served plan b xs) (λ m. served plan m ys)
-served-append plan b [] ys = sym (and_then-open [] b (λ m. served plan m ys))
-served-append plan b (x ∷ xs) ys =
-    ap (and_then (handled plan b x)) ((λ i m. served-append plan m xs ys i))
-    ∙ sym (and_then-assoc (handled plan b x) (λ m. served plan m xs) (λ m. served plan m ys))
+pub served-append : (node : ℕ) (plan : Plan) (b : Broker) (xs ys : List (List ℕ)) → served node plan b (xs ++ ys) ≡ and_then (served node plan b xs) (λ m. served node plan m ys)
+served-append node plan b [] ys = sym (and_then-open [] b (λ m. served node plan m ys))
+served-append node plan b (x ∷ xs) ys =
+    ap (and_then (handled node plan b x)) ((λ i m. served-append node plan m xs ys i))
+    ∙ sym (and_then-assoc (handled node plan b x) (λ m. served node plan m xs) (λ m. served node plan m ys))
 
-pub served-one : (plan : Plan) (b : Broker) (x : List ℕ) → served plan b (x ∷ []) ≡ handled plan b x
-served-one plan b x = and_then-nothing (handled plan b x)
+pub served-one : (node : ℕ) (plan : Plan) (b : Broker) (x : List ℕ) → served node plan b (x ∷ []) ≡ handled node plan b x
+served-one node plan b x = and_then-nothing (handled node plan b x)
 
 -- ---- a connection that breaks
 
-module _ (Within : Broker → List ℕ → List ℕ → Broker → Type 0) (plan : Plan) where
-  pub still-breaks : (b : Broker) (xs : List (List ℕ)) → Breaks Within plan b xs [] b
+module _ (Within : Broker → List ℕ → List ℕ → Broker → Type 0) (node : ℕ) (plan : Plan) where
+  pub still-breaks : (b : Broker) (xs : List (List ℕ)) → Breaks Within node plan b xs [] b
   still-breaks b [] = (refl, refl)
   still-breaks b (x ∷ xs) = inl (refl, refl)
 
-  pub breaks-more : (b : Broker) (xs ys : List (List ℕ)) (w : List ℕ) (after : Broker) → Breaks Within plan b xs w after → Breaks Within plan b (xs ++ ys) w after
+  pub breaks-more : (b : Broker) (xs ys : List (List ℕ)) (w : List ℕ) (after : Broker) → Breaks Within node plan b xs w after → Breaks Within node plan b (xs ++ ys) w after
   breaks-more b [] [] w after still = still
   breaks-more b [] (y ∷ ys) w after still = inl still
   breaks-more b (x ∷ xs) ys w after (inl still) = inl still
   breaks-more b (x ∷ xs) ys w after (inr (inl within)) = inr (inl within)
   breaks-more b (x ∷ xs) ys w after (inr (inr behind)) =
-      inr (inr (record { goes_on = behind.goes_on; later = behind.later; split = behind.split; next = breaks-more (handled plan b x).broker xs ys behind.later after behind.next }))
+      inr (inr (record { goes_on = behind.goes_on; later = behind.later; split = behind.split; next = breaks-more (handled node plan b x).broker xs ys behind.later after behind.next }))
 
-  pub breaks-behind : (b : Broker) (xs ys : List (List ℕ)) (w : List ℕ) (m : Broker) (v : List ℕ) (after : Broker) → served plan b xs ≡ record { written = w; broker = m; ending = None } → Breaks Within plan m ys v after → Breaks Within plan b (xs ++ ys) (w ++ v) after
+  pub breaks-behind : (b : Broker) (xs ys : List (List ℕ)) (w : List ℕ) (m : Broker) (v : List ℕ) (after : Broker) → served node plan b xs ≡ record { written = w; broker = m; ending = None } → Breaks Within node plan m ys v after → Breaks Within node plan b (xs ++ ys) (w ++ v) after
   breaks-behind b [] ys w m v after is breaks =
       let none : [] ≡ w = ap (λ (c : Course). c.written) is in
       let same : b ≡ m = ap (λ (c : Course). c.broker) is in
-      subst (λ u. Breaks Within plan b ys (u ++ v) after) none (subst (λ n. Breaks Within plan n ys v after) (sym same) breaks)
+      subst (λ u. Breaks Within node plan b ys (u ++ v) after) none (subst (λ n. Breaks Within node plan n ys v after) (sym same) breaks)
   breaks-behind b (x ∷ xs) ys w m v after is breaks =
-      let c = handled plan b x in
-      let o = opens c (λ n. served plan n xs) w m is in
-      let later = (served plan c.broker xs).written in
+      let c = handled node plan b x in
+      let o = opens c (λ n. served node plan n xs) w m is in
+      let later = (served node plan c.broker xs).written in
       inr (inr (record {
         goes_on = o.goes_on;
         later = later ++ v;

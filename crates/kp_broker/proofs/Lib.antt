@@ -8,6 +8,7 @@ pub mod DecimalLemmas
 pub mod EntryLemmas
 pub mod FittingLemmas
 pub mod FrameLemmas
+pub mod LeaderLemmas
 pub mod PieceLemmas
 pub mod PlanLemmas
 pub mod ReadLemmas

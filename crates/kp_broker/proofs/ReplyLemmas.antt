@@ -36,46 +36,46 @@ ended-first e b next = refl
 
 -- ---- an answer
 
-answered-small : (whim : Option Whim) (request : Request) (b : Broker) → length (spelling (answer_to whim b request)) ≤ CONTENT_LIMIT
-    → answered whim request b ≡ record { written = frame.spell (spelling (answer_to whim b request)); broker = after_answer whim b request.body; ending = None }
-answered-small whim request b small =
-    let fits : leb (length (spelling (answer_to whim b request))) CONTENT_LIMIT ≡ true = grind (arith, nat_tests) in
+answered-small : (whim : Option Whim) (node : ℕ) (request : Request) (b : Broker) → length (spelling (answer_to whim node b request)) ≤ CONTENT_LIMIT
+    → answered whim node request b ≡ record { written = frame.spell (spelling (answer_to whim node b request)); broker = after_answer whim node b request.body; ending = None }
+answered-small whim node request b small =
+    let fits : leb (length (spelling (answer_to whim node b request))) CONTENT_LIMIT ≡ true = grind (arith, nat_tests) in
     rw fits refl
 
-answered-large : (whim : Option Whim) (request : Request) (b : Broker) → CONTENT_LIMIT < length (spelling (answer_to whim b request))
-    → answered whim request b ≡ ended (Refuses TooLarge) (after_unanswered whim b request.body)
-answered-large whim request b large =
-    let fits : leb (length (spelling (answer_to whim b request))) CONTENT_LIMIT ≡ false = grind (arith, nat_tests) in
+answered-large : (whim : Option Whim) (node : ℕ) (request : Request) (b : Broker) → CONTENT_LIMIT < length (spelling (answer_to whim node b request))
+    → answered whim node request b ≡ ended (Refuses TooLarge) (after_unanswered whim node b request.body)
+answered-large whim node request b large =
+    let fits : leb (length (spelling (answer_to whim node b request))) CONTENT_LIMIT ≡ false = grind (arith, nat_tests) in
     rw fits refl
 
-pub answered-ok : (whim : Option Whim) (request : Request) (b after : Broker) (bytes : Vec ℕ) → Responds (λ (bytes : Vec ℕ). bytes.items) whim b request (Ok bytes) after
-    → answered whim request b ≡ record { written = bytes.items; broker = after; ending = None }
-answered-ok whim request b after bytes r =
-    answered-small whim request b r.0.size
+pub answered-ok : (whim : Option Whim) (node : ℕ) (request : Request) (b after : Broker) (bytes : Vec ℕ) → Responds (λ (bytes : Vec ℕ). bytes.items) whim node b request (Ok bytes) after
+    → answered whim node request b ≡ record { written = bytes.items; broker = after; ending = None }
+answered-ok whim node request b after bytes r =
+    answered-small whim node request b r.0.size
     ∙ (λ i. record { written = sym r.0.spelled i; broker = sym r.1 i; ending = None })
 
 -- ---- two answers
 
-first_failed : (request : Request) (b mid : Broker) (refused : BrokerFault) → Responds (λ (bytes : Vec ℕ). bytes.items) None b request (Err refused) mid
-    → RepliesBy (Some Repeat) request b (Err refused) mid
-first_failed request b mid (fault.Frame frame_fault.TooLarge) r =
-    ap (λ c. and_then (unheard c) (answered None request)) (answered-large None request b r.0.size ∙ ap (ended (Refuses TooLarge)) (sym r.1))
-    ∙ ended-first (Refuses TooLarge) mid (answered None request)
-first_failed request b mid (fault.Frame frame_fault.Short) r = absurd r
-first_failed request b mid (fault.Frame frame_fault.Trailing) r = absurd r
-first_failed request b mid (fault.Frame frame_fault.UnknownApi) r = absurd r
-first_failed request b mid (fault.Frame frame_fault.UnknownVersion) r = absurd r
-first_failed request b mid (fault.Frame (frame_fault.Wire w)) r = absurd r
-first_failed request b mid (fault.Frame frame_fault.OutOfMemory) r = absurd r
-first_failed request b mid (fault.Frame frame_fault.Mismatch) r = absurd r
-first_failed request b mid fault.OutOfMemory r = inl r
-first_failed request b mid fault.Io r = absurd r
-first_failed request b mid fault.TooLong r = absurd r
+first_failed : (node : ℕ) (request : Request) (b mid : Broker) (refused : BrokerFault) → Responds (λ (bytes : Vec ℕ). bytes.items) None node b request (Err refused) mid
+    → RepliesBy (Some Repeat) node request b (Err refused) mid
+first_failed node request b mid (fault.Frame frame_fault.TooLarge) r =
+    ap (λ c. and_then (unheard c) (answered None node request)) (answered-large None node request b r.0.size ∙ ap (ended (Refuses TooLarge)) (sym r.1))
+    ∙ ended-first (Refuses TooLarge) mid (answered None node request)
+first_failed node request b mid (fault.Frame frame_fault.Short) r = absurd r
+first_failed node request b mid (fault.Frame frame_fault.Trailing) r = absurd r
+first_failed node request b mid (fault.Frame frame_fault.UnknownApi) r = absurd r
+first_failed node request b mid (fault.Frame frame_fault.UnknownVersion) r = absurd r
+first_failed node request b mid (fault.Frame (frame_fault.Wire w)) r = absurd r
+first_failed node request b mid (fault.Frame frame_fault.OutOfMemory) r = absurd r
+first_failed node request b mid (fault.Frame frame_fault.Mismatch) r = absurd r
+first_failed node request b mid fault.OutOfMemory r = inl r
+first_failed node request b mid fault.Io r = absurd r
+first_failed node request b mid fault.TooLong r = absurd r
 
-pub repeat-failed : (request : Request) (b mid : Broker) (refused : BrokerFault) (r : Result Reply BrokerFault) → IsErrAnd r (λ e. e ≡ refused) → Responds (λ (bytes : Vec ℕ). bytes.items) None b request (Err refused) mid
-    → RepliesBy (Some Repeat) request b r mid
-repeat-failed request b mid refused (Ok reply) is responds = absurd is
-repeat-failed request b mid refused (Err e) is responds = subst (λ e. RepliesBy (Some Repeat) request b (Err e) mid) (sym is) (first_failed request b mid refused responds)
+pub repeat-failed : (node : ℕ) (request : Request) (b mid : Broker) (refused : BrokerFault) (r : Result Reply BrokerFault) → IsErrAnd r (λ e. e ≡ refused) → Responds (λ (bytes : Vec ℕ). bytes.items) None node b request (Err refused) mid
+    → RepliesBy (Some Repeat) node request b r mid
+repeat-failed node request b mid refused (Ok reply) is responds = absurd is
+repeat-failed node request b mid refused (Err e) is responds = subst (λ e. RepliesBy (Some Repeat) node request b (Err e) mid) (sym is) (first_failed node request b mid refused responds)
 
 -- what holds of a course, and of want of memory, holds of those that are like it
 gives-alike : (c d : Course) (P Q : Type 0) → d ≡ c → (P → Q) → (r : Result Reply BrokerFault) (after : Broker) → Gives c P r after → Gives d Q r after
@@ -87,13 +87,13 @@ gives-alike c d P Q same so (Err fault.OutOfMemory) after g = so g
 gives-alike c d P Q same so (Err fault.Io) after g = g
 gives-alike c d P Q same so (Err fault.TooLong) after g = g
 
-pub repeat-second : (request : Request) (b mid after : Broker) (bytes : Vec ℕ) (r : Result Reply BrokerFault) → Responds (λ (bytes : Vec ℕ). bytes.items) None b request (Ok bytes) mid
-    → RepliesOn None request mid r after → RepliesBy (Some Repeat) request b r after
-repeat-second request b mid after bytes r first second =
-    let first_is = answered-ok None request b mid bytes first in
-    let same : and_then (unheard (answered None request b)) (answered None request) ≡ answered None request mid =
-    ap (λ c. and_then (unheard c) (answered None request)) first_is ∙ and_then-silent mid (answered None request) in
-    let broker : mid ≡ (answered None request b).broker = sym (ap (λ c. c.broker) first_is) in
-    gives-alike (answered None request mid) (and_then (unheard (answered None request b)) (answered None request))
-    (StopsWithin None mid request.body after) (StopsBy (Some Repeat) request b after) same
-    (λ stops. inr (ap (λ c. c.ending) first_is, subst (λ m. StopsWithin None m request.body after) broker stops)) r after second
+pub repeat-second : (node : ℕ) (request : Request) (b mid after : Broker) (bytes : Vec ℕ) (r : Result Reply BrokerFault) → Responds (λ (bytes : Vec ℕ). bytes.items) None node b request (Ok bytes) mid
+    → RepliesOn None node request mid r after → RepliesBy (Some Repeat) node request b r after
+repeat-second node request b mid after bytes r first second =
+    let first_is = answered-ok None node request b mid bytes first in
+    let same : and_then (unheard (answered None node request b)) (answered None node request) ≡ answered None node request mid =
+    ap (λ c. and_then (unheard c) (answered None node request)) first_is ∙ and_then-silent mid (answered None node request) in
+    let broker : mid ≡ (answered None node request b).broker = sym (ap (λ c. c.broker) first_is) in
+    gives-alike (answered None node request mid) (and_then (unheard (answered None node request b)) (answered None node request))
+    (StopsWithin None node mid request.body after) (StopsBy (Some Repeat) node request b after) same
+    (λ stops. inr (ap (λ c. c.ending) first_is, subst (λ m. StopsWithin None node m request.body after) broker stops)) r after second

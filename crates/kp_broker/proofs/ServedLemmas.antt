@@ -15,7 +15,7 @@ use Rattle.kp_broker.specs.Broker.{Broker}
 use Rattle.kp_broker.specs.Calls.{Answer, Told, came, gone, reads, AreGood, EndsWith, HasFailed, MetEnd}
 use Rattle.kp_broker.specs.Calls.Answer.{Came, Read_failed}
 use Rattle.kp_broker.specs.Plan.{Plan}
-use Rattle.kp_broker.specs.Serving.{Course, Ending, Refuses, HangsUp, and_then, served, heard, behind_frames, Breaks, LosesAnswer, LosesMemory, Serves, EndBy, IsServed}
+use Rattle.kp_broker.specs.Serving.{Course, Ending, Refuses, HangsUp, and_then, served, heard, behind_frames, Breaks, LosesAnswer, LosesMemory, ServesAs, EndBy, IsServedAs}
 use Rattle.kp_broker.specs.Taking.{GoBy, TakesPiece}
 use Rattle.kp_broker.proofs.CallLemmas.{came_behind, gone_behind, reads_behind, good_behind, goes_behind, none_came}
 use Rattle.kp_broker.proofs.ReplyLemmas.{and_then-open}
@@ -25,7 +25,7 @@ use Rattle.kp_broker.proofs.PieceLemmas.{heard-open, breaks-after}
 
 -- ---- bytes behind bytes
 
-module _ (plan : Plan) (before : Broker) (read : List ℕ) (w : List ℕ) (mid : Broker) (course : served plan before (stream read).frames ≡ record { written = w; broker = mid; ending = None }) (piece : List ℕ) where
+module _ (node : ℕ) (plan : Plan) (before : Broker) (read : List ℕ) (w : List ℕ) (mid : Broker) (course : served node plan before (stream read).frames ≡ record { written = w; broker = mid; ending = None }) (piece : List ℕ) where
   rest : List ℕ
   rest = (stream read).rest ++ piece
 
@@ -37,37 +37,37 @@ module _ (plan : Plan) (before : Broker) (read : List ℕ) (w : List ℕ) (mid :
   unfolding rest
   rest-behind = ap (λ (s : Split). s.rest) (stream_more read piece)
 
-  heard-behind : heard plan before (read ++ piece) ≡ record { written = w ++ (heard plan mid rest).written; broker = (heard plan mid rest).broker; ending = (heard plan mid rest).ending }
+  heard-behind : heard node plan before (read ++ piece) ≡ record { written = w ++ (heard node plan mid rest).written; broker = (heard node plan mid rest).broker; ending = (heard node plan mid rest).ending }
   heard-behind =
-      (λ i. and_then (served plan before (frames-behind i)) (behind_frames (faulty_so (read ++ piece) rest rest-behind i)))
-      ∙ ap (λ c. and_then c (behind_frames (is_faulty rest))) (served-append plan before (stream read).frames (stream rest).frames)
-      ∙ and_then-assoc (served plan before (stream read).frames) (λ m. served plan m (stream rest).frames) (behind_frames (is_faulty rest))
-      ∙ ap (λ c. and_then c (λ m. heard plan m rest)) course
-      ∙ and_then-open w mid (λ m. heard plan m rest)
+      (λ i. and_then (served node plan before (frames-behind i)) (behind_frames (faulty_so (read ++ piece) rest rest-behind i)))
+      ∙ ap (λ c. and_then c (behind_frames (is_faulty rest))) (served-append node plan before (stream read).frames (stream rest).frames)
+      ∙ and_then-assoc (served node plan before (stream read).frames) (λ m. served node plan m (stream rest).frames) (behind_frames (is_faulty rest))
+      ∙ ap (λ c. and_then c (λ m. heard node plan m rest)) course
+      ∙ and_then-open w mid (λ m. heard node plan m rest)
 
-  heard-so : (v : List ℕ) (after : Broker) (e : Option Ending) → heard plan mid rest ≡ record { written = v; broker = after; ending = e } → heard plan before (read ++ piece) ≡ record { written = w ++ v; broker = after; ending = e }
+  heard-so : (v : List ℕ) (after : Broker) (e : Option Ending) → heard node plan mid rest ≡ record { written = v; broker = after; ending = e } → heard node plan before (read ++ piece) ≡ record { written = w ++ v; broker = after; ending = e }
   heard-so v after e is = heard-behind ∙ (λ i. record { written = w ++ (is i).written; broker = (is i).broker; ending = (is i).ending })
 
-  breaks-so : (Within : Broker → List ℕ → List ℕ → Broker → Type 0) (v : List ℕ) (after : Broker) → Breaks Within plan mid (stream rest).frames v after → Breaks Within plan before (stream (read ++ piece)).frames (w ++ v) after
-  breaks-so Within v after breaks = subst (λ fs. Breaks Within plan before fs (w ++ v) after) (sym frames-behind) (breaks-behind Within plan before (stream read).frames (stream rest).frames w mid v after course breaks)
+  breaks-so : (Within : Broker → List ℕ → List ℕ → Broker → Type 0) (v : List ℕ) (after : Broker) → Breaks Within node plan mid (stream rest).frames v after → Breaks Within node plan before (stream (read ++ piece)).frames (w ++ v) after
+  breaks-so Within v after breaks = subst (λ fs. Breaks Within node plan before fs (w ++ v) after) (sym frames-behind) (breaks-behind Within node plan before (stream read).frames (stream rest).frames w mid v after course breaks)
 
-  pub serves-behind : (r : Result Served BrokerFault) (v : List ℕ) (after : Broker) → Serves plan mid ((stream read).rest ++ piece) r v after → Serves plan before (read ++ piece) r (w ++ v) after
+  pub serves-behind : (r : Result Served BrokerFault) (v : List ℕ) (after : Broker) → ServesAs node plan mid ((stream read).rest ++ piece) r v after → ServesAs node plan before (read ++ piece) r (w ++ v) after
   unfolding rest
   serves-behind (Ok End) v after s = heard-so v after None s
   serves-behind (Ok HungUp) v after s = heard-so v after (Some HangsUp) s
   serves-behind (Err (Frame fault)) v after s = heard-so v after (Some (Refuses fault)) s
-  serves-behind (Err Io) v after s = breaks-so (LosesAnswer plan) v after s
-  serves-behind (Err OutOfMemory) v after s = breaks-so (LosesMemory plan) v after s
+  serves-behind (Err Io) v after s = breaks-so (LosesAnswer node plan) v after s
+  serves-behind (Err OutOfMemory) v after s = breaks-so (LosesMemory node plan) v after s
   serves-behind (Err TooLong) v after s = heard-so v after None s
 
 -- ---- some pieces were taken
 
-pub record HasServed {C : Type 0} (answers : Told C) (plan : Plan) (before : Broker) (old new : C) (left : List ℕ) (count : ℕ) (after : Broker) : Type 0 where
+pub record HasServed {C : Type 0} (answers : Told C) (node : ℕ) (plan : Plan) (before : Broker) (old new : C) (left : List ℕ) (count : ℕ) (after : Broker) : Type 0 where
   pub xs : List Answer
   pub told : answers old xs new
   pub good : AreGood xs
   pub counted : reads xs ≡ count
-  pub course : served plan before (stream (came xs)).frames ≡ record { written = gone xs; broker = after; ending = None }
+  pub course : served node plan before (stream (came xs)).frames ≡ record { written = gone xs; broker = after; ending = None }
   pub whole : is_faulty (came xs) ≡ false
   pub rest : left ≡ (stream (came xs)).rest
   pub none : (stream left).frames ≡ []
@@ -80,10 +80,10 @@ parts-at c true v after o = let e = ap (λ (d : Course). d.ending) o.later in ab
 parts-at c false v after o =
     (λ i. record { written = (sym (append-nil c.written) ∙ sym o.split) i; broker = ap (λ (d : Course). d.broker) o.later i; ending = o.goes_on i }, refl)
 
-pub heard-parts : (plan : Plan) (b : Broker) (bytes : List ℕ) (v : List ℕ) (after : Broker) → heard plan b bytes ≡ record { written = v; broker = after; ending = None }
-    → (served plan b (stream bytes).frames ≡ record { written = v; broker = after; ending = None }) × (is_faulty bytes ≡ false)
-heard-parts plan b bytes v after is =
-    parts-at (served plan b (stream bytes).frames) (is_faulty bytes) v after (opens (served plan b (stream bytes).frames) (behind_frames (is_faulty bytes)) v after is)
+pub heard-parts : (node : ℕ) (plan : Plan) (b : Broker) (bytes : List ℕ) (v : List ℕ) (after : Broker) → heard node plan b bytes ≡ record { written = v; broker = after; ending = None }
+    → (served node plan b (stream bytes).frames ≡ record { written = v; broker = after; ending = None }) × (is_faulty bytes ≡ false)
+heard-parts node plan b bytes v after is =
+    parts-at (served node plan b (stream bytes).frames) (is_faulty bytes) v after (opens (served node plan b (stream bytes).frames) (behind_frames (is_faulty bytes)) v after is)
 
 nothing-split : stream [] ≡ record { frames = []; rest = [] }
 unfolding at_most
@@ -94,27 +94,27 @@ rest-split bytes = ap (λ (s : Split). s.frames) (stays (stream bytes).rest (par
 
 -- ---- before anything was read
 
-module _ {C : Type 0} (answers : Told C) (nothing : (s : C) → answers s [] s) (plan : Plan) (before : Broker) (old : C) where
-  pub not-begun : (r : Result Served BrokerFault) → IsErrAnd r (λ e. e ≡ OutOfMemory) → IsServed answers plan before old r old before
+module _ {C : Type 0} (answers : Told C) (nothing : (s : C) → answers s [] s) (node : ℕ) (plan : Plan) (before : Broker) (old : C) where
+  pub not-begun : (r : Result Served BrokerFault) → IsErrAnd r (λ e. e ≡ OutOfMemory) → IsServedAs answers node plan before old r old before
   not-begun r is =
       let refused = err-is r OutOfMemory is in
       record {
         xs = [];
         told = nothing old;
         end = subst (λ r. EndBy r []) (sym refused) tt;
-        served = subst (λ r. Serves plan before [] r [] before) (sym refused) (still-breaks (LosesMemory plan) plan before (stream []).frames);
+        served = subst (λ r. ServesAs node plan before [] r [] before) (sym refused) (still-breaks (LosesMemory node plan) node plan before (stream []).frames);
         in_time = omega arith;
         too_long = λ late. let no = sym refused ∙ late in absurd cc;
         pieces = omega arith;
       }
 
-  pub begun : (left : List ℕ) → left ≡ [] → HasServed answers plan before old old left 0 before
+  pub begun : (left : List ℕ) → left ≡ [] → HasServed answers node plan before old old left 0 before
   begun left new = record {
     xs = [];
     told = nothing old;
     good = tt;
     counted = refl;
-    course = ap (λ (s : Split). served plan before s.frames) nothing-split;
+    course = ap (λ (s : Split). served node plan before s.frames) nothing-split;
     whole = none_faulty;
     rest = new ∙ sym (ap (λ (s : Split). s.rest) nothing-split);
     none = ap (λ (t : List ℕ). (stream t).frames) new ∙ ap (λ (s : Split). s.frames) nothing-split;
@@ -124,7 +124,7 @@ module _ {C : Type 0} (answers : Told C) (nothing : (s : C) → answers s [] s) 
 -- ---- the next read
 
 module _ {C : Type 0} (answers : Told C) (in_order : (a : C) (xs : List Answer) (b : C) (ys : List Answer) (c : C) → answers a xs b → answers b ys c → answers a (xs ++ ys) c)
-    (plan : Plan) (before : Broker) (old now : C) (left : List ℕ) (count : ℕ) (mid : Broker) (has : HasServed answers plan before old now left count mid) where
+    (node : ℕ) (plan : Plan) (before : Broker) (old now : C) (left : List ℕ) (count : ℕ) (mid : Broker) (has : HasServed answers node plan before old now left count mid) where
   few : count ≤ READ_LIMIT → length (came has.xs) ≤ READ_LIMIT * PIECE_LIMIT
   few in_time = omega (arith, has.at_most)
 
@@ -141,34 +141,34 @@ module _ {C : Type 0} (answers : Told C) (in_order : (a : C) (xs : List Answer) 
     unfolding extended
     same-gone = gone_behind has.xs (last ∷ []) ∙ ap (λ (b : List ℕ). gone has.xs ++ b) wrote ∙ append-nil (gone has.xs)
 
-    unfoldable read-last : (Holds : Answer → Type 0) → Holds last → (r : Result Served BrokerFault) → (EndsWith Holds extended → EndBy r extended) → r ≢ Err TooLong → Serves plan before (came has.xs) r (gone has.xs) mid → IsServed answers plan before old r new mid
+    unfoldable read-last : (Holds : Answer → Type 0) → Holds last → (r : Result Served BrokerFault) → (EndsWith Holds extended → EndBy r extended) → r ≢ Err TooLong → ServesAs node plan before (came has.xs) r (gone has.xs) mid → IsServedAs answers node plan before old r new mid
     unfolding extended
     read-last Holds holds r ends other served = record {
       xs = extended;
       told = in_order old has.xs now (last ∷ []) new has.told read;
       end = ends (record { before = has.xs; last = last; are = refl; good = has.good; holds = holds });
-      served = subst (λ (b : List ℕ). Serves plan before b r (gone extended) mid) (sym same-came) (subst (λ (w : List ℕ). Serves plan before (came has.xs) r w mid) (sym same-gone) served);
+      served = subst (λ (b : List ℕ). ServesAs node plan before b r (gone extended) mid) (sym same-came) (subst (λ (w : List ℕ). ServesAs node plan before (came has.xs) r w mid) (sym same-gone) served);
       in_time = omega (arith, reads_behind has.xs (last ∷ []), has.counted);
       too_long = λ late. absurd (other late);
       pieces = subst (λ (b : List ℕ). length b ≤ READ_LIMIT * PIECE_LIMIT) (sym same-came) (few (omega arith));
     }
 
-  pub read-failed : count < READ_LIMIT → (new : C) → answers now (Read_failed ∷ []) new → (r : Result Served BrokerFault) → r ≡ Err Io → IsServed answers plan before old r new mid
+  pub read-failed : count < READ_LIMIT → (new : C) → answers now (Read_failed ∷ []) new → (r : Result Served BrokerFault) → r ≡ Err Io → IsServedAs answers node plan before old r new mid
   read-failed in_time new read r failed =
-      subst (λ r. IsServed answers plan before old r new mid) (sym failed)
+      subst (λ r. IsServedAs answers node plan before old r new mid) (sym failed)
       (read-last Read_failed refl refl refl new read in_time HasFailed tt (Err Io) (λ e. e) (λ late. absurd cc)
-      (subst (λ fs. Breaks (LosesAnswer plan) plan before fs (gone has.xs) mid) (append-nil (stream (came has.xs)).frames) (breaks-after (LosesAnswer plan) plan before (stream (came has.xs)).frames [] (gone has.xs) mid has.course)))
+      (subst (λ fs. Breaks (LosesAnswer node plan) node plan before fs (gone has.xs) mid) (append-nil (stream (came has.xs)).frames) (breaks-after (LosesAnswer node plan) node plan before (stream (came has.xs)).frames [] (gone has.xs) mid has.course)))
 
-  pub input-ended : count < READ_LIMIT → (new : C) → answers now (Came [] ∷ []) new → IsServed answers plan before old (Ok End) new mid
+  pub input-ended : count < READ_LIMIT → (new : C) → answers now (Came [] ∷ []) new → IsServedAs answers node plan before old (Ok End) new mid
   input-ended in_time new read =
-      read-last (Came []) refl refl refl new read in_time MetEnd refl (Ok End) (λ e. e) (λ late. absurd cc) (heard-open plan before (came has.xs) (gone has.xs) mid has.course has.whole)
+      read-last (Came []) refl refl refl new read in_time MetEnd refl (Ok End) (λ e. e) (λ late. absurd cc) (heard-open node plan before (came has.xs) (gone has.xs) mid has.course has.whole)
 
-  pub reads-spent : count ≡ READ_LIMIT → IsServed answers plan before old (Err TooLong) now mid
+  pub reads-spent : count ≡ READ_LIMIT → IsServedAs answers node plan before old (Err TooLong) now mid
   reads-spent all = record {
     xs = has.xs;
     told = has.told;
     end = has.good;
-    served = heard-open plan before (came has.xs) (gone has.xs) mid has.course has.whole;
+    served = heard-open node plan before (came has.xs) (gone has.xs) mid has.course has.whole;
     in_time = omega (arith, has.counted);
     too_long = λ _. has.counted ∙ all;
     pieces = few (omega arith);
@@ -212,24 +212,24 @@ module _ {C : Type 0} (answers : Told C) (in_order : (a : C) (xs : List Answer) 
     ends-so (Err OutOfMemory) other ys go = go
     ends-so (Err TooLong) other ys go = go
 
-    serves' : (r : Result Served BrokerFault) (t : TakesPiece answers plan mid left piece between r left' new after) → Serves plan before (came has.xs ++ piece) r (gone has.xs ++ gone t.xs) after
-    serves' r t = serves-behind plan before (came has.xs) (gone has.xs) mid has.course piece r (gone t.xs) after (subst (λ u. Serves plan mid (u ++ piece) r (gone t.xs) after) has.rest t.served)
+    serves' : (r : Result Served BrokerFault) (t : TakesPiece answers node plan mid left piece between r left' new after) → ServesAs node plan before (came has.xs ++ piece) r (gone has.xs ++ gone t.xs) after
+    serves' r t = serves-behind node plan before (came has.xs) (gone has.xs) mid has.course piece r (gone t.xs) after (subst (λ u. ServesAs node plan mid (u ++ piece) r (gone t.xs) after) has.rest t.served)
 
-    pub connection-ended : (r : Result Served BrokerFault) → r ≢ Ok End → TakesPiece answers plan mid left piece between r left' new after → IsServed answers plan before old r new after
+    pub connection-ended : (r : Result Served BrokerFault) → r ≢ Ok End → TakesPiece answers node plan mid left piece between r left' new after → IsServedAs answers node plan before old r new after
     connection-ended r other t = record {
       xs = behind t.xs;
       told = told-all t.xs t.told;
       end = ends-so r other (behind t.xs) (goes-all r t.xs t.go);
-      served = subst (λ (b : List ℕ). Serves plan before b r (gone (behind t.xs)) after) (sym (came-all t.xs t.no_reads))
-          (subst (λ (w : List ℕ). Serves plan before (came has.xs ++ piece) r w after) (sym (gone-all t.xs)) (serves' r t));
+      served = subst (λ (b : List ℕ). ServesAs node plan before b r (gone (behind t.xs)) after) (sym (came-all t.xs t.no_reads))
+          (subst (λ (w : List ℕ). ServesAs node plan before (came has.xs ++ piece) r w after) (sym (gone-all t.xs)) (serves' r t));
       in_time = omega (arith, reads-all t.xs t.no_reads);
       too_long = λ late. absurd (t.in_time late);
       pieces = omega (arith, ap length (came-all t.xs t.no_reads), length-append (came has.xs) piece, has.at_most);
     }
 
-    pub next-piece : TakesPiece answers plan mid left piece between (Ok End) left' new after → HasServed answers plan before old new left' (count + 1) after
+    pub next-piece : TakesPiece answers node plan mid left piece between (Ok End) left' new after → HasServed answers node plan before old new left' (count + 1) after
     next-piece t =
-        let both = heard-parts plan before (came has.xs ++ piece) (gone has.xs ++ gone t.xs) after (serves' (Ok End) t) in
+        let both = heard-parts node plan before (came has.xs ++ piece) (gone has.xs ++ gone t.xs) after (serves' (Ok End) t) in
         let rest = t.rest refl ∙ ap (λ (u : List ℕ). (stream (u ++ piece)).rest) has.rest ∙ sym (ap (λ (s : Split). s.rest) (stream_more (came has.xs) piece)) in
         let all = came-all t.xs t.no_reads in
         record {
@@ -237,7 +237,7 @@ module _ {C : Type 0} (answers : Told C) (in_order : (a : C) (xs : List Answer) 
           told = told-all t.xs t.told;
           good = goes-all (Ok End) t.xs t.go;
           counted = reads-all t.xs t.no_reads;
-          course = ap (λ (b : List ℕ). served plan before (stream b).frames) all ∙ both.0 ∙ (λ i. record { written = sym (gone-all t.xs) i; broker = after; ending = None });
+          course = ap (λ (b : List ℕ). served node plan before (stream b).frames) all ∙ both.0 ∙ (λ i. record { written = sym (gone-all t.xs) i; broker = after; ending = None });
           whole = ap is_faulty all ∙ both.1;
           rest = rest ∙ ap (λ (b : List ℕ). (stream b).rest) (sym all);
           none = ap (λ (u : List ℕ). (stream u).frames) rest ∙ rest-split (came has.xs ++ piece);

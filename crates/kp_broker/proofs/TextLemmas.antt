@@ -1,5 +1,5 @@
 -- The texts of actions and entries.
-use Rattle.std.proofs.Common.{◌≡◌, ℕ, ◌<◌, ◌^◌, true, cond, eqb, ℤ, pos, List, [], ◌∷◌, get_or, drop, map, codes, refl, sym, ap, ◌∙◌, arith}
+use Rattle.std.proofs.Common.{◌≡◌, ℕ, ◌<◌, ◌^◌, true, cond, eqb, ℤ, pos, nat_abs, List, [], ◌∷◌, get_or, drop, map, codes, refl, sym, ap, ◌∙◌, arith}
 use Rattle.std.specs.Fmt.{decimal}
 use Rattle.std.specs.List.{AllByRecursion, slice_split}
 use Rattle.std.specs.Int.{IsInRange}
@@ -8,7 +8,7 @@ use Rattle.std.proofs.lemmas.Str.Parse.{IsNumeralModel, numerals_by_value, tells
 use Rattle.std.proofs.lemmas.Fmt.{digits_decimal, digits_value-decimal, decimal_injective}
 use Rattle.kp_log.specs.declared.error_code.ErrorCode.{ErrorCode}
 use Rattle.kp_broker.specs.declared.plan.action.Action.{Action}
-use Rattle.kp_broker.specs.declared.plan.action.Action.TheVariants.{DropRequest, DropReply, Repeat, Refuse, Late, HangUp}
+use Rattle.kp_broker.specs.declared.plan.action.Action.TheVariants.{DropRequest, DropReply, Repeat, Refuse, Late, HangUp, Move}
 use Rattle.kp_broker.specs.Plan.{Entry, number_of, action_of, action_text, code_text, entry_text, entries_text, IsAllowed, IsAllowedAction, IsAllowedCode}
 use Rattle.kp_broker.proofs.CodeLemmas.{allowed-number, code-number}
 use Rattle.kp_broker.proofs.EntryLemmas.{entry_text-parts}
@@ -34,6 +34,7 @@ action-lacks_comma Repeat h = refl
 action-lacks_comma (Refuse code) h = lacks-append 44 (codes "refuse:") (code_text code) refl (code-lacks_comma code h)
 action-lacks_comma (Late code) h = lacks-append 44 (codes "late:") (code_text code) refl (code-lacks_comma code h)
 action-lacks_comma HangUp h = refl
+action-lacks_comma (Move to) h = lacks-append 44 (codes "move:") (decimal to) refl (decimal-lacks 44 to (λ r. omega arith) (omega (arith, h)))
 
 entry-lacks_comma : (e : Entry) → IsAllowed e → lacks 44 (entry_text e) ≡ true
 entry-lacks_comma e a =
@@ -62,15 +63,17 @@ mark_of Repeat = record { kind = 2; number = pos 0 }
 mark_of (Refuse code) = record { kind = 3; number = code.number }
 mark_of (Late code) = record { kind = 4; number = code.number }
 mark_of HangUp = record { kind = 5; number = pos 0 }
+mark_of (Move to) = record { kind = 6; number = pos to }
 
 -- told by a few bytes of the text
 mark_in : List ℕ → Mark
 mark_in text =
-    cond (eqb (get_or text 2 0) 112) (record { kind = 2; number = pos 0 })
+    cond (eqb (get_or text 2 0) 118) (record { kind = 6; number = pos (digits_value 10 (drop 5 text)) })
+    (cond (eqb (get_or text 2 0) 112) (record { kind = 2; number = pos 0 })
     (cond (eqb (get_or text 2 0) 110) (record { kind = 5; number = pos 0 })
     (cond (eqb (get_or text 2 0) 102) (record { kind = 3; number = pos (digits_value 10 (drop 7 text)) })
     (cond (eqb (get_or text 2 0) 116) (record { kind = 4; number = pos (digits_value 10 (drop 5 text)) })
-    (cond (eqb (get_or text 7 0) 113) (record { kind = 0; number = pos 0 }) (record { kind = 1; number = pos 0 })))))
+    (cond (eqb (get_or text 7 0) 113) (record { kind = 0; number = pos 0 }) (record { kind = 1; number = pos 0 }))))))
 
 code_back : (code : ErrorCode) → IsAllowedCode code → pos (digits_value 10 (code_text code)) ≡ code.number
 code_back code a =
@@ -85,6 +88,7 @@ mark_in-action_text Repeat h = refl
 mark_in-action_text (Refuse code) h = ap (λ z. record { kind = 3; number = z }) (code_back code h)
 mark_in-action_text (Late code) h = ap (λ z. record { kind = 4; number = z }) (code_back code h)
 mark_in-action_text HangUp h = refl
+mark_in-action_text (Move to) h = ap (λ (n : ℕ). record { kind = 6; number = pos n }) (digits_value-decimal own to (omega (arith, h)))
 
 -- the mark of an action is that of no other
 by_kind : (a b : Action) → (mark_of a).kind ≡ (mark_of b).kind → (mark_of a).number ≡ (mark_of b).number → a ≡ b
@@ -95,36 +99,49 @@ by_kind DropRequest Repeat k n = absurd (omega arith)
 by_kind DropRequest (Refuse d) k n = absurd (omega arith)
 by_kind DropRequest (Late d) k n = absurd (omega arith)
 by_kind DropRequest HangUp k n = absurd (omega arith)
+by_kind DropRequest (Move n) k is = absurd (omega arith)
 by_kind DropReply DropReply k n = refl
 by_kind DropReply DropRequest k n = absurd (omega arith)
 by_kind DropReply Repeat k n = absurd (omega arith)
 by_kind DropReply (Refuse d) k n = absurd (omega arith)
 by_kind DropReply (Late d) k n = absurd (omega arith)
 by_kind DropReply HangUp k n = absurd (omega arith)
+by_kind DropReply (Move n) k is = absurd (omega arith)
 by_kind Repeat Repeat k n = refl
 by_kind Repeat DropRequest k n = absurd (omega arith)
 by_kind Repeat DropReply k n = absurd (omega arith)
 by_kind Repeat (Refuse d) k n = absurd (omega arith)
 by_kind Repeat (Late d) k n = absurd (omega arith)
 by_kind Repeat HangUp k n = absurd (omega arith)
+by_kind Repeat (Move n) k is = absurd (omega arith)
 by_kind (Refuse c) (Refuse d) k n = ap Refuse (code-number c d n)
 by_kind (Refuse c) DropRequest k n = absurd (omega arith)
 by_kind (Refuse c) DropReply k n = absurd (omega arith)
 by_kind (Refuse c) Repeat k n = absurd (omega arith)
 by_kind (Refuse c) (Late d) k n = absurd (omega arith)
 by_kind (Refuse c) HangUp k n = absurd (omega arith)
+by_kind (Refuse c) (Move n) k is = absurd (omega arith)
 by_kind (Late c) (Late d) k n = ap Late (code-number c d n)
 by_kind (Late c) DropRequest k n = absurd (omega arith)
 by_kind (Late c) DropReply k n = absurd (omega arith)
 by_kind (Late c) Repeat k n = absurd (omega arith)
 by_kind (Late c) (Refuse d) k n = absurd (omega arith)
 by_kind (Late c) HangUp k n = absurd (omega arith)
+by_kind (Late c) (Move n) k is = absurd (omega arith)
 by_kind HangUp HangUp k n = refl
 by_kind HangUp DropRequest k n = absurd (omega arith)
 by_kind HangUp DropReply k n = absurd (omega arith)
 by_kind HangUp Repeat k n = absurd (omega arith)
 by_kind HangUp (Refuse d) k n = absurd (omega arith)
 by_kind HangUp (Late d) k n = absurd (omega arith)
+by_kind HangUp (Move n) k is = absurd (omega arith)
+by_kind (Move m) (Move n) k is = ap Move (ap nat_abs is)
+by_kind (Move m) DropRequest k is = absurd (omega arith)
+by_kind (Move m) DropReply k is = absurd (omega arith)
+by_kind (Move m) Repeat k is = absurd (omega arith)
+by_kind (Move m) (Refuse d) k is = absurd (omega arith)
+by_kind (Move m) (Late d) k is = absurd (omega arith)
+by_kind (Move m) HangUp k is = absurd (omega arith)
 
 action_text-injective : (a b : Action) → IsAllowedAction a → IsAllowedAction b → action_text a ≡ action_text b → a ≡ b
 action_text-injective a b h k is =

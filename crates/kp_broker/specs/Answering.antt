@@ -1,4 +1,4 @@
--- What a broker gives for a content, and what it keeps of a request that it gives no answer.
+-- What a node of a broker gives for a content, and what is kept of a request that it gives no answer.
 use Rattle.std.specs.Prelude.{◌≡◌, ◌⊎◌, ℕ, ◌≤◌, ◌<◌, List, ◌++◌, length, Option, None, Result, Ok, Err, IsOk}
 use Rattle.kp_frames.specs.declared.fault.FrameFault.{FrameFault}
 use Rattle.kp_frames.specs.declared.fault.FrameFault.TheVariants.{TooLarge}
@@ -38,33 +38,33 @@ Frames view response (Err fault) = ⊥
 -- ---- a request without an answer
 
 -- Some of the parts were taken, from the front on, and none behind them.
-pub record TakesSome (whim : Option Whim) (r : ProduceRequest) (before : Broker) (parts : List Part) (after : Broker) : Type 0 where
+pub record TakesSome (whim : Option Whim) (node : ℕ) (r : ProduceRequest) (before : Broker) (parts : List Part) (after : Broker) : Type 0 where
   pub taken : List Part
   pub left : List Part
   pub split : parts ≡ taken ++ left
-  pub leaves : after ≡ after_parts whim r before taken
+  pub leaves : after ≡ after_parts whim node r before taken
 
 -- What was taken stays, and an id that was not told is not spent.
-abbrev pub StopsWithin : Option Whim → Broker → RequestBody → Broker → Type 0
-StopsWithin whim before (Produce r) after = TakesSome whim r before (parts_of r) after
-StopsWithin whim before (Metadata r) after = after ≡ before
-StopsWithin whim before (InitProducerId r) after = after ≡ before
+abbrev pub StopsWithin : Option Whim → ℕ → Broker → RequestBody → Broker → Type 0
+StopsWithin whim node before (Produce r) after = TakesSome whim node r before (parts_of r) after
+StopsWithin whim node before (Metadata r) after = after ≡ before
+StopsWithin whim node before (InitProducerId r) after = after ≡ before
 
 -- the broker once each part was taken
-abbrev pub after_unanswered : Option Whim → Broker → RequestBody → Broker
-after_unanswered whim before (Produce r) = after_parts whim r before (parts_of r)
-after_unanswered whim before (Metadata r) = before
-after_unanswered whim before (InitProducerId r) = before
+abbrev pub after_unanswered : Option Whim → ℕ → Broker → RequestBody → Broker
+after_unanswered whim node before (Produce r) = after_parts whim node r before (parts_of r)
+after_unanswered whim node before (Metadata r) = before
+after_unanswered whim node before (InitProducerId r) = before
 
 -- ---- what was given, seen by view, for a request and a content
 
-abbrev pub Responds : {X : Type 0} → (X → List ℕ) → Option Whim → Broker → Request → Result X BrokerFault → Broker → Type 0
-Responds view whim before request (Ok x) after =
-    IsFrameOf (answer_to whim before request) (view x) × (after ≡ after_answer whim before request.body)
-Responds view whim before request (Err (Frame TooLarge)) after =
-    IsTooLarge (answer_to whim before request) × (after ≡ after_unanswered whim before request.body)
-Responds view whim before request (Err OutOfMemory) after = StopsWithin whim before request.body after
-Responds view whim before request (Err fault) after = ⊥
+abbrev pub Responds : {X : Type 0} → (X → List ℕ) → Option Whim → ℕ → Broker → Request → Result X BrokerFault → Broker → Type 0
+Responds view whim node before request (Ok x) after =
+    IsFrameOf (answer_to whim node before request) (view x) × (after ≡ after_answer whim node before request.body)
+Responds view whim node before request (Err (Frame TooLarge)) after =
+    IsTooLarge (answer_to whim node before request) × (after ≡ after_unanswered whim node before request.body)
+Responds view whim node before request (Err OutOfMemory) after = StopsWithin whim node before request.body after
+Responds view whim node before request (Err fault) after = ⊥
 
 -- Memory was refused while the content was read.
 pub record NotRead {X : Type 0} (content : List ℕ) (before : Broker) (result : Result X BrokerFault) (after : Broker) : Type 0 where
@@ -73,10 +73,15 @@ pub record NotRead {X : Type 0} (content : List ℕ) (before : Broker) (result :
   pub unchanged : after ≡ before
 
 -- by what the content is read as
-abbrev pub AnswersRead : {X : Type 0} → (X → List ℕ) → Broker → Result Request FrameFault → Result X BrokerFault → Broker → Type 0
-AnswersRead view before (Ok request) result after = Responds view None (counted request.body before) request result after
-AnswersRead view before (Err fault) result after = (result ≡ Err (Frame fault)) × (after ≡ before)
+abbrev pub AnswersRead : {X : Type 0} → (X → List ℕ) → ℕ → Broker → Result Request FrameFault → Result X BrokerFault → Broker → Type 0
+AnswersRead view node before (Ok request) result after =
+    Responds view None node (counted request.body before) request result after
+AnswersRead view node before (Err fault) result after = (result ≡ Err (Frame fault)) × (after ≡ before)
 
+abbrev pub AnswersAs : {X : Type 0} → (X → List ℕ) → ℕ → List ℕ → Broker → Result X BrokerFault → Broker → Type 0
+AnswersAs view node content before result after =
+    NotRead content before result after ⊎ AnswersRead view node before (request_at content) result after
+
+-- the same by node 0
 abbrev pub Answers : {X : Type 0} → (X → List ℕ) → List ℕ → Broker → Result X BrokerFault → Broker → Type 0
-Answers view content before result after =
-    NotRead content before result after ⊎ AnswersRead view before (request_at content) result after
+Answers view content before result after = AnswersAs view 0 content before result after

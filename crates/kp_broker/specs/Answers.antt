@@ -1,5 +1,5 @@
 -- What a loopback broker answers to a request, and what becomes of it (protocol guide; KIP-98 on producer ids).
-use Rattle.std.specs.Prelude.{ℕ, ◌+◌, List, [], ◌∷◌, length, map, fold, scan, flat_map, ℤ, pos, negsuc, Option, Some, None, is_none, Result, Bool, false, ◌&&◌, nat_abs, nat_le, slice_get, slice_set, codes, bytes_eq, if◌then◌else◌}
+use Rattle.std.specs.Prelude.{ℕ, ◌+◌, List, [], ◌∷◌, length, map, fold, scan, flat_map, ℤ, pos, negsuc, Option, Some, None, is_none, Result, Bool, false, ◌&&◌, nat_abs, nat_le, get_or, slice_get, slice_set, codes, bytes_eq, if◌then◌else◌}
 use Rattle.std.specs.List.{range_with_len}
 use Rattle.std.specs.Ordering.{int_eq}
 use Rattle.kp_batch.specs.declared.batch.Batch.{Batch}
@@ -27,7 +27,7 @@ use Rattle.kp_log.specs.declared.whim.Whim.{Whim}
 use Rattle.kp_log.specs.BrokerStep.{Answered, answered, error_of}
 use Rattle.kp_log.specs.Log.{Log}
 use Rattle.kp_log.specs.SequenceRule.{Judgement, offered, offered_then, code_told}
-use Rattle.kp_broker.specs.Broker.{Broker, LAST_PRODUCER_ID}
+use Rattle.kp_broker.specs.Broker.{Broker, LAST_PRODUCER_ID, leader_of, leads}
 
 -- ---- error codes, under their names in the protocol guide
 
@@ -40,27 +40,37 @@ UNKNOWN_SERVER_ERROR = negsuc 0
 abbrev pub UNKNOWN_TOPIC_OR_PARTITION : ℤ
 UNKNOWN_TOPIC_OR_PARTITION = pos 3
 
+abbrev pub NOT_LEADER_OR_FOLLOWER : ℤ
+NOT_LEADER_OR_FOLLOWER = pos 6
+
 abbrev pub INVALID_REQUEST : ℤ
 INVALID_REQUEST = pos 42
 
 -- ---- Metadata
 
--- the one broker of the cluster
-abbrev pub NODE_ID : ℤ
-NODE_ID = pos 0
+-- the first node
+abbrev pub CONTROLLER : ℤ
+CONTROLLER = pos 0
 
-abbrev pub node : Broker → Node
-node b = record { node_id = NODE_ID; host = codes "localhost"; port = pos b.port; rack = None }
+-- the node at a place in the list of ports
+abbrev pub node_metadata : List ℕ → ℕ → Node
+node_metadata ports n = record { node_id = pos n; host = codes "127.0.0.1"; port = pos (get_or ports n 0); rack = None }
 
--- it leads each partition and has the one replica
-abbrev pub partition_metadata : ℕ → PartitionMetadata
-partition_metadata p = record {
-  error_code = NO_ERROR;
-  partition = pos p;
-  leader = NODE_ID;
-  replicas = NODE_ID ∷ [];
-  isr = NODE_ID ∷ [];
-}
+-- the nodes upwards
+abbrev pub nodes_metadata : List ℕ → List Node
+nodes_metadata ports = map (node_metadata ports) (range_with_len 0 (length ports))
+
+-- its leader has the one replica
+abbrev pub partition_metadata : Broker → ℕ → PartitionMetadata
+partition_metadata b p =
+    let leader = pos (leader_of b p) in
+    record {
+      error_code = NO_ERROR;
+      partition = pos p;
+      leader = leader;
+      replicas = leader ∷ [];
+      isr = leader ∷ [];
+    }
 
 -- its own topic, the partitions upwards
 abbrev pub own_topic : Broker → TopicMetadata
@@ -68,7 +78,7 @@ own_topic b = record {
   error_code = NO_ERROR;
   name = b.topic;
   is_internal = false;
-  partitions = map partition_metadata (range_with_len 0 (length b.logs));
+  partitions = map (partition_metadata b) (range_with_len 0 (length b.logs));
 }
 
 abbrev pub unknown_topic : List ℕ → TopicMetadata
@@ -89,8 +99,8 @@ topics_metadata b (Some names) = map (topic_metadata b) names
 
 abbrev pub metadata_answer : Broker → MetadataRequest → MetadataResponse
 metadata_answer b r = record {
-  brokers = node b ∷ [];
-  controller_id = NODE_ID;
+  brokers = nodes_metadata b.ports;
+  controller_id = CONTROLLER;
   topics = topics_metadata b r.topics;
 }
 
@@ -177,12 +187,21 @@ abbrev pub offered_by : Option Whim → Log → Result Batch BatchFault → Judg
 offered_by None log batch = offered log batch
 offered_by (Some whim) log batch = offered_then log whim batch
 
--- by its log, if there is one
-abbrev pub taken_by : Option Log → Option Whim → Broker → Part → Taken
-taken_by None whim b part = refused whim UNKNOWN_TOPIC_OR_PARTITION b
-taken_by (Some log) whim b part =
+-- by its log
+abbrev pub stored : Option Whim → Log → Broker → Part → Taken
+stored whim log b part =
     let j = offered_by whim log (batch_at part.records) in
     record { answer = answered j.answer; broker = with_log b part j.log }
+
+-- by no log, since another node leads the partition, whatever the whim
+abbrev pub not_led : Broker → Taken
+not_led b = record { answer = error_of NOT_LEADER_OR_FOLLOWER; broker = b }
+
+-- by its log, if there is one, where the node that is asked leads the partition
+abbrev pub taken_by : Option Log → Option Whim → ℕ → Broker → Part → Taken
+taken_by None whim node b part = refused whim UNKNOWN_TOPIC_OR_PARTITION b
+taken_by (Some log) whim node b part =
+    if leads node b (nat_abs part.partition) then stored whim log b part else not_led b
 
 -- the acks of a request that waits for all replicas
 abbrev pub ALL_REPLICAS : ℤ
@@ -192,15 +211,17 @@ ALL_REPLICAS = negsuc 0
 abbrev pub is_idempotent : ProduceRequest → Bool
 is_idempotent r = is_none r.transactional_id && int_eq r.acks ALL_REPLICAS
 
-abbrev pub taken : Option Whim → ProduceRequest → Broker → Part → Taken
-taken whim r b part =
-    if is_idempotent r then taken_by (log_for b part.topic part.partition) whim b part else refused whim INVALID_REQUEST b
+abbrev pub taken : Option Whim → ℕ → ProduceRequest → Broker → Part → Taken
+taken whim node r b part =
+    if is_idempotent r
+    then taken_by (log_for b part.topic part.partition) whim node b part
+    else refused whim INVALID_REQUEST b
 
 -- ---- all parts, one after the other
 
 -- the broker after some of them
-abbrev pub after_parts : Option Whim → ProduceRequest → Broker → List Part → Broker
-after_parts whim r b parts = fold (λ b part. (taken whim r b part).broker) b parts
+abbrev pub after_parts : Option Whim → ℕ → ProduceRequest → Broker → List Part → Broker
+after_parts whim node r b parts = fold (λ b part. (taken whim node r b part).broker) b parts
 
 -- the records keep their own timestamps
 abbrev pub NO_APPEND_TIME : ℤ
@@ -214,35 +235,36 @@ entry_of partition a = record {
   log_append_time_ms = NO_APPEND_TIME;
 }
 
-abbrev pub part_answer : Option Whim → ProduceRequest → Broker → Part → PartitionProduceResponse
-part_answer whim r b part = entry_of part.partition (taken whim r b part).answer
+abbrev pub part_answer : Option Whim → ℕ → ProduceRequest → Broker → Part → PartitionProduceResponse
+part_answer whim node r b part = entry_of part.partition (taken whim node r b part).answer
 
 -- each by the broker as the parts before it left it
-abbrev pub part_answers : Option Whim → ProduceRequest → Broker → List Part → List PartitionProduceResponse
-part_answers whim r b parts = scan (λ b part. (taken whim r b part).broker) (part_answer whim r) b parts
+abbrev pub part_answers : Option Whim → ℕ → ProduceRequest → Broker → List Part → List PartitionProduceResponse
+part_answers whim node r b parts = scan (λ b part. (taken whim node r b part).broker) (part_answer whim node r) b parts
 
-abbrev pub topic_answer : Option Whim → ProduceRequest → Broker → TopicProduceData → TopicProduceResponse
-topic_answer whim r b t = record { topic = t.topic; partitions = part_answers whim r b (parts_in t) }
+abbrev pub topic_answer : Option Whim → ℕ → ProduceRequest → Broker → TopicProduceData → TopicProduceResponse
+topic_answer whim node r b t = record { topic = t.topic; partitions = part_answers whim node r b (parts_in t) }
 
-abbrev pub topic_answers : Option Whim → ProduceRequest → Broker → List TopicProduceData → List TopicProduceResponse
-topic_answers whim r b topics = scan (λ b t. after_parts whim r b (parts_in t)) (topic_answer whim r) b topics
+abbrev pub topic_answers : Option Whim → ℕ → ProduceRequest → Broker → List TopicProduceData → List TopicProduceResponse
+topic_answers whim node r b topics =
+    scan (λ b t. after_parts whim node r b (parts_in t)) (topic_answer whim node r) b topics
 
-abbrev pub produce_answer : Option Whim → ProduceRequest → Broker → ProduceResponse
-produce_answer whim r b = record { topics = topic_answers whim r b r.topics; throttle_time_ms = pos 0 }
+abbrev pub produce_answer : Option Whim → ℕ → ProduceRequest → Broker → ProduceResponse
+produce_answer whim node r b = record { topics = topic_answers whim node r b r.topics; throttle_time_ms = pos 0 }
 
--- ---- any request
+-- ---- any request, to a node
 
 -- A whim says nothing of a request that has no parts.
-abbrev pub body_answer : Option Whim → Broker → RequestBody → ResponseBody
-body_answer whim b (asked.Produce r) = told.Produce (produce_answer whim r b)
-body_answer whim b (asked.Metadata r) = told.Metadata (metadata_answer b r)
-body_answer whim b (asked.InitProducerId r) = told.InitProducerId (id_answer b r.transactional_id)
+abbrev pub body_answer : Option Whim → ℕ → Broker → RequestBody → ResponseBody
+body_answer whim node b (asked.Produce r) = told.Produce (produce_answer whim node r b)
+body_answer whim node b (asked.Metadata r) = told.Metadata (metadata_answer b r)
+body_answer whim node b (asked.InitProducerId r) = told.InitProducerId (id_answer b r.transactional_id)
 
-abbrev pub answer_to : Option Whim → Broker → Request → Response
-answer_to whim b request = record { correlation = request.correlation; body = body_answer whim b request.body }
+abbrev pub answer_to : Option Whim → ℕ → Broker → Request → Response
+answer_to whim node b request = record { correlation = request.correlation; body = body_answer whim node b request.body }
 
 -- the broker once the answer goes out
-abbrev pub after_answer : Option Whim → Broker → RequestBody → Broker
-after_answer whim b (asked.Produce r) = after_parts whim r b (parts_of r)
-after_answer whim b (asked.Metadata r) = b
-after_answer whim b (asked.InitProducerId r) = after_id b r.transactional_id
+abbrev pub after_answer : Option Whim → ℕ → Broker → RequestBody → Broker
+after_answer whim node b (asked.Produce r) = after_parts whim node r b (parts_of r)
+after_answer whim node b (asked.Metadata r) = b
+after_answer whim node b (asked.InitProducerId r) = after_id b r.transactional_id

@@ -7,8 +7,9 @@ use Rattle.std.specs.BTreeMap.{insert_entry, is_at}
 use Rattle.std.specs.Map.{lookup}
 use Rattle.kp_log.specs.declared.error_code.ErrorCode.{ErrorCode}
 use Rattle.kp_broker.specs.declared.plan.action.Action.{Action}
-use Rattle.kp_broker.specs.declared.plan.action.Action.TheVariants.{DropRequest, DropReply, Repeat, Refuse, Late, HangUp}
+use Rattle.kp_broker.specs.declared.plan.action.Action.TheVariants.{DropRequest, DropReply, Repeat, Refuse, Late, HangUp, Move}
 use Rattle.kp_broker.specs.declared.plan.entry.TheConstants.{MAX_CODE}
+use Rattle.kp_broker.specs.Broker.{NODE_LIMIT}
 use Rattle.kp_broker.specs.declared.plan.fault.PlanFault.{PlanFault}
 use Rattle.kp_broker.specs.declared.plan.fault.PlanFault.TheVariants.{BadPlan, OutOfMemory}
 
@@ -48,6 +49,7 @@ action_text Repeat = codes "repeat"
 action_text (Refuse code) = codes "refuse:" ++ code_text code
 action_text (Late code) = codes "late:" ++ code_text code
 action_text HangUp = codes "hang-up"
+action_text (Move to) = codes "move:" ++ decimal to
 
 abbrev pub entry_text : Entry → List ℕ
 entry_text e = decimal (number_of e) ++ codes "=" ++ action_text (action_of e)
@@ -63,15 +65,21 @@ pub record IsAllowedCode (code : ErrorCode) : Type 0 where
   pub low : pos 1 ≤ℤ code.number
   pub high : code.number ≤ℤ pos MAX_CODE
 
--- the action names a code, and one that it may
-abbrev pub HasCode : Action → Type 0
-HasCode (Refuse code) = IsAllowedCode code
-HasCode (Late code) = IsAllowedCode code
-HasCode action = ⊥
+-- a node that a cluster may have
+abbrev pub IsAllowedNode : ℕ → Type 0
+IsAllowedNode node = node < NODE_LIMIT
+
+-- the action names a code or a node, and one that it may
+abbrev pub HasName : Action → Type 0
+HasName (Refuse code) = IsAllowedCode code
+HasName (Late code) = IsAllowedCode code
+HasName (Move to) = IsAllowedNode to
+HasName action = ⊥
 
 abbrev pub IsAllowedAction : Action → Type 0
 IsAllowedAction (Refuse code) = IsAllowedCode code
 IsAllowedAction (Late code) = IsAllowedCode code
+IsAllowedAction (Move to) = IsAllowedNode to
 IsAllowedAction action = Unit {0}
 
 -- the count of requests stops at the greatest number, which is that of no request

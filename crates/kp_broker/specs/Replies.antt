@@ -1,4 +1,4 @@
--- What is sent back for one frame, as a value.
+-- What a node sends back for one frame, as a value.
 use Rattle.std.specs.Prelude.{◌≡◌, ◌⊎◌, ℕ, List, Option, None, Result, Ok, Err}
 use Rattle.kp_frames.specs.declared.request.Request.{Request}
 use Rattle.kp_frames.specs.Request.{request_at}
@@ -22,14 +22,14 @@ Gives c Stops (Err (fault.Frame refused)) after = c ≡ ended (Refuses refused) 
 Gives c Stops (Err fault.OutOfMemory) after = Stops
 Gives c Stops (Err other) after = ⊥
 
-abbrev pub RepliesOn : Option Whim → Request → Broker → Result Reply BrokerFault → Broker → Type 0
-RepliesOn whim request b result after =
-    Gives (answered whim request b) (StopsWithin whim b request.body after) result after
+abbrev pub RepliesOn : Option Whim → ℕ → Request → Broker → Result Reply BrokerFault → Broker → Type 0
+RepliesOn whim node request b result after =
+    Gives (answered whim node request b) (StopsWithin whim node b request.body after) result after
 
-abbrev pub RepliesBy : Option Action → Request → Broker → Result Reply BrokerFault → Broker → Type 0
-RepliesBy action request b result after =
-    Gives (done_by action request b) (StopsBy action request b after) result after
+abbrev pub RepliesBy : Option Action → ℕ → Request → Broker → Result Reply BrokerFault → Broker → Type 0
+RepliesBy action node request b result after =
+    Gives (done_by action node request b) (StopsBy action node request b after) result after
 
-abbrev pub Replies : Plan → List ℕ → Broker → Result Reply BrokerFault → Broker → Type 0
-Replies plan content b result after =
-    Gives (handled plan b content) ((after ≡ b) ⊎ StopsFor plan b (request_at content) after) result after
+abbrev pub Replies : ℕ → Plan → List ℕ → Broker → Result Reply BrokerFault → Broker → Type 0
+Replies node plan content b result after =
+    Gives (handled node plan b content) ((after ≡ b) ⊎ StopsFor node plan b (request_at content) after) result after

@@ -1,4 +1,4 @@
--- What comes of the frames of a connection, by a plan.
+-- What comes of the frames of a connection to a node, by a plan.
 use Rattle.std.specs.Prelude.{◌≡◌, ◌⊎◌, ℕ, ◌*◌, ◌≤◌, List, [], ◌∷◌, ◌++◌, length, Bool, true, false, Option, Some, None, is_some, Result, Ok, Err, nat_le, if◌then◌else◌}
 use Rattle.kp_frames.specs.declared.fault.FrameFault.{FrameFault}
 use Rattle.kp_frames.specs.declared.fault.FrameFault.TheVariants.{TooLarge}
@@ -14,14 +14,14 @@ use Rattle.kp_log.specs.declared.whim.Whim.TheVariants as whim
 use Rattle.kp_broker.specs.declared.fault.BrokerFault.{BrokerFault}
 use Rattle.kp_broker.specs.declared.fault.BrokerFault.TheVariants.{Frame, Io, OutOfMemory, TooLong}
 use Rattle.kp_broker.specs.declared.plan.action.Action.{Action}
-use Rattle.kp_broker.specs.declared.plan.action.Action.TheVariants.{DropRequest, DropReply, Repeat, Refuse, Late, HangUp}
+use Rattle.kp_broker.specs.declared.plan.action.Action.TheVariants.{DropRequest, DropReply, Repeat, Refuse, Late, HangUp, Move}
 use Rattle.kp_broker.specs.declared.serving.Served.{Served}
 use Rattle.kp_broker.specs.declared.serving.Served.TheVariants.{End, HungUp}
 use Rattle.kp_broker.specs.declared.serving.TheConstants.{READ_LIMIT}
 use Rattle.kp_broker.specs.declared.serving.streams.TheConstants.{PIECE_LIMIT}
 use Rattle.kp_broker.specs.Answering.{StopsWithin, after_unanswered}
 use Rattle.kp_broker.specs.Answers.{answer_to, after_answer}
-use Rattle.kp_broker.specs.Broker.{Broker, counted}
+use Rattle.kp_broker.specs.Broker.{Broker, counted, moved}
 use Rattle.kp_broker.specs.Calls.{Answer, Told, came, gone, reads, AreGood, EndsWith, HasFailed, MetEnd}
 use Rattle.kp_broker.specs.Plan.{Plan, planned}
 
@@ -57,46 +57,47 @@ and_then c next =
 -- ---- one request
 
 -- Its answer as a frame, on a whim or by the rules. One that is too large for a frame ends the connection.
-abbrev pub answered : Option Whim → Request → Broker → Course
-answered whim request b =
-    let content = spelling (answer_to whim b request) in
+abbrev pub answered : Option Whim → ℕ → Request → Broker → Course
+answered whim node request b =
+    let content = spelling (answer_to whim node b request) in
     if nat_le (length content) CONTENT_LIMIT
-    then record { written = frame.spell content; broker = after_answer whim b request.body; ending = None }
-    else ended (Refuses TooLarge) (after_unanswered whim b request.body)
+    then record { written = frame.spell content; broker = after_answer whim node b request.body; ending = None }
+    else ended (Refuses TooLarge) (after_unanswered whim node b request.body)
 
 -- the same, and what is written is lost
 abbrev pub unheard : Course → Course
 unheard c = record c { written = [] }
 
-abbrev pub done_by : Option Action → Request → Broker → Course
-done_by None request b = answered None request b
-done_by (Some DropRequest) request b = silent b
-done_by (Some DropReply) request b = unheard (answered None request b)
-done_by (Some Repeat) request b = and_then (unheard (answered None request b)) (answered None request)
-done_by (Some (Refuse code)) request b = answered (Some (whim.Refuse code)) request b
-done_by (Some (Late code)) request b = answered (Some (whim.Late code)) request b
-done_by (Some HangUp) request b = ended HangsUp b
+abbrev pub done_by : Option Action → ℕ → Request → Broker → Course
+done_by None node request b = answered None node request b
+done_by (Some DropRequest) node request b = silent b
+done_by (Some DropReply) node request b = unheard (answered None node request b)
+done_by (Some Repeat) node request b = and_then (unheard (answered None node request b)) (answered None node request)
+done_by (Some (Refuse code)) node request b = answered (Some (whim.Refuse code)) node request b
+done_by (Some (Late code)) node request b = answered (Some (whim.Late code)) node request b
+done_by (Some HangUp) node request b = ended HangsUp b
+done_by (Some (Move to)) node request b = answered None node request (moved node to b)
 
--- a plan's numbers count Produce requests, whatever connections they came on
+-- a plan's numbers count Produce requests, whatever connections they came on, and to whatever nodes
 abbrev pub action_for : Plan → Broker → RequestBody → Option Action
 action_for plan b (Produce r) = planned plan b.produced
 action_for plan b (Metadata r) = None
 action_for plan b (InitProducerId r) = None
 
 -- by what a frame's content is read as
-abbrev pub done_for : Plan → Broker → Result Request FrameFault → Course
-done_for plan b (Ok request) = done_by (action_for plan b request.body) request (counted request.body b)
-done_for plan b (Err fault) = ended (Refuses fault) b
+abbrev pub done_for : ℕ → Plan → Broker → Result Request FrameFault → Course
+done_for node plan b (Ok request) = done_by (action_for plan b request.body) node request (counted request.body b)
+done_for node plan b (Err fault) = ended (Refuses fault) b
 
-abbrev pub handled : Plan → Broker → List ℕ → Course
-handled plan b content = done_for plan b (request_at content)
+abbrev pub handled : ℕ → Plan → Broker → List ℕ → Course
+handled node plan b content = done_for node plan b (request_at content)
 
 -- ---- many frames
 
 -- each by the broker as those before it left it, until one ends the connection
-abbrev pub served : Plan → Broker → List (List ℕ) → Course
-served plan b [] = silent b
-served plan b (content ∷ contents) = and_then (handled plan b content) (λ after. served plan after contents)
+abbrev pub served : ℕ → Plan → Broker → List (List ℕ) → Course
+served node plan b [] = silent b
+served node plan b (content ∷ contents) = and_then (handled node plan b content) (λ after. served node plan after contents)
 
 -- what stands behind the frames of a connection ends it where it begins with the size of no frame
 abbrev pub behind_frames : Bool → Broker → Course
@@ -104,8 +105,8 @@ behind_frames false b = silent b
 behind_frames true b = ended (Refuses TooLarge) b
 
 -- the bytes that were read on a connection
-abbrev pub heard : Plan → Broker → List ℕ → Course
-heard plan b bytes = and_then (served plan b (stream bytes).frames) (behind_frames (is_faulty bytes))
+abbrev pub heard : ℕ → Plan → Broker → List ℕ → Course
+heard node plan b bytes = and_then (served node plan b (stream bytes).frames) (behind_frames (is_faulty bytes))
 
 -- ---- a connection that broke
 
@@ -121,66 +122,71 @@ pub record IsBehind (c : Course) (Next : List ℕ → Broker → Type 0) (writte
   pub next : Next later after
 
 -- It broke before any more of these frames, within what comes of the next, or behind that.
-abbrev pub Breaks : (Broker → List ℕ → List ℕ → Broker → Type 0) → Plan → Broker → List (List ℕ) → List ℕ → Broker → Type 0
-Breaks Within plan b [] written after = IsStill b written after
-Breaks Within plan b (content ∷ contents) written after =
-    let c = handled plan b content in
+abbrev pub Breaks : (Broker → List ℕ → List ℕ → Broker → Type 0) → ℕ → Plan → Broker → List (List ℕ) → List ℕ → Broker → Type 0
+Breaks Within node plan b [] written after = IsStill b written after
+Breaks Within node plan b (content ∷ contents) written after =
+    let c = handled node plan b content in
     IsStill b written after
-    ⊎ (Within b content written after ⊎ IsBehind c (Breaks Within plan c.broker contents) written after)
+    ⊎ (Within b content written after ⊎ IsBehind c (Breaks Within node plan c.broker contents) written after)
 
 -- The writer failed: the rest of an answer is lost.
-abbrev pub LosesAnswer : Plan → Broker → List ℕ → List ℕ → Broker → Type 0
-LosesAnswer plan b content written after =
-    (lost : List ℕ) × (handled plan b content ≡ record { written = written ++ lost; broker = after; ending = None })
+abbrev pub LosesAnswer : ℕ → Plan → Broker → List ℕ → List ℕ → Broker → Type 0
+LosesAnswer node plan b content written after =
+    (lost : List ℕ) × (handled node plan b content ≡ record { written = written ++ lost; broker = after; ending = None })
 
 -- Memory was refused within an answer, or within the first of two.
-abbrev pub StopsBy : Option Action → Request → Broker → Broker → Type 0
-StopsBy None request b after = StopsWithin None b request.body after
-StopsBy (Some DropRequest) request b after = ⊥
-StopsBy (Some DropReply) request b after = StopsWithin None b request.body after
-StopsBy (Some Repeat) request b after =
-    let first = answered None request b in
-    StopsWithin None b request.body after
-    ⊎ ((first.ending ≡ None) × StopsWithin None first.broker request.body after)
-StopsBy (Some (Refuse code)) request b after = StopsWithin (Some (whim.Refuse code)) b request.body after
-StopsBy (Some (Late code)) request b after = StopsWithin (Some (whim.Late code)) b request.body after
-StopsBy (Some HangUp) request b after = ⊥
+abbrev pub StopsBy : Option Action → ℕ → Request → Broker → Broker → Type 0
+StopsBy None node request b after = StopsWithin None node b request.body after
+StopsBy (Some DropRequest) node request b after = ⊥
+StopsBy (Some DropReply) node request b after = StopsWithin None node b request.body after
+StopsBy (Some Repeat) node request b after =
+    let first = answered None node request b in
+    StopsWithin None node b request.body after
+    ⊎ ((first.ending ≡ None) × StopsWithin None node first.broker request.body after)
+StopsBy (Some (Refuse code)) node request b after = StopsWithin (Some (whim.Refuse code)) node b request.body after
+StopsBy (Some (Late code)) node request b after = StopsWithin (Some (whim.Late code)) node b request.body after
+StopsBy (Some HangUp) node request b after = ⊥
+StopsBy (Some (Move to)) node request b after = StopsWithin None node (moved node to b) request.body after
 
-abbrev pub StopsFor : Plan → Broker → Result Request FrameFault → Broker → Type 0
-StopsFor plan b (Ok request) after =
-    StopsBy (action_for plan b request.body) request (counted request.body b) after
-StopsFor plan b (Err fault) after = ⊥
+abbrev pub StopsFor : ℕ → Plan → Broker → Result Request FrameFault → Broker → Type 0
+StopsFor node plan b (Ok request) after =
+    StopsBy (action_for plan b request.body) node request (counted request.body b) after
+StopsFor node plan b (Err fault) after = ⊥
 
 -- Memory was refused: no answer goes out.
-abbrev pub LosesMemory : Plan → Broker → List ℕ → List ℕ → Broker → Type 0
-LosesMemory plan b content written after = (written ≡ []) × StopsFor plan b (request_at content) after
+abbrev pub LosesMemory : ℕ → Plan → Broker → List ℕ → List ℕ → Broker → Type 0
+LosesMemory node plan b content written after = (written ≡ []) × StopsFor node plan b (request_at content) after
 
 -- ---- a connection
 
 -- what was written, and what became of the broker, by the frames that came
-abbrev pub ServesFrames : Plan → Broker → List (List ℕ) → Result Served BrokerFault → List ℕ → Broker → Type 0
-ServesFrames plan b frames (Ok End) written after =
-    served plan b frames ≡ record { written = written; broker = after; ending = None }
-ServesFrames plan b frames (Ok HungUp) written after =
-    served plan b frames ≡ record { written = written; broker = after; ending = Some HangsUp }
-ServesFrames plan b frames (Err (Frame fault)) written after =
-    served plan b frames ≡ record { written = written; broker = after; ending = Some (Refuses fault) }
-ServesFrames plan b frames (Err Io) written after = Breaks (LosesAnswer plan) plan b frames written after
-ServesFrames plan b frames (Err OutOfMemory) written after = Breaks (LosesMemory plan) plan b frames written after
-ServesFrames plan b frames (Err TooLong) written after = ⊥
+abbrev pub ServesFrames : ℕ → Plan → Broker → List (List ℕ) → Result Served BrokerFault → List ℕ → Broker → Type 0
+ServesFrames node plan b frames (Ok End) written after =
+    served node plan b frames ≡ record { written = written; broker = after; ending = None }
+ServesFrames node plan b frames (Ok HungUp) written after =
+    served node plan b frames ≡ record { written = written; broker = after; ending = Some HangsUp }
+ServesFrames node plan b frames (Err (Frame fault)) written after =
+    served node plan b frames ≡ record { written = written; broker = after; ending = Some (Refuses fault) }
+ServesFrames node plan b frames (Err Io) written after = Breaks (LosesAnswer node plan) node plan b frames written after
+ServesFrames node plan b frames (Err OutOfMemory) written after = Breaks (LosesMemory node plan) node plan b frames written after
+ServesFrames node plan b frames (Err TooLong) written after = ⊥
 
 -- the same by the bytes that were read
+abbrev pub ServesAs : ℕ → Plan → Broker → List ℕ → Result Served BrokerFault → List ℕ → Broker → Type 0
+ServesAs node plan b bytes (Ok End) written after =
+    heard node plan b bytes ≡ record { written = written; broker = after; ending = None }
+ServesAs node plan b bytes (Ok HungUp) written after =
+    heard node plan b bytes ≡ record { written = written; broker = after; ending = Some HangsUp }
+ServesAs node plan b bytes (Err (Frame fault)) written after =
+    heard node plan b bytes ≡ record { written = written; broker = after; ending = Some (Refuses fault) }
+ServesAs node plan b bytes (Err Io) written after = Breaks (LosesAnswer node plan) node plan b (stream bytes).frames written after
+ServesAs node plan b bytes (Err OutOfMemory) written after = Breaks (LosesMemory node plan) node plan b (stream bytes).frames written after
+ServesAs node plan b bytes (Err TooLong) written after =
+    heard node plan b bytes ≡ record { written = written; broker = after; ending = None }
+
+-- the same by node 0
 abbrev pub Serves : Plan → Broker → List ℕ → Result Served BrokerFault → List ℕ → Broker → Type 0
-Serves plan b bytes (Ok End) written after =
-    heard plan b bytes ≡ record { written = written; broker = after; ending = None }
-Serves plan b bytes (Ok HungUp) written after =
-    heard plan b bytes ≡ record { written = written; broker = after; ending = Some HangsUp }
-Serves plan b bytes (Err (Frame fault)) written after =
-    heard plan b bytes ≡ record { written = written; broker = after; ending = Some (Refuses fault) }
-Serves plan b bytes (Err Io) written after = Breaks (LosesAnswer plan) plan b (stream bytes).frames written after
-Serves plan b bytes (Err OutOfMemory) written after = Breaks (LosesMemory plan) plan b (stream bytes).frames written after
-Serves plan b bytes (Err TooLong) written after =
-    heard plan b bytes ≡ record { written = written; broker = after; ending = None }
+Serves plan b bytes result written after = ServesAs 0 plan b bytes result written after
 
 -- ---- the calls on a connection
 
@@ -195,11 +201,15 @@ EndBy (Err TooLong) xs = AreGood xs
 
 -- What came of the bytes that were read, by at most so many reads of at most so many bytes: by all of them, where there
 -- were too many.
-pub record IsServed {C : Type 0} (answers : Told C) (plan : Plan) (before : Broker) (old : C) (result : Result Served BrokerFault) (new : C) (after : Broker) : Type 0 where
+pub record IsServedAs {C : Type 0} (answers : Told C) (node : ℕ) (plan : Plan) (before : Broker) (old : C) (result : Result Served BrokerFault) (new : C) (after : Broker) : Type 0 where
   pub xs : List Answer
   pub told : answers old xs new
   pub end : EndBy result xs
-  pub served : Serves plan before (came xs) result (gone xs) after
+  pub served : ServesAs node plan before (came xs) result (gone xs) after
   pub in_time : reads xs ≤ READ_LIMIT
   pub too_long : result ≡ Err TooLong → reads xs ≡ READ_LIMIT
   pub pieces : length (came xs) ≤ READ_LIMIT * PIECE_LIMIT
+
+-- the same by node 0
+abbrev pub IsServed : {C : Type 0} → Told C → Plan → Broker → C → Result Served BrokerFault → C → Broker → Type 0
+IsServed answers plan before old result new after = IsServedAs answers 0 plan before old result new after

@@ -1,4 +1,5 @@
-//! A loopback broker of one topic: what it answers to each request of a producer (protocol guide; KIP-98).
+//! A loopback broker of one topic: what each node of its cluster answers to a request of a producer (protocol guide;
+//! KIP-98).
 #![tactic(auto)]
 
 mod broker;
@@ -10,4 +11,4 @@ mod serving;
 pub use broker::Broker;
 pub use fault::BrokerFault;
 pub use plan::{Action, FaultPlan, PlanFault};
-pub use serving::{Connection, Plain, Served};
+pub use serving::{Connection, Plain, Reply, Served};

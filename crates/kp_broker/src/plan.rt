@@ -1,4 +1,4 @@
-//! Plans of faults: what a broker does with some of the Produce requests that come to it, in place of answering them.
+//! Plans of faults: what a broker does with some of the Produce requests that come to its nodes, in place of answering them.
 
 ghost use Rattle.std.specs.Prelude.{◌≡◌, [], IfOk, option_map};
 ghost use Rattle.std.specs.Option.{option_copied};

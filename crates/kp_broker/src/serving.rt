@@ -1,8 +1,8 @@
-//! A connection is served: its frames are answered, but where a plan says otherwise.
+//! A connection to a node is served: its frames are answered, but where a plan says otherwise.
 
 ghost use Rattle.std.specs.Prelude.{◌≡◌, []};
 ghost use Rattle.kp_frames.specs.Stream.{stream};
-ghost use Rattle.kp_broker.specs.Serving.{IsServed};
+ghost use Rattle.kp_broker.specs.Serving.{IsServed, IsServedAs};
 ghost use Rattle.kp_broker.specs.Taking.{TakesFrame, TakesFrames, TakesPiece};
 
 mod connection;
@@ -10,7 +10,7 @@ mod replying;
 mod streams;
 
 pub use self::connection::{Connection, Plain};
-use self::replying::Reply;
+pub use self::replying::Reply;
 use self::streams::{empty_piece, read_piece, send};
 use crate::broker::Broker;
 use crate::fault::BrokerFault;
@@ -30,14 +30,26 @@ pub enum Served {
 }
 
 impl Broker {
-    /// Answers the requests that come on a connection, and writes the answers, each by itself. Of a connection that
-    /// breaks, the requests that came before stay answered.
+    /// Answers the requests that come on a connection to the first node, and writes the answers, each by itself. Of a
+    /// connection that breaks, the requests that came before stay answered.
     pub fn serve<C: Connection>(
         &mut self,
         connection: &mut C,
         plan: &FaultPlan,
     ) -> Result<Served, BrokerFault>
         ensures { IsServed C.answers plan.now self.old connection.old result connection.new self.new }
+    {
+        self.serve_as(0, connection, plan)
+    }
+
+    /// The same on a connection to this node. One that is not there leads no partition.
+    pub fn serve_as<C: Connection>(
+        &mut self,
+        node: u16,
+        connection: &mut C,
+        plan: &FaultPlan,
+    ) -> Result<Served, BrokerFault>
+        ensures { IsServedAs C.answers node plan.now self.old connection.old result connection.new self.new }
     {
         let mut splitter = Splitter::new(self.alloc());
         let mut piece = empty_piece(self.alloc())?;
@@ -47,6 +59,7 @@ impl Broker {
                 return Ok(Served::End);
             }
             if let Served::HungUp = self.take_piece(
+                node,
                 &mut splitter,
                 &piece[..len],
                 connection,
@@ -61,17 +74,18 @@ impl Broker {
     /// Takes a piece of the stream, where no frame is at hand, and handles the frames that are whole with it.
     fn take_piece<C: Connection>(
         &mut self,
+        node: u16,
         splitter: &mut Splitter,
         piece: &[u8],
         connection: &mut C,
         plan: &FaultPlan,
     ) -> Result<Served, BrokerFault>
         requires { (stream splitter.old).frames ≡ [] }
-        ensures { TakesPiece C.answers plan.now self.old splitter.old piece.now connection.old result splitter.new
+        ensures { TakesPiece C.answers node plan.now self.old splitter.old piece.now connection.old result splitter.new
             connection.new self.new }
     {
         let fed = splitter.feed(piece);
-        if let Served::HungUp = self.take_frames(splitter, connection, plan)? {
+        if let Served::HungUp = self.take_frames(node, splitter, connection, plan)? {
             return Ok(Served::HungUp);
         }
         fed?;
@@ -81,15 +95,16 @@ impl Broker {
     /// Handles the frames at hand.
     fn take_frames<C: Connection>(
         &mut self,
+        node: u16,
         splitter: &mut Splitter,
         connection: &mut C,
         plan: &FaultPlan,
     ) -> Result<Served, BrokerFault>
-        ensures { TakesFrames C.answers plan.now self.old splitter.old connection.old result splitter.new
+        ensures { TakesFrames C.answers node plan.now self.old splitter.old connection.old result splitter.new
             connection.new self.new }
     {
         while let Some(content) = splitter.next_frame()? {
-            if let Served::HungUp = self.take_frame(content.as_slice(), connection, plan)? {
+            if let Served::HungUp = self.take_frame(node, content.as_slice(), connection, plan)? {
                 return Ok(Served::HungUp);
             }
         }
@@ -99,13 +114,14 @@ impl Broker {
     /// Handles a frame's content, and sends what is sent back.
     fn take_frame<C: Connection>(
         &mut self,
+        node: u16,
         content: &[u8],
         connection: &mut C,
         plan: &FaultPlan,
     ) -> Result<Served, BrokerFault>
-        ensures { TakesFrame C.answers plan.now self.old content.now connection.old result connection.new self.new }
+        ensures { TakesFrame C.answers node plan.now self.old content.now connection.old result connection.new self.new }
     {
-        match self.handle(content, plan)? {
+        match self.handle(node, content, plan)? {
             Reply::Frame(frame) => send(connection, frame.as_slice())?,
             Reply::Nothing => {}
             Reply::HangUp => return Ok(Served::HungUp),

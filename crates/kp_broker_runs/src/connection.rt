@@ -111,10 +111,11 @@ impl Connection {
         Ok(())
     }
 
-    /// How it ends when a broker serves it, where these bytes come, and what was written then.
+    /// How it ends when a broker serves it as this node, where these bytes come, and what was written then.
     pub(crate) fn serve(
         &mut self,
         broker: &mut Broker,
+        node: u16,
         plan: &FaultPlan,
         input: &[u8],
     ) -> (Result<Served, BrokerFault>, Vec<u8>) {
@@ -131,7 +132,7 @@ impl Connection {
                 flush_fails: self.flush_fails,
             },
         };
-        let ended = broker.serve(&mut connection, plan);
+        let ended = broker.serve_as(node, &mut connection, plan);
         let Plain { reader, writer } = connection;
         self.read_calls = reader.calls;
         (ended, writer.held)

@@ -1,4 +1,5 @@
-//! Plays cases of a broker: plans as text, requests that it answers, and connections over memory that it serves.
+//! Plays cases of a broker: plans as text, requests that it answers, and connections over memory that it serves, as one node
+//! or as several.
 #![tactic(auto)]
 
 mod connection;

@@ -4,7 +4,7 @@ use crate::connection::Connection;
 use kp_broker::{Broker, BrokerFault, FaultPlan};
 use kp_cases::{Player, StepFault, Words};
 use kp_frames::FrameFault;
-use std::alloc::{AllocError, Global};
+use std::alloc::{AllocError, AllocFailed, Global};
 use std::mem;
 
 /// The most bytes that the name of a broker's topic has.
@@ -13,14 +13,18 @@ const TOPIC_LIMIT: usize = 249;
 /// The most partitions that it has.
 const PARTITION_LIMIT: u32 = 1024;
 
-/// The port of each broker here.
+/// The most nodes that it has.
+const NODE_LIMIT: u16 = 64;
+
+/// The port of each broker's first node here. Those of the others stand behind it.
 const PORT: u16 = 9092;
 
-/// A broker, its plan, and a connection to it.
+/// A broker, its plan, and a connection to one of its nodes.
 #[derive(Drop)]
 pub(crate) struct Brokers {
     alloc: Global,
     broker: Option<Broker>,
+    node: u16,
     plan: FaultPlan,
     connection: Connection,
     /// What was put, and neither asked nor served.
@@ -38,6 +42,15 @@ fn put_bytes(came: &mut String, bytes: &[u8]) -> Result<(), AllocError> {
         write!(came, "{byte:02x}")?;
     }
     Ok(())
+}
+
+/// The ports of so many nodes.
+fn ports_of(alloc: Global, nodes: u16) -> Result<Vec<u16>, AllocFailed<u16>> {
+    let mut ports = Vec::new(alloc);
+    for node in 0..nodes {
+        ports.push(PORT.saturating_add(node))?;
+    }
+    Ok(ports)
 }
 
 /// How many of a content's proper prefixes are refused as cut short.
@@ -63,6 +76,7 @@ impl Brokers {
         Brokers {
             alloc,
             broker: None,
+            node: 0,
             plan: FaultPlan::none(alloc),
             connection: Connection::new(alloc),
             put: Vec::new(alloc),
@@ -75,6 +89,24 @@ impl Brokers {
             return Err("no broker has such a topic".into());
         }
         self.broker = Some(Broker::new(self.alloc, topic, partitions, PORT)?);
+        Ok(())
+    }
+
+    /// Opens a broker of several nodes.
+    fn open_cluster(&mut self, topic: &str, partitions: u32, nodes: u16) -> Result<(), StepFault> {
+        if topic.len() > TOPIC_LIMIT || partitions == 0 || partitions > PARTITION_LIMIT {
+            return Err("no broker has such a topic".into());
+        }
+        let ports = ports_of(self.alloc, nodes)?;
+        if ports.is_empty() || ports.len() > usize::from(NODE_LIMIT) {
+            return Err("no broker has so many nodes".into());
+        }
+        self.broker = Some(Broker::cluster(self.alloc, topic, partitions, &ports)?);
+        Ok(())
+    }
+
+    fn node(&mut self, words: &mut Words<'_>) -> Result<(), StepFault> {
+        self.node = words.number()?;
         Ok(())
     }
 
@@ -96,11 +128,11 @@ impl Brokers {
         Ok(input)
     }
 
-    /// Asks the broker: how many bytes its answer has.
+    /// Asks the node: how many bytes its answer has.
     fn answer(&mut self, words: &mut Words<'_>, came: &mut String) -> Result<(), StepFault> {
         let content = self.input(words)?;
         let broker = self.broker.as_mut().ok_or("there is no broker")?;
-        match broker.answer(&content) {
+        match broker.answer_as(self.node, &content) {
             Ok(frame) => {
                 write!(came, "{} bytes", frame.len())?;
                 self.told = frame;
@@ -119,7 +151,7 @@ impl Brokers {
     fn serve(&mut self, words: &mut Words<'_>, came: &mut String) -> Result<(), StepFault> {
         let input = self.input(words)?;
         let broker = self.broker.as_mut().ok_or("there is no broker")?;
-        let (ended, written) = self.connection.serve(broker, &self.plan, &input);
+        let (ended, written) = self.connection.serve(broker, self.node, &self.plan, &input);
         self.told = written;
         match ended {
             Ok(served) => write!(came, "{served:?}")?,
@@ -185,6 +217,8 @@ impl Player for Brokers {
     ) -> Result<(), StepFault> {
         match step {
             "broker" => self.open(words.word()?, words.number()?),
+            "cluster" => self.open_cluster(words.word()?, words.number()?, words.number()?),
+            "node" => self.node(words),
             "plan" => self.plan(words.rest(), came),
             "put" => Ok(self.put.extend_from_slice(&words.rest_bytes()?)?),
             "answer" => self.answer(words, came),

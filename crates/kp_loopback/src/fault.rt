@@ -8,7 +8,7 @@ use thiserror::Error;
 /// Why nothing is served, or no longer.
 #[derive(Clone, Copy, Debug, PartialEq, Eq, Error)]
 pub(crate) enum Fault {
-    #[error("usage: TOPIC PARTITIONS PORT [PLAN]: a topic of 1 to 249 bytes, 1 to 1024 partitions")]
+    #[error("usage: TOPIC PARTITIONS PORT[ PORT..] [PLAN]: a topic of 1 to 249 bytes, 1 to 1024 partitions, 1 to 64 ports")]
     Usage,
     #[error("plan fault")]
     Plan,

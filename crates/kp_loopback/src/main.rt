@@ -1,26 +1,29 @@
-//! Serves a loopback broker at a port of 127.0.0.1, one connection after the other, until its input has ended and the
-//! connection that is then open is served. Then it prints its logs, a line for each record: `log PARTITION OFFSET VALUE`.
+//! Serves a loopback broker at ports of 127.0.0.1, a node at each, until its input has ended and the connections that are
+//! then open are served. Then it prints its logs, a line for each record: `log PARTITION OFFSET VALUE`.
 //!
-//! Its words: the topic, the number of its partitions, the port, and, where some of the Produce requests are not to be
-//! answered as they come, a plan of faults. Port 0 takes a free one. Where it listens it says on standard error.
+//! Its words: the topic, the number of its partitions, a port for each node, and, where some of the Produce requests are
+//! not to be answered as they come, a plan of faults. Port 0 takes a free one. Where it listens it says on standard error,
+//! a line for each node. A node serves one connection after the other, while the others serve theirs.
 #![tactic(auto)]
 
 mod fault;
+mod node;
 mod serving;
 mod settings;
 
 use fault::Fault;
 use kp_broker::Broker;
 use kp_text::put_log;
-use serving::{serve_all, wait_for_end};
+use node::{bind_all, ports_of};
+use serving::Service;
 use settings::Settings;
+use std::env;
 use std::io::{self, Write};
-use std::net::{Ipv4Addr, Net, SocketAddr, TcpListener, TcpStream};
+use std::net::{Net, TcpListener, TcpStream};
 use std::process::ExitCode;
 use std::rt::Env;
-use std::sync::atomic::AtomicBool;
-use std::thread::Threads;
-use std::{env, thread};
+use std::sync::Wait;
+use std::thread::{self, Threads};
 
 /// Prints the records of all logs, partition by partition.
 fn print_logs<R: Print + AllocGlobal>(
@@ -43,23 +46,25 @@ fn print_logs<R: Print + AllocGlobal>(
 /// Serves until the input has ended, and prints what was stored.
 fn run<R>(rt: &R) -> Result<(), Fault>
 where
-    R: Env + Input + Print + Eprint + AllocGlobal + Threads + Sync,
+    R: Env + Input + Print + Eprint + AllocGlobal + Threads + Wait + Sync,
     R: Net<Listener = TcpListener, Stream = TcpStream>,
 {
     let words: Vec<String> = env::args(rt)?.collect(rt.alloc())?;
     let settings = Settings::read(rt.alloc(), words.as_slice())?;
-    let listener = TcpListener::bind(rt, SocketAddr::from((Ipv4Addr::LOCALHOST, settings.port)))?;
-    let address = listener.local_addr()?;
-    let mut broker = settings.broker(rt.alloc(), address.port())?;
-    eprintln!(rt; "listening at {address}")?;
-    let ended = AtomicBool::new(false);
-    let (served, _) = thread::join(
-        rt,
-        || serve_all(&listener, &mut broker, &settings.plan, &ended),
-        || wait_for_end(rt, address, &ended),
-    );
-    served?;
-    print_logs(rt, &broker, settings.partitions)
+    let nodes = bind_all(rt, &settings.ports)?;
+    let ports = ports_of(rt.alloc(), &nodes)?;
+    let broker = settings.broker(rt.alloc(), &ports)?;
+    for node in &nodes {
+        let address = node.address;
+        eprintln!(rt; "listening at {address}")?;
+    }
+    let partitions = settings.partitions;
+    let service = Service::new(broker, nodes, settings.plan);
+    let (results, _) = thread::join(rt, || service.serve_all(rt), || service.wait_for_end(rt));
+    for result in results? {
+        result?;
+    }
+    print_logs(rt, &service.into_broker(), partitions)
 }
 
 fn main(rt: HostRuntime) -> ExitCode {

@@ -22,27 +22,31 @@ const ALL_REPLICAS: i16 = -1;
 /// Kafka's UNKNOWN_TOPIC_OR_PARTITION.
 const UNKNOWN_TOPIC_OR_PARTITION: i16 = 3;
 
+/// Kafka's NOT_LEADER_OR_FOLLOWER.
+const NOT_LEADER_OR_FOLLOWER: i16 = 6;
+
 /// Kafka's INVALID_REQUEST.
 const INVALID_REQUEST: i16 = 42;
 
 impl Broker {
-    /// Takes the parts of a request, one after the other, and says what became of them. An `Err` leaves those that were
-    /// taken by then.
+    /// Takes the parts of a request to a node, one after the other, and says what became of them. An `Err` leaves those that
+    /// were taken by then.
     pub(super) fn take_all(
         &mut self,
+        node: u16,
         request: &ProduceRequest,
         whim: Option<Whim>,
     ) -> Result<ProduceResponse, BrokerFault>
         requires { produce_request.Fits request.now }
-        ensures answer { IfOk result (λ response. response ≡ produce_answer whim request.now self.old) }
+        ensures answer { IfOk result (λ response. response ≡ produce_answer whim node request.now self.old) }
         ensures fits { IfOk result produce_response.Fits }
-        ensures after { OnOk result (self.new ≡ after_parts whim request.now self.old (parts_of request.now)) }
+        ensures after { OnOk result (self.new ≡ after_parts whim node request.now self.old (parts_of request.now)) }
         ensures fault { IfErr result (λ fault. fault ≡ BrokerFault.OutOfMemory) }
-        ensures refused { OnErr result (TakesSome whim request.now self.old (parts_of request.now) self.new) }
+        ensures refused { OnErr result (TakesSome whim node request.now self.old (parts_of request.now) self.new) }
     {
         let mut topics = Vec::with_capacity(self.alloc, request.topics.len())?;
         for topic in request.topics.as_slice() {
-            topics.push(self.take_topic(request, topic, whim)?)?;
+            topics.push(self.take_topic(node, request, topic, whim)?)?;
         }
         Ok(ProduceResponse {
             topics: Seq::new(topics),
@@ -53,21 +57,22 @@ impl Broker {
     /// Takes the parts of one topic.
     fn take_topic(
         &mut self,
+        node: u16,
         request: &ProduceRequest,
         topic: &TopicProduceData,
         whim: Option<Whim>,
     ) -> Result<TopicProduceResponse, BrokerFault>
         requires { topic_data.Fits topic.now }
-        ensures answer { IfOk result (λ answer. answer ≡ topic_answer whim request.now self.old topic.now) }
+        ensures answer { IfOk result (λ answer. answer ≡ topic_answer whim node request.now self.old topic.now) }
         ensures fits { IfOk result topic_response.Fits }
-        ensures after { OnOk result (self.new ≡ after_parts whim request.now self.old (parts_in topic.now)) }
+        ensures after { OnOk result (self.new ≡ after_parts whim node request.now self.old (parts_in topic.now)) }
         ensures fault { IfErr result (λ fault. fault ≡ BrokerFault.OutOfMemory) }
-        ensures refused { OnErr result (TakesSome whim request.now self.old (parts_in topic.now) self.new) }
+        ensures refused { OnErr result (TakesSome whim node request.now self.old (parts_in topic.now) self.new) }
     {
         let name = Text::from_str(self.alloc, topic.topic.as_str())?;
         let mut partitions = Vec::with_capacity(self.alloc, topic.partitions.len())?;
         for part in topic.partitions.as_slice() {
-            partitions.push(self.take_part(request, &topic.topic, part, whim)?)?;
+            partitions.push(self.take_part(node, request, &topic.topic, part, whim)?)?;
         }
         Ok(TopicProduceResponse {
             topic: name,
@@ -75,19 +80,20 @@ impl Broker {
         })
     }
 
-    /// Takes one part: it is offered to its log, where the request may be and the log is there.
+    /// Takes one part: it is offered to its log, where the request may be, the log is there and the node leads it.
     fn take_part(
         &mut self,
+        node: u16,
         request: &ProduceRequest,
         topic: &Text,
         part: &PartitionProduceData,
         whim: Option<Whim>,
     ) -> Result<PartitionProduceResponse, LogFault>
         ensures answer { IfOk result (λ entry.
-            entry ≡ part_answer whim request.now self.old (part_in topic.now part.now)) }
+            entry ≡ part_answer whim node request.now self.old (part_in topic.now part.now)) }
         ensures fits { IfOk result partition_response.Fits }
         ensures after { OnOk result (self.new ≡
-            (taken whim request.now self.old (part_in topic.now part.now)).broker) }
+            (taken whim node request.now self.old (part_in topic.now part.now)).broker) }
         ensures refused { OnErr result (self.new ≡ self.old) }
     {
         if !is_idempotent(request) {
@@ -96,6 +102,9 @@ impl Broker {
         let Some(place) = self.place_of(topic, part.partition) else {
             return Ok(refused(part.partition, whim, UNKNOWN_TOPIC_OR_PARTITION));
         };
+        if !self.leads(node, place) {
+            return Ok(entry_of(part.partition, NOT_LEADER_OR_FOLLOWER, -1));
+        }
         let log = &mut self.logs[place];
         let answer = offer_to(log, part.records.as_slice(), whim)?;
         Ok(entry_by(part.partition, answer))

@@ -1,8 +1,10 @@
-//! What a broker says of itself and its topic.
+//! What a broker says of its nodes and its topic.
 
-ghost use Rattle.std.specs.Prelude.{◌≡◌, ◌<◌, ◌^◌, ◌∷◌, [], map, pos, IfOk};
+ghost use Rattle.std.specs.Prelude.{◌≡◌, ◌<◌, ◌≤◌, ◌∷◌, [], length, map, IfOk};
+ghost use Rattle.std.specs.List.{AllByRecursion};
+ghost use Rattle.kp_broker.specs.Broker.{NODE_LIMIT};
 ghost use Rattle.kp_frames.specs.Metadata.{broker, metadata_request, metadata_response};
-ghost use Rattle.kp_broker.specs.Answers.{metadata_answer, own_topic, node, partition_metadata, topic_metadata, topics_metadata, unknown_topic};
+ghost use Rattle.kp_broker.specs.Answers.{metadata_answer, node_metadata, nodes_metadata, own_topic, partition_metadata, topic_metadata, topics_metadata, unknown_topic};
 
 use crate::broker::Broker;
 use kp_frames::{
@@ -11,11 +13,11 @@ use kp_frames::{
 use kp_wire::{Seq, Text};
 use std::alloc::{AllocError, Global};
 
-/// The host on which a loopback broker listens.
-const HOST: &str = "localhost";
+/// The host on which the nodes of a loopback broker listen.
+const HOST: &str = "127.0.0.1";
 
-/// The broker's number in its cluster.
-const NODE_ID: i32 = 0;
+/// The first node.
+const CONTROLLER: i32 = 0;
 
 /// Kafka's UNKNOWN_TOPIC_OR_PARTITION.
 const UNKNOWN_TOPIC_OR_PARTITION: i16 = 3;
@@ -28,21 +30,9 @@ impl Broker {
         ensures fits { IfOk result metadata_response.Fits }
     {
         Ok(MetadataResponse {
-            brokers: one(self.alloc, self.node()?)?,
-            controller_id: NODE_ID,
+            brokers: describe_nodes(self.alloc, &self.ports)?,
+            controller_id: CONTROLLER,
             topics: self.describe_topics(&request.topics)?,
-        })
-    }
-
-    fn node(&self) -> Result<Node, AllocError>
-        ensures answer { IfOk result (λ n. n ≡ node self.now) }
-        ensures fits { IfOk result broker.Fits }
-    {
-        Ok(Node {
-            node_id: NODE_ID,
-            host: Text::from_str(self.alloc, HOST)?,
-            port: i32::from(self.port),
-            rack: None,
         })
     }
 
@@ -84,7 +74,7 @@ impl Broker {
     {
         let mut partitions = Vec::with_capacity(self.alloc, self.logs.len())?;
         for partition in 0..self.logs.len() {
-            partitions.push(partition_metadata(self.alloc, partition as u32)?)?;
+            partitions.push(self.describe_partition(partition)?)?;
         }
         Ok(TopicMetadata {
             error_code: 0,
@@ -93,19 +83,47 @@ impl Broker {
             partitions: Seq::new(partitions),
         })
     }
+
+    /// A partition whose leader has the one replica.
+    fn describe_partition(&self, partition: usize) -> Result<PartitionMetadata, AllocError>
+        requires { partition < length self.now.logs }
+        ensures { IfOk result (λ m. m ≡ partition_metadata self.now partition) }
+    {
+        let leader = i32::from(self.leaders[partition]);
+        Ok(PartitionMetadata {
+            error_code: 0,
+            partition: partition as i32,
+            leader,
+            replicas: one(self.alloc, leader)?,
+            isr: one(self.alloc, leader)?,
+        })
+    }
 }
 
-/// A partition that the broker leads, with the one replica.
-fn partition_metadata(alloc: Global, partition: u32) -> Result<PartitionMetadata, AllocError>
-    requires { partition < 2 ^ 31 }
-    ensures { IfOk result (λ m. m ≡ partition_metadata partition) }
+/// The nodes that listen at these ports.
+fn describe_nodes(alloc: Global, ports: &[u16]) -> Result<Seq<Node>, AllocError>
+    requires { length ports.now ≤ NODE_LIMIT }
+    ensures answer { IfOk result (λ nodes. nodes ≡ nodes_metadata ports.now) }
+    ensures fits { IfOk result (λ nodes. AllByRecursion broker.Fits nodes) }
 {
-    Ok(PartitionMetadata {
-        error_code: 0,
-        partition: partition as i32,
-        leader: NODE_ID,
-        replicas: one(alloc, NODE_ID)?,
-        isr: one(alloc, NODE_ID)?,
+    let mut nodes = Vec::with_capacity(alloc, ports.len())?;
+    for node in 0..ports.len() {
+        nodes.push(describe_node(alloc, ports, node)?)?;
+    }
+    Ok(Seq::new(nodes))
+}
+
+fn describe_node(alloc: Global, ports: &[u16], node: usize) -> Result<Node, AllocError>
+    requires there { node < length ports.now }
+    requires few { length ports.now ≤ NODE_LIMIT }
+    ensures answer { IfOk result (λ n. n ≡ node_metadata ports.now node) }
+    ensures fits { IfOk result broker.Fits }
+{
+    Ok(Node {
+        node_id: node as i32,
+        host: Text::from_str(alloc, HOST)?,
+        port: i32::from(ports[node]),
+        rack: None,
     })
 }
 

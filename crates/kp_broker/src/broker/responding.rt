@@ -12,20 +12,21 @@ use kp_log::Whim;
 use std::alloc::Global;
 
 impl Broker {
-    /// The frame of the answer to a request, on a whim or by the rules.
+    /// The frame of a node's answer to a request, on a whim or by the rules.
     pub(crate) fn respond(
         &mut self,
+        node: u16,
         request: &Request,
         whim: Option<Whim>,
     ) -> Result<Vec<u8>, BrokerFault>
         requires { FitsRequest request.now }
-        ensures { Responds (λ bytes. bytes.items) whim self.old request.now result self.new }
+        ensures { Responds (λ bytes. bytes.items) whim node self.old request.now result self.new }
     {
         let alloc = self.alloc;
         let correlation = request.correlation;
         match &request.body {
             RequestBody::Produce(produce) => {
-                let response = self.take_all(produce, whim)?;
+                let response = self.take_all(node, produce, whim)?;
                 frame_of(alloc, correlation, ResponseBody::Produce(response))
             }
             RequestBody::Metadata(metadata) => {

@@ -2,7 +2,7 @@
 
 use kp_log::ErrorCode;
 
-/// What is done with a Produce request that isn't answered as any other.
+/// What is done with a Produce request that isn't answered as any other, or not at once.
 #[derive(Clone, Copy, Debug, PartialEq, Eq)]
 pub enum Action {
     /// It is lost: nobody looks at it, and nothing is answered.
@@ -17,4 +17,6 @@ pub enum Action {
     Late(ErrorCode),
     /// The connection ends before anybody looks at it.
     HangUp,
+    /// All that the node leads that is asked goes to this one before it is looked at, where the cluster has such a node.
+    Move(u16),
 }

@@ -1,7 +1,7 @@
 //! One entry of a plan, read from its text.
 
 ghost use Rattle.std.specs.Prelude.{◌≡◌, ◌≢◌, ◌<◌, ◌^◌, ℕ, MatchOption};
-ghost use Rattle.kp_broker.specs.Plan.{SpelledBy, IsAllowed, IsAllowedAction, IsAllowedCode, HasCode, action_text, code_text, entry_text};
+ghost use Rattle.kp_broker.specs.Plan.{SpelledBy, IsAllowed, IsAllowedAction, IsAllowedCode, IsAllowedNode, HasName, action_text, code_text, entry_text};
 ghost use Rattle.std.specs.Fmt.{decimal};
 
 use super::Action;
@@ -9,6 +9,9 @@ use kp_log::ErrorCode;
 
 /// The greatest code that a plan may name.
 const MAX_CODE: u64 = 99;
+
+/// The greatest node that a cluster may have.
+const MAX_NODE: u64 = 63;
 
 /// A number in decimal digits, with no sign and no leading zero but `0` itself.
 fn number_of(text: &str) -> Option<u64>
@@ -33,15 +36,25 @@ fn code_of(text: &str) -> Option<ErrorCode>
     ErrorCode::new(code as i16)
 }
 
-/// An action that names a code.
-fn coded_action_of(text: &str) -> Option<Action>
-    ensures { SpelledBy HasCode action_text text.now result }
+fn node_of(text: &str) -> Option<u16>
+    ensures { SpelledBy IsAllowedNode decimal text.now result }
 {
-    let (word, code) = text.split_once(':')?;
-    let code = code_of(code)?;
+    let node = number_of(text)?;
+    if node > MAX_NODE {
+        return None;
+    }
+    Some(node as u16)
+}
+
+/// An action that names a code or a node.
+fn named_action_of(text: &str) -> Option<Action>
+    ensures { SpelledBy HasName action_text text.now result }
+{
+    let (word, name) = text.split_once(':')?;
     match word {
-        "refuse" => Some(Action::Refuse(code)),
-        "late" => Some(Action::Late(code)),
+        "refuse" => Some(Action::Refuse(code_of(name)?)),
+        "late" => Some(Action::Late(code_of(name)?)),
+        "move" => Some(Action::Move(node_of(name)?)),
         _ => None,
     }
 }
@@ -54,7 +67,7 @@ fn action_of(text: &str) -> Option<Action>
         "drop-reply" => Some(Action::DropReply),
         "repeat" => Some(Action::Repeat),
         "hang-up" => Some(Action::HangUp),
-        _ => coded_action_of(text),
+        _ => named_action_of(text),
     }
 }
 

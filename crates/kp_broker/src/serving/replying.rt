@@ -1,4 +1,4 @@
-//! One frame: what is done with the request in it, and what is sent back.
+//! One frame that comes to a node: what is done with the request in it, and what is sent back.
 
 ghost use Rattle.std.specs.Prelude.{◌≡◌, Some};
 ghost use Rattle.kp_frames.specs.Request.{FitsRequest};
@@ -13,7 +13,7 @@ use kp_log::Whim;
 
 /// What is sent back.
 #[derive(Debug, Drop)]
-pub(crate) enum Reply {
+pub enum Reply {
     /// The frame of an answer.
     Frame(Vec<u8>),
     Nothing,
@@ -22,14 +22,19 @@ pub(crate) enum Reply {
 }
 
 impl Broker {
-    /// Handles a frame's content, by the rules or by the plan.
-    pub(super) fn handle(&mut self, content: &[u8], plan: &FaultPlan) -> Result<Reply, BrokerFault>
-        ensures { Replies plan.now content.now self.old result self.new }
+    /// Handles a frame's content as this node, by the rules or by the plan. One that is not there leads no partition.
+    pub fn handle(
+        &mut self,
+        node: u16,
+        content: &[u8],
+        plan: &FaultPlan,
+    ) -> Result<Reply, BrokerFault>
+        ensures { Replies node plan.now content.now self.old result self.new }
     {
         let request = read_request(self.alloc(), content)?;
         let action = self.planned(&request.body, plan);
         self.count(&request.body);
-        self.act(&request, action)
+        self.act(node, &request, action)
     }
 
     /// What the plan says of the next request, if that is this one.
@@ -43,38 +48,63 @@ impl Broker {
     }
 
     /// Answers a request that was counted, or does what the plan says.
-    fn act(&mut self, request: &Request, action: Option<Action>) -> Result<Reply, BrokerFault>
+    fn act(
+        &mut self,
+        node: u16,
+        request: &Request,
+        action: Option<Action>,
+    ) -> Result<Reply, BrokerFault>
         requires { FitsRequest request.now }
-        ensures { RepliesBy action request.now self.old result self.new }
+        ensures { RepliesBy action node request.now self.old result self.new }
     {
         match action {
-            None => self.reply(request, None),
+            None => self.reply(node, request, None),
             Some(Action::DropRequest) => Ok(Reply::Nothing),
             Some(Action::DropReply) => {
-                self.respond(request, None)?;
+                self.respond(node, request, None)?;
                 Ok(Reply::Nothing)
             }
-            Some(Action::Repeat) => self.reply_to_repeat(request),
-            Some(Action::Refuse(code)) => self.reply(request, Some(Whim::Refuse(code))),
-            Some(Action::Late(code)) => self.reply(request, Some(Whim::Late(code))),
+            Some(Action::Repeat) => self.reply_to_repeat(node, request),
+            Some(Action::Refuse(code)) => self.reply(node, request, Some(Whim::Refuse(code))),
+            Some(Action::Late(code)) => self.reply(node, request, Some(Whim::Late(code))),
             Some(Action::HangUp) => Ok(Reply::HangUp),
+            Some(Action::Move(to)) => self.reply_elsewhere(node, request, to),
         }
     }
 
     /// Answers a request twice; the first answer is lost.
-    fn reply_to_repeat(&mut self, request: &Request) -> Result<Reply, BrokerFault>
+    fn reply_to_repeat(&mut self, node: u16, request: &Request) -> Result<Reply, BrokerFault>
         requires { FitsRequest request.now }
-        ensures { RepliesBy (Some Action.Repeat) request.now self.old result self.new }
+        ensures { RepliesBy (Some Action.Repeat) node request.now self.old result self.new }
     {
-        self.respond(request, None)?;
-        self.reply(request, None)
+        self.respond(node, request, None)?;
+        self.reply(node, request, None)
+    }
+
+    /// Answers a request once another node leads what this one led.
+    fn reply_elsewhere(
+        &mut self,
+        node: u16,
+        request: &Request,
+        to: u16,
+    ) -> Result<Reply, BrokerFault>
+        requires { FitsRequest request.now }
+        ensures { RepliesBy (Some (Action.Move to)) node request.now self.old result self.new }
+    {
+        self.move_lead(node, to);
+        self.reply(node, request, None)
     }
 
     /// Answers a request, on a whim or by the rules.
-    fn reply(&mut self, request: &Request, whim: Option<Whim>) -> Result<Reply, BrokerFault>
+    fn reply(
+        &mut self,
+        node: u16,
+        request: &Request,
+        whim: Option<Whim>,
+    ) -> Result<Reply, BrokerFault>
         requires { FitsRequest request.now }
-        ensures { RepliesOn whim request.now self.old result self.new }
+        ensures { RepliesOn whim node request.now self.old result self.new }
     {
-        Ok(Reply::Frame(self.respond(request, whim)?))
+        Ok(Reply::Frame(self.respond(node, request, whim)?))
     }
 }

@@ -6,5 +6,5 @@ use Rattle.kp_broker.proofs.broker.Broker.own_topic.Goals as goal
 pub loop-partition-preserved : goal.loop-partition-preserved
 loop-partition-preserved c =
     let k = c.loop-partition.partition in
-    let more = map-range_with_len_more partition_metadata 0 k k (omega arith) in
-    cc (c.in_ok-push.ensures.items, c.in_ok-partition_metadata.ensures)
+    let more = map-range_with_len_more (partition_metadata c.args.self.now) 0 k k (omega arith) in
+    cc (c.in_ok-push.ensures.items, c.in_ok-describe_partition.ensures)
