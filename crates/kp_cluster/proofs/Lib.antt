@@ -1,0 +1,6 @@
+pub mod SlotLemmas
+pub mod LearningLemmas
+pub mod ClusterLemmas
+pub mod PauseLemmas
+pub mod IdLemmas
+pub mod DueLemmas
