@@ -1,0 +1,13 @@
+pub mod Sound
+pub mod Producer
+pub mod Lines
+pub mod Going
+pub mod Connecting
+pub mod Sending
+pub mod Asking
+pub mod Taking
+pub mod Hearing
+pub mod Ticking
+pub mod Ending
+pub mod Due
+pub mod Seeing
