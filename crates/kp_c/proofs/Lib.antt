@@ -1,0 +1,5 @@
+mod AsBox
+mod ReportLemmas
+mod BatchLemmas
+mod HeaderLemmas
+mod AddressLemmas

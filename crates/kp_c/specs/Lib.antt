@@ -1,0 +1,9 @@
+pub mod Held
+pub mod Calls
+pub mod Values
+pub mod Addresses
+pub mod Making
+pub mod Connections
+pub mod Ending
+pub mod Records
+pub mod Sending
