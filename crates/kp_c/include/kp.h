@@ -17,7 +17,7 @@
  * - A bool is false or true.
  *
  * What it may rely on: every call returns, whatever it is given. A call on a producer that is KP_NONE, or was freed, changes
- * nothing and gives KP_NO_PRODUCER, or else what stands beside it. A call that is refused changes nothing, but where it says so.
+ * nothing and gives KP_NO_PRODUCER, or an argument's fault, or else what stands beside it. A call that is refused changes nothing, but where it says so.
  *
  * A loop: while there are actions, kp_producer_next_action, and connect or close; kp_producer_send what there is to send; for
  * each connection, write what kp_producer_take gives, and kp_producer_feed what was read; kp_producer_tick;
@@ -102,7 +102,7 @@ enum kp_status {
 
     /* kp_producer_send, kp_producer_send_batch: of these the first that applies */
     KP_CLOSED = 3,
-    KP_NOT_READY = 4,            /* no broker has said hello yet */
+    KP_NOT_READY = 4,            /* no broker has given a producer id yet */
     KP_NO_PARTITION = 5,
     KP_TOO_LARGE = 6,
     KP_BUFFER_FULL = 7,          /* with it, the records would take more than buffer_memory: send it again once there are reports */
@@ -145,7 +145,7 @@ enum kp_status {
 
 /* Makes a producer of a topic. One that the handle had is freed, but only where KP_OK is given.
  * client: the name in each request, for the brokers' logs; may be empty. addresses: "host:port,host:port", of which the last
- * colon of each parts host and port; ports are 1 to 65535. seed: spreads the waits between connections; any number, best
+ * colon of each parts host and port; ports are 1 to 65535, and an IPv6 host has no brackets. seed: spreads the waits between connections; any number, best
  * another one in each process. */
 int32_t kp_producer_new(kp_producer *, const kp_config *, const uint8_t *topic, size_t topic_len, const uint8_t *client,
                         size_t client_len, const uint8_t *addresses, size_t addresses_len, uint64_t seed, uint64_t now);
@@ -167,7 +167,8 @@ int32_t kp_producer_next_action(kp_producer *, uint64_t now, kp_action *);
  * KP_NO_NODE; KP_NO_ROOM: it has more than host_room bytes. Nothing changes. */
 int32_t kp_producer_address(kp_producer *, uint32_t node, uint8_t *host, size_t host_room, size_t *host_len, uint16_t *port);
 
-/* The connection to the node is open. Where there was one, that is lost. KP_NO_NODE, KP_OUT_OF_MEMORY: close it. */
+/* The connection to the node is open. Where there was one, that is lost. KP_NO_NODE, KP_OUT_OF_MEMORY: close it, and call
+ * kp_producer_lost. */
 int32_t kp_producer_connected(kp_producer *, uint32_t node, uint64_t now);
 
 /* There is no connection to the node any more, by whoever closed it, or it could not be made. What was in flight is sent again. */
@@ -175,7 +176,8 @@ int32_t kp_producer_lost(kp_producer *, uint32_t node, uint64_t now);
 
 /* Takes bytes that are to be written to the node's connection: they are in the front of the room, and count says how many.
  * They count as written: keep what the socket does not take yet, or call kp_producer_lost. Call it until count is 0, which it
- * also is where the call is refused: then the connection is as it was. */
+ * also is where the call is refused: then the connection is as it was. KP_OUT_OF_MEMORY: call it again after a moment, of
+ * which kp_producer_next_due does not tell. KP_CORRELATION_SPENT: nothing goes out any more; end it, and make another one. */
 int32_t kp_producer_take(kp_producer *, uint32_t node, uint64_t now, uint8_t *room, size_t room_len, size_t *count);
 
 /* Hears bytes that were read from the node's connection, in whatever pieces. Where it is refused but for KP_NO_CONNECTION, the
