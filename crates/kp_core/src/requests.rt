@@ -222,13 +222,16 @@ pub(crate) fn keep_batches(requests: &mut Vec<Request>)
     requests.retain(|request| !request.asks_for_id());
 }
 
-/// When the first of the requests times out.
-pub(crate) fn earliest_timeout(requests: &[Request], config: &Config) -> Option<u64>
-    ensures { result ≡ earliest (map (λ r. r.sent + config.now.request_timeout_ms) requests.now) }
+/// When the first of the requests times out, of those moments from this one on.
+pub(crate) fn earliest_timeout(requests: &[Request], config: &Config, from: u64) -> Option<u64>
+    ensures { result ≡ earliest from (map (λ r. r.sent + config.now.request_timeout_ms) requests.now) }
 {
     let mut earliest = None;
     for request in requests {
-        earliest = sooner(earliest, moment(request.sent(), config.request_timeout_ms));
+        earliest = sooner(
+            earliest,
+            moment(request.sent(), config.request_timeout_ms, from),
+        );
     }
     earliest
 }

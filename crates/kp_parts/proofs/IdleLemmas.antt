@@ -43,6 +43,6 @@ idle_sends_nothing c flags now t e = let parts = idle_parts t e in rw (parts.0, 
     by_fence true = refl
     by_fence false = refl
 
-pub idle_awaits_nothing : (c : Config) (t : Partition) → is_idle t ≡ true → earliest (partition_moments c t) ≡ None
+pub idle_awaits_nothing : (from : ℕ) (c : Config) (t : Partition) → is_idle t ≡ true → earliest from (partition_moments c t) ≡ None
 unfolding partition_moments
-idle_awaits_nothing c t e = let parts = idle_parts t e in rw (parts.0, parts.1) refl
+idle_awaits_nothing from c t e = let parts = idle_parts t e in rw (parts.0, parts.1) refl

@@ -25,20 +25,27 @@ reduce_min-append : (xs ys : List ℕ) → reduce min (xs ++ ys) ≡ sooner (red
 reduce_min-append [] ys = refl
 reduce_min-append (x ∷ xs) ys = fold_min-append x xs ys
 
-pub earliest-append : (xs ys : List ℕ) → earliest (xs ++ ys) ≡ sooner (earliest xs) (earliest ys)
-earliest-append xs ys = ap (reduce min) (filter-append comes xs ys) ∙ reduce_min-append (filter comes xs) (filter comes ys)
+pub earliest-append : (from : ℕ) (xs ys : List ℕ) → earliest from (xs ++ ys) ≡ sooner (earliest from xs) (earliest from ys)
+earliest-append from xs ys =
+    ap (reduce min) (filter-append (comes from) xs ys) ∙ reduce_min-append (filter (comes from) xs) (filter (comes from) ys)
 
-pub earliest-one : (n : ℕ) → n < 2 ^ 64 → earliest (n ∷ []) ≡ Some n
-earliest-one n lt = let e : comes n ≡ true = comes-so n lt in rw e refl
+pub earliest-one : (from n : ℕ) → from ≤ n → n < 2 ^ 64 → earliest from (n ∷ []) ≡ Some n
+earliest-one from n le lt = let e : comes from n ≡ true = comes-so from n le lt in rw e refl
   where
-    comes-so : (m : ℕ) → m < 2 ^ 64 → comes m ≡ true
-    comes-so m l = grind (arith, nat_tests)
+    comes-so : (k m : ℕ) → k ≤ m → m < 2 ^ 64 → comes k m ≡ true
+    comes-so k m l lt = grind (arith, nat_tests)
 
-pub earliest-none : (n : ℕ) → 2 ^ 64 ≤ n → earliest (n ∷ []) ≡ None
-earliest-none n le = let e : comes n ≡ false = comes-not n le in rw e refl
+pub earliest-past : (from n : ℕ) → n < from → earliest from (n ∷ []) ≡ None
+earliest-past from n lt = let e : comes from n ≡ false = comes-not from n lt in rw e refl
   where
-    comes-not : (m : ℕ) → 2 ^ 64 ≤ m → comes m ≡ false
-    comes-not m l = grind (arith, nat_tests)
+    comes-not : (k m : ℕ) → m < k → comes k m ≡ false
+    comes-not k m l = grind (arith, nat_tests)
+
+pub earliest-none : (from n : ℕ) → 2 ^ 64 ≤ n → earliest from (n ∷ []) ≡ None
+earliest-none from n le = let e : comes from n ≡ false = comes-not from n le in rw e refl
+  where
+    comes-not : (k m : ℕ) → 2 ^ 64 ≤ m → comes k m ≡ false
+    comes-not k m l = grind (arith, nat_tests)
 
 -- the deadlines of open batches
 abbrev deadlines : Config → List Open → List ℕ
@@ -49,15 +56,15 @@ pub partition_moments-is : (c : Config) (t : Partition)
 unfolding partition_moments
 partition_moments-is c t = refl
 
-pub earliest-parts : (c : Config) (t : Partition) (a b d : Option ℕ)
-    → a ≡ earliest (map (λ o. o.begun + c.delivery_timeout_ms) t.open_batches)
-    → b ≡ earliest (front_moments c t.queue)
-    → d ≡ earliest (retry_moments c (lowest_waiting t))
-    → sooner (sooner a b) d ≡ earliest (partition_moments c t)
-earliest-parts c t a b d e f g =
+pub earliest-parts : (from : ℕ) (c : Config) (t : Partition) (a b d : Option ℕ)
+    → a ≡ earliest from (map (λ o. o.begun + c.delivery_timeout_ms) t.open_batches)
+    → b ≡ earliest from (front_moments c t.queue)
+    → d ≡ earliest from (retry_moments c (lowest_waiting t))
+    → sooner (sooner a b) d ≡ earliest from (partition_moments c t)
+earliest-parts from c t a b d e f g =
     ap (λ (z : Option ℕ). sooner (sooner z b) d) e
-    ∙ ap (λ (z : Option ℕ). sooner (sooner (earliest (deadlines c t.open_batches)) z) d) f
-    ∙ ap (λ (z : Option ℕ). sooner z d) (sym (earliest-append (deadlines c t.open_batches) (front_moments c t.queue)))
-    ∙ ap (sooner (earliest (deadlines c t.open_batches ++ front_moments c t.queue))) g
-    ∙ sym (earliest-append (deadlines c t.open_batches ++ front_moments c t.queue) (retry_moments c (lowest_waiting t)))
-    ∙ ap earliest (sym (partition_moments-is c t))
+    ∙ ap (λ (z : Option ℕ). sooner (sooner (earliest from (deadlines c t.open_batches)) z) d) f
+    ∙ ap (λ (z : Option ℕ). sooner z d) (sym (earliest-append from (deadlines c t.open_batches) (front_moments c t.queue)))
+    ∙ ap (sooner (earliest from (deadlines c t.open_batches ++ front_moments c t.queue))) g
+    ∙ sym (earliest-append from (deadlines c t.open_batches ++ front_moments c t.queue) (retry_moments c (lowest_waiting t)))
+    ∙ ap (earliest from) (sym (partition_moments-is c t))

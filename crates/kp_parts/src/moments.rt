@@ -1,4 +1,4 @@
-//! Moments: which are over, and which come, being of 64 bits.
+//! Moments: which are over, and which come.
 
 ghost use Rattle.std.specs.Prelude.{◌≡◌, ◌+◌, ◌∷◌, []};
 ghost use Rattle.kp_accum.specs.Ready.{is_over};
@@ -14,11 +14,11 @@ pub fn is_over(since: u64, wait: u64, now: u64) -> bool
     since <= now && wait <= now - since
 }
 
-/// So long after that moment, where that comes.
-pub fn moment(since: u64, wait: u64) -> Option<u64>
-    ensures { result ≡ earliest ((since + wait) ∷ []) }
+/// So long after that moment, where that comes: not before `from`, and in 64 bits.
+pub fn moment(since: u64, wait: u64, from: u64) -> Option<u64>
+    ensures { result ≡ earliest from ((since + wait) ∷ []) }
 {
-    since.checked_add(wait)
+    since.checked_add(wait).filter(|at| *at >= from)
 }
 
 /// The sooner of two moments; none is later than any.

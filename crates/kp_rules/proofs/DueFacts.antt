@@ -3,7 +3,7 @@ use Rattle.std.proofs.Common.{◌≡◌, Some, None, refl}
 use Rattle.kp_accum.specs.Config.{default_config}
 use Rattle.kp_accum.specs.declared.config.Config.{Config}
 use Rattle.kp_rules.specs.Appending.{append_step}
-use Rattle.kp_rules.specs.Due.{next_due}
+use Rattle.kp_rules.specs.Due.{next_due, next_due_from}
 use Rattle.kp_rules.specs.Opening.{new_core}
 use Rattle.kp_rules.specs.Records.{Core}
 use Rattle.kp_rules.specs.Dropping.{disconnect_step}
@@ -23,6 +23,10 @@ lingering = (append_step (item 0 0 97) (new_core lingers names 1 1 1000 2)).afte
 pub a_batch_is_due_when_it_has_lingered : next_due lingering ≡ Some 5
 unfolding evaluated
 a_batch_is_due_when_it_has_lingered = refl
+
+pub what_was_due_before_is_left_out : next_due_from 6 lingering ≡ Some 120000
+unfolding evaluated
+what_was_due_before_is_left_out = refl
 
 pub a_request_is_due_when_it_times_out : next_due both_sent ≡ Some 30000
 unfolding evaluated

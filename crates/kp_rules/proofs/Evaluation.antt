@@ -23,9 +23,9 @@ use Rattle.kp_rules.specs.Settling.{meaning_of, settle_batch}
 use Rattle.kp_rules.specs.Mismatch.{answers_batches, answers_id}
 use Rattle.kp_rules.specs.Replies.{awaited, response_step, reply_step}
 use Rattle.kp_rules.specs.Appending.{may_append, would_exhaust, append_step}
-use Rattle.kp_rules.specs.Due.{partition_moments, moments, next_due}
+use Rattle.kp_rules.specs.Due.{partition_moments, moments, next_due_from}
 use Rattle.kp_rules.specs.Opening.{new_core}
 
 unfoldable pub evaluated : Unit {0}
-unfolding groups attributes length_field bytes_or_null text header headers fields relative_record size_of_batch is_outside checked size_of joins with_item is_over is_pressed is_ready is_late untold changed_at used has_window drop_requests disconnect_step lead_step with_reports with_partitions at_each at_these has_marks is_flushed flush_step is_rested is_confirmed is_in_span is_within_limit sends wants_id with_audited audited hand_over_in send_again_in send_in fitting next_batches next_demand request_step give_up fence close_step end_step has_timed_out late_front behind_late heed_deadlines tick_step meaning_of settle_batch answers_batches answers_id awaited response_step reply_step may_append would_exhaust append_step partition_moments moments next_due new_core
+unfolding groups attributes length_field bytes_or_null text header headers fields relative_record size_of_batch is_outside checked size_of joins with_item is_over is_pressed is_ready is_late untold changed_at used has_window drop_requests disconnect_step lead_step with_reports with_partitions at_each at_these has_marks is_flushed flush_step is_rested is_confirmed is_in_span is_within_limit sends wants_id with_audited audited hand_over_in send_again_in send_in fitting next_batches next_demand request_step give_up fence close_step end_step has_timed_out late_front behind_late heed_deadlines tick_step meaning_of settle_batch answers_batches answers_id awaited response_step reply_step may_append would_exhaust append_step partition_moments moments next_due_from new_core
 evaluated = tt

@@ -45,12 +45,16 @@ moments s =
     ++ flat_map (partition_moments s.config) s.partitions
     ++ id_moments s
 
--- a moment that comes is a number of 64 bits
-abbrev pub comes : ℕ → Bool
-comes at = nat_le at (2 ^ 64 - 1)
+-- a moment that comes is not before this one, and a number of 64 bits
+abbrev pub comes : ℕ → ℕ → Bool
+comes from at = nat_le from at && nat_le at (2 ^ 64 - 1)
 
-abbrev pub earliest : List ℕ → Option ℕ
-earliest moments = reduce min (filter comes moments)
+abbrev pub earliest : ℕ → List ℕ → Option ℕ
+earliest from moments = reduce min (filter (comes from) moments)
 
-unfoldable pub next_due : Core → Option ℕ
-next_due s = earliest (moments s)
+unfoldable pub next_due_from : ℕ → Core → Option ℕ
+next_due_from from s = earliest from (moments s)
+
+-- whenever it was
+abbrev pub next_due : Core → Option ℕ
+next_due s = next_due_from 0 s

@@ -64,13 +64,13 @@ impl Partitions {
         None
     }
 
-    /// The earliest of their moments.
-    pub(crate) fn earliest_moment(&self, config: &Config) -> Option<u64>
-        ensures { result ≡ earliest (flat_map (partition_moments config.now) self.now) }
+    /// The earliest of their moments, from this one on.
+    pub(crate) fn earliest_moment(&self, config: &Config, from: u64) -> Option<u64>
+        ensures { result ≡ earliest from (flat_map (partition_moments config.now) self.now) }
     {
         let mut earliest = None;
         for place in &self.busy {
-            earliest = sooner(earliest, self.at(*place).next_moment(config));
+            earliest = sooner(earliest, self.at(*place).next_moment(config, from));
         }
         earliest
     }

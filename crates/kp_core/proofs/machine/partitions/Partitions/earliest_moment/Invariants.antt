@@ -6,4 +6,4 @@ use Rattle.kp_core.specs.Busy.{busy_in}
 use Rattle.kp_core.proofs.machine.partitions.Partitions.earliest_moment.Given as goal
 
 abbrev pub invariant-loop-place : goal.invariant-loop-place
-invariant-loop-place l = l.earliest ≡ earliest (flat_map (λ p. partition_moments l.config (partition_at p l.self)) (take l.place-index (busy_in l.self)))
+invariant-loop-place l = l.earliest ≡ earliest l.from (flat_map (λ p. partition_moments l.config (partition_at p l.self)) (take l.place-index (busy_in l.self)))
