@@ -1,25 +1,22 @@
 -- Contents that are heard, one after the other.
-use Rattle.std.proofs.Common.{◌≡◌, ℕ, Bool, List, [], ◌∷◌, ◌++◌, Option, Some, None, Result, Ok, Err, refl, sym, ap, ◌∙◌, subst, append-nil, append_assoc}
+use Rattle.std.proofs.Common.{◌≡◌, ℕ, List, [], ◌∷◌, ◌++◌, Option, Some, None, Result, Ok, Err, refl, sym, ap, ◌∙◌, subst, append-nil, append_assoc}
 use Rattle.std.proofs.lemmas.Grind.{flat_map-append}
-use Rattle.kp_accum.specs.declared.config.Config.{Config}
-use Rattle.kp_cluster.specs.Cluster.{Cluster}
+use Rattle.kp_cluster.specs.Cluster.{Cluster, with_answered}
 use Rattle.kp_embed.specs.Connecting.{Loses}
 use Rattle.kp_embed.specs.Going.{Acts}
 use Rattle.kp_embed.specs.Hearing.{GivesUp, Hears, HearsAll, HearsOne, HearsOver, Learns, Listens, Opens, answered, frames}
 use Rattle.kp_embed.specs.Lines.{AtNode, line_at}
-use Rattle.kp_embed.specs.Producer.{Producer, apart}
+use Rattle.kp_embed.specs.Producer.{Producer, apart, with_cluster}
 use Rattle.kp_embed.specs.declared.line.Line.{Line}
 use Rattle.kp_embed.specs.declared.line.Question.{Question}
 use Rattle.kp_embed.specs.declared.line.Question.TheVariants.{Metadata, ProducerId}
-use Rattle.kp_embed.proofs.ActLemmas.{acts_same, acts_then, made}
+use Rattle.kp_embed.proofs.ActLemmas.{acts_same, acts_then}
 use Rattle.kp_embed.proofs.LineLemmas.{put_back}
 use Rattle.kp_hello.specs.Chart.{Charted, chart_given}
 use Rattle.kp_hello.specs.Hello.{producer_id_given}
 use Rattle.kp_hello.specs.declared.fault.HandshakeFault.{HandshakeFault}
 use Rattle.kp_frames.specs.Stream.{frame}
 use Rattle.kp_rules.specs.Calls.{Call}
-use Rattle.kp_rules.specs.Records.{Core}
-use Rattle.kp_rules.specs.declared.names.Names.{Names}
 
 abbrev pub with_held : List ℕ → Line → Line
 with_held held line = record line { held = held }
@@ -114,8 +111,28 @@ given_up node now a taken m b idle left heard lines loses = record {
   lines = put_back node None None a.lines taken.lines b.lines left (subst (λ (ls : List (Option Line)). AtNode node None ls b.lines) lines loses.lines);
 }
 
--- what an id opens does not look at the cluster that was known before
-pub opened_apart : (given : Result ℕ HandshakeFault) (now : ℕ) (is_failed is_closed : Bool) (config : Config) (names : Names) (core : Option Core) (counts : List ℕ) (lines : List (Option Line)) (m n : Cluster) (calls : List Call) (b : Producer)
-    → Opens now given (made is_failed is_closed config names core counts lines m) calls b → Opens now given (made is_failed is_closed config names core counts lines n) calls b
-opened_apart (Ok id) now is_failed is_closed config names core counts lines m n calls b h = h
-opened_apart (Err fault) now is_failed is_closed config names core counts lines m n calls b h = h
+-- ---- once the node's failures are forgotten
+
+learns_answered : (node now : ℕ) (given : Result Charted HandshakeFault) (calls : List Call) (m : Producer) → Learns now given calls m → Learns now given calls (with_cluster (with_answered node m.cluster) m)
+learns_answered node now (Ok chart) calls m h = h
+learns_answered node now (Err fault) calls m h = h
+
+opens_answered : (node now : ℕ) (given : Result ℕ HandshakeFault) (a : Producer) (calls : List Call) (m : Producer) → Opens now given a calls m → Opens now given a calls (with_cluster (with_answered node m.cluster) m)
+opens_answered node now (Ok id) a calls m h = h
+opens_answered node now (Err fault) a calls m h = h
+
+one_answered : (node now : ℕ) (q x : Option Question) (content : List ℕ) (a m : Producer) (calls : List Call) (after : Option Question) → HearsOne now q x content a calls m after
+    → HearsOne now q x content a calls (with_cluster (with_answered node m.cluster) m) after
+one_answered node now q None content a m calls after h = h
+one_answered node now q (Some Metadata) content a m calls after h = (h.0, learns_answered node now (chart_given a.names.topic content) calls m h.1)
+one_answered node now q (Some ProducerId) content a m calls after h = (h.0, opens_answered node now (producer_id_given content) a calls m h.1)
+
+pub hears_answered : (node now : ℕ) (a m : Producer) (line after : Line) (content : List ℕ) (c : Cluster) → c ≡ with_answered node m.cluster → HearsOver now a line content m after
+    → HearsOver now a line content (with_cluster c m) after
+hears_answered node now a m line after content c is h = rw is (record {
+  calls = h.calls;
+  acts = record { config = h.acts.config; names = h.acts.names; core = h.acts.core; taken = h.acts.taken; next = h.acts.next; counts = h.acts.counts };
+  heard = one_answered node now line.question (answered line.question content) content a m h.calls after.question h.heard;
+  held = h.held;
+  out = h.out;
+})

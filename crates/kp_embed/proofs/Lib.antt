@@ -5,3 +5,4 @@ pub mod LineLemmas
 pub mod TakeLemmas
 pub mod SendLemmas
 pub mod TickLemmas
+pub mod DueLemmas

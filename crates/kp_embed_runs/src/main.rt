@@ -19,7 +19,7 @@
 //! - `seen KIND`: what came of this kind since this was last asked, `NODE@MOMENT` each: `connect` (also where nothing listens),
 //!   `close`, `metadata`, `id`, `produce` (also where it waits).
 //! - `phase`, `partitions`, `flushed`, `untold`, `used`, `in_flight`, `nodes`, `refused`, `due`; `wakes`: at how many moments
-//!   something was due in the last run to a moment.
+//!   something was due in the last run to a moment. `wakes MOST`: whether at so many at most.
 #![tactic(auto)]
 
 mod brokers;

@@ -128,6 +128,7 @@ impl World {
             "plan" => self.brokers.take_plan(words.rest()),
             "seen" => tell_seen(&mut self.brokers.seen, Kind::of_word(words.word()?)?, came),
             "log" => put_log(&self.brokers.broker, words.number()?, came),
+            "wakes" if !words.is_empty() => self.tell_few(words.number()?, came),
             _ => self.look(step, came),
         }
     }
@@ -151,6 +152,12 @@ impl World {
         if let Some(fault) = self.other(node, &words.rest_bytes()?) {
             write!(came, "{fault:?}")?;
         }
+        Ok(())
+    }
+
+    /// Whether something was due at so many moments at most in the last run.
+    fn tell_few(&self, most: u32, came: &mut String) -> Result<(), StepFault> {
+        write!(came, "{}", self.wakes <= most)?;
         Ok(())
     }
 

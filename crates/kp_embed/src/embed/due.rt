@@ -1,29 +1,33 @@
 //! When a producer is next to be looked at.
 
-ghost use Rattle.std.specs.Prelude.{◌≡◌};
-ghost use Rattle.kp_cluster.specs.Actions.{next_due};
-ghost use Rattle.kp_embed.specs.Due.{IsEarlier, NotLater, core_due};
+ghost use Rattle.std.specs.Prelude.{◌≡◌, ◌≤◌, IfSome};
+ghost use Rattle.kp_cluster.specs.Actions.{earlier, next_due};
+ghost use Rattle.kp_embed.specs.Due.{NotLater, due_of, following, no_sooner};
 
 use crate::embed::Embed;
 
 impl Embed {
-    /// The moment at which there may be something to do again, once all that there is now was done: an action, bytes to take, a
-    /// tick. It is after `now`, where there is a later one.
+    /// The moment after `now` at which there may be something to do again, once all that there is now was done: an action, bytes
+    /// to take, a tick. What is due and can't be done, as where a leader is away, waits for another call, and is told by none.
     pub fn next_due(&self, now: u64) -> Option<u64>
-        ensures core { NotLater now (core_due self.now.core) result }
-        ensures cluster { NotLater now (next_due self.now.cluster) result }
+        ensures ready { IfSome self.now.core (λ s. result ≡ due_of now s self.now.cluster) }
+        ensures cluster { NotLater (no_sooner (following now) (next_due self.now.cluster)) result }
+        ensures later { IfSome result (λ at. following now ≤ at) }
     {
-        let core = match &self.core {
-            Some(core) => core.next_due(),
-            None => None,
+        let from = now.saturating_add(1);
+        let producer = match &self.core {
+            Some(core) => core.next_due_from(from),
+            None => self.opening_due(from),
         };
-        let due = earlier(earlier(core, self.cluster.next_due()), self.opening_due());
-        not_past(due, now)
+        earlier(producer, no_sooner(self.cluster.next_due(), from))
     }
 
-    /// When the request for an id, or the answer to it, or all of the opening is late, where there is no core yet.
-    fn opening_due(&self) -> Option<u64> {
-        if self.core.is_some() || self.is_failed {
+    /// Where there is no core yet: when a producer id may be asked for again, or the answer is late, or all of the opening, of
+    /// these moments from this one on the earliest.
+    fn opening_due(&self, from: u64) -> Option<u64>
+        ensures { IfSome result (λ at. from ≤ at) }
+    {
+        if self.is_failed {
             return None;
         }
         let timeout = self.config.producer.request_timeout_ms;
@@ -32,13 +36,13 @@ impl Embed {
             None if self.cluster.partitions() > 0 => Some(self.identity.not_before),
             None => None,
         };
-        earlier(Some(self.open_until), identity)
+        earlier(coming(Some(self.open_until), from), coming(identity, from))
     }
 }
 
 /// The earlier of two moments, where there is one.
 fn earlier(one: Option<u64>, other: Option<u64>) -> Option<u64>
-    ensures { IsEarlier one other result }
+    ensures { result ≡ earlier one other }
 {
     match (one, other) {
         (Some(one), Some(other)) => Some(one.min(other)),
@@ -47,12 +51,22 @@ fn earlier(one: Option<u64>, other: Option<u64>) -> Option<u64>
     }
 }
 
-/// The moment, or the next millisecond where it is past.
-fn not_past(due: Option<u64>, now: u64) -> Option<u64>
-    ensures { NotLater now due result }
+/// The moment, where it is not before this one.
+fn coming(due: Option<u64>, from: u64) -> Option<u64>
+    ensures { IfSome result (λ at. from ≤ at) }
 {
     match due {
-        Some(due) => Some(due.max(now.saturating_add(1))),
+        Some(due) if due >= from => Some(due),
+        _ => None,
+    }
+}
+
+/// The moment, or this one where it was before.
+fn no_sooner(due: Option<u64>, from: u64) -> Option<u64>
+    ensures { result ≡ no_sooner from due }
+{
+    match due {
+        Some(due) => Some(due.max(from)),
         None => None,
     }
 }

@@ -60,14 +60,29 @@ impl Embed {
         Ok(())
     }
 
-    /// Hears an answer: to what was asked over the line, or else a reply for the core.
+    /// Hears an answer. Where it is one, the node's failures are forgotten.
     fn hear(&mut self, node: u32, line: &mut Line, content: &[u8], now: u64) -> Result<(), Fault>
         ensures heard { OnOk result (HearsOver now self.old line.old content.now self.new line.new) }
         ensures acts { OnErr result ((calls : List Call) × Acts self.old calls self.new) }
         ensures lines { self.new.lines ≡ self.old.lines }
         ensures still { self.new.is_closed ≡ self.old.is_closed }
     {
-        self.cluster.answered(node);
+        match self.hear_content(line, content, now) {
+            Ok(()) => {
+                self.cluster.answered(node);
+                Ok(())
+            }
+            Err(fault) => Err(fault),
+        }
+    }
+
+    /// Hears an answer: to what was asked over the line, or else a reply for the core.
+    fn hear_content(&mut self, line: &mut Line, content: &[u8], now: u64) -> Result<(), Fault>
+        ensures heard { OnOk result (HearsOver now self.old line.old content.now self.new line.new) }
+        ensures acts { OnErr result ((calls : List Call) × Acts self.old calls self.new) }
+        ensures lines { self.new.lines ≡ self.old.lines }
+        ensures still { self.new.is_closed ≡ self.old.is_closed }
+    {
         match line.answered_by(content) {
             None => self.reply(content, now),
             Some(Question::Metadata) => {

@@ -1,13 +1,14 @@
 //! Bytes are taken, to be written.
 
-ghost use Rattle.std.specs.Prelude.{◌≡◌, ◌≤◌, [], None, length, take, IfOk, OnOk, OnErr};
+ghost use Rattle.std.specs.Prelude.{◌≡◌, ◌≤◌, [], true, None, Some, length, take, IfOk, OnOk, OnErr};
+ghost use Rattle.kp_cluster.specs.Metadata.{may_ask};
 ghost use Rattle.kp_embed.specs.Taking.{AsksNext, AsksNone, CarriesNone, CarriesOut};
+ghost use Rattle.kp_embed.specs.declared.line.Question as Question;
 
 use crate::bytes::Bytes;
 use crate::embed::Embed;
 use crate::fault::Fault;
 use crate::line::{Line, Question};
-use kp_cluster::Cluster;
 use kp_core::CoreFault;
 use kp_hello::{write_metadata, write_producer_id};
 
@@ -20,17 +21,15 @@ impl Embed {
         ensures refused { OnErr result (CarriesNone node now self.old self.new) }
         ensures still { self.new.is_closed ≡ self.old.is_closed }
     {
-        let Some(line) = self.lines.take(node) else {
+        let Some(mut line) = self.lines.take(node) else {
             return Err(Fault::NoConnection);
         };
-        let mut line = line;
-        let asked = self.ask_next(node, &mut line, now);
-        let count = match asked {
+        let taken = match self.ask_next(node, &mut line, now) {
             Ok(()) => Ok(line.out.take_into(room)),
             Err(fault) => Err(fault),
         };
         self.lines.put(node, line);
-        count
+        taken
     }
 
     /// Where nothing waits to be taken, what is asked next waits then.
@@ -52,7 +51,9 @@ impl Embed {
     }
 
     /// What is to be asked over the node's connection, beside the requests of the core.
-    fn question_for(&self, node: u32, now: u64) -> Option<Question> {
+    fn question_for(&self, node: u32, now: u64) -> Option<Question>
+        ensures { result ≡ Some Question.Metadata → may_ask node now self.now.cluster ≡ true }
+    {
         if self.is_failed {
             return None;
         }
@@ -67,6 +68,7 @@ impl Embed {
     }
 
     fn ask_metadata(&mut self, node: u32, line: &mut Line, now: u64) -> Result<(), Fault>
+        requires may { may_ask node now self.old.cluster ≡ true }
         requires none { line.old.question ≡ None }
         requires taken { line.old.out ≡ [] }
         ensures asks { OnOk result (AsksNext node now self.old line.old self.new line.new) }
@@ -77,7 +79,7 @@ impl Embed {
     {
         match write_metadata(self.alloc, &self.names) {
             Ok(frame) => {
-                note_asked(&mut self.cluster, node, now);
+                self.cluster.asked(node, now);
                 line.question = Some(Question::Metadata);
                 line.out = Bytes::of(frame);
                 Ok(())
@@ -127,12 +129,5 @@ impl Embed {
             Err(CoreFault::Ended) => Ok(()),
             Err(fault) => Err(Fault::from(fault)),
         }
-    }
-}
-
-/// The cluster knows that it was asked for Metadata over this node's connection.
-fn note_asked(cluster: &mut Cluster, node: u32, now: u64) {
-    if cluster.may_ask(node, now) {
-        cluster.asked(node, now);
     }
 }

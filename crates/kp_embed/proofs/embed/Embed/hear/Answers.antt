@@ -1,45 +1,16 @@
-use Rattle.std.proofs.Common.{◌≡◌, [], ◌∷◌, Option, Some, None, refl, sym, ap, ◌∙◌, subst}
-use Rattle.kp_embed.specs.Going.{Acts}
-use Rattle.kp_embed.specs.Hearing.{HearsOne, HearsOver, answered}
-use Rattle.kp_embed.specs.declared.line.Question.TheVariants.{ProducerId}
-use Rattle.kp_embed.proofs.HearLemmas.{opened_apart}
-use Rattle.kp_hello.specs.Hello.{producer_id_given}
-use Rattle.kp_embed.specs.Producer.{Producer}
-use Rattle.kp_embed.specs.declared.line.Question.{Question}
-use Rattle.kp_embed.proofs.ActLemmas.{acts_idly, acts_then, made, on_ok}
+use Rattle.std.proofs.Common.{◌∙◌, sym, ap, subst}
+use Rattle.kp_cluster.specs.Cluster.{with_answered}
+use Rattle.kp_embed.specs.Hearing.{HearsOver}
+use Rattle.kp_embed.specs.Producer.{Producer, with_cluster}
+use Rattle.kp_embed.proofs.HearLemmas.{hears_answered}
 use Rattle.kp_embed.proofs.embed.Embed.hear.Goals as goal
-use Rattle.kp_rules.specs.Calls.{Reply}
 
-pub returns-in-None-clause-heard : goal.returns-in-None-clause-heard
-returns-in-None-clause-heard c =
-    let i = c.self.inside in
-    let b = c.reply.new.self in
-    let line = c.args.line.now in
-    let content = c.args.content.now in
-    let none : answered line.question content ≡ None = sym c.answered_by.ensures ∙ c.in-None.is in
-    on_ok c.reply.result c.reply.ensures.heard (λ heard.
-    let calls = Reply c.args.now content heard.0 ∷ [] in record {
-      calls = calls;
-      acts = subst (λ (a : Producer). Acts a calls b) c.self.view_is (acts_then (made i.is_failed i.is_closed i.config.producer i.names i.core i.counts.items i.lines i.cluster) (made i.is_failed i.is_closed i.config.producer i.names i.core i.counts.items i.lines c.answered.new.self) b [] calls (acts_idly (made i.is_failed i.is_closed i.config.producer i.names i.core i.counts.items i.lines i.cluster) (made i.is_failed i.is_closed i.config.producer i.names i.core i.counts.items i.lines c.answered.new.self) refl refl refl refl) heard.1);
-      heard = subst (λ (x : Option Question). HearsOne c.args.now line.question x content c.args.self.now calls b line.question) (sym none) (refl, (heard.0, refl));
-      held = refl;
-      out = refl;
-    })
-
-pub returns-in-Some-ProducerId-clause-heard : goal.returns-in-Some-ProducerId-clause-heard
-returns-in-Some-ProducerId-clause-heard c =
-    let i = c.self.inside in
-    let a = made i.is_failed i.is_closed i.config.producer i.names i.core i.counts.items i.lines i.cluster in
-    let b = c.open.new.self in
-    let line = c.args.line.now in
-    let content = c.args.content.now in
-    let it : answered line.question content ≡ Some ProducerId = sym c.answered_by.ensures ∙ c.in-Some-ProducerId.is ∙ ap (λ (q : Question). Some q) c.in-Some-ProducerId.field-0-is in
-    on_ok c.open.result c.open.ensures.opens (λ opened.
-    subst (λ (p : Producer). HearsOver c.args.now p line content b (record { question = None; out = line.out; held = line.held })) c.self.view_is (record {
-      calls = opened.0;
-      acts = acts_then a (made i.is_failed i.is_closed i.config.producer i.names i.core i.counts.items i.lines c.answered.new.self) b [] opened.0 (acts_idly a (made i.is_failed i.is_closed i.config.producer i.names i.core i.counts.items i.lines c.answered.new.self) refl refl refl refl) opened.1;
-      heard = subst (λ (x : Option Question). HearsOne c.args.now line.question x content a opened.0 b None) (sym it)
-          (refl, opened_apart (producer_id_given content) c.args.now i.is_failed i.is_closed i.config.producer i.names i.core i.counts.items i.lines c.answered.new.self i.cluster opened.0 b opened.2);
-      held = refl;
-      out = refl;
-    }))
+pub returns-in-Ok-clause-heard : goal.returns-in-Ok-clause-heard
+returns-in-Ok-clause-heard c =
+    let node = c.args.node in
+    let heard = c.hear_content.new.self in
+    let line = c.hear_content.new.line in
+    let cluster = c.answered.new.self in
+    subst (λ (p : Producer). HearsOver c.args.now c.args.self.now c.args.line.now c.args.content.now (with_cluster cluster p) line) (sym c.self.view_is)
+    (hears_answered node c.args.now c.args.self.now heard c.args.line.now line c.args.content.now cluster
+    (c.answered.ensures ∙ ap (λ (p : Producer). with_answered node p.cluster) c.self.view_is) c.in-Ok.ensures.heard)
