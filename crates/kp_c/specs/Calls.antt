@@ -14,6 +14,11 @@ OnHeld Becomes None new = new ≡ None
 OnHeld Becomes (Some old) None = ⊥
 OnHeld Becomes (Some old) (Some new) = Becomes old new
 
+-- There is a producer, of which this is so.
+abbrev pub OfHeld : (Producer → Type 0) → Option Producer → Type 0
+OfHeld Is None = ⊥
+OfHeld Is (Some p) = Is p
+
 -- There was none, and there is none.
 pub record IsEmpty (old new : Option Producer) : Type 0 where
   pub before : old ≡ None

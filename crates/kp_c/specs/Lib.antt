@@ -4,6 +4,7 @@ pub mod Values
 pub mod Addresses
 pub mod Making
 pub mod Connections
+pub mod Seeing
 pub mod Ending
 pub mod Records
 pub mod Sending

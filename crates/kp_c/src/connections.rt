@@ -1,10 +1,11 @@
 //! Connections are made and lost, and their bytes taken and fed.
 
 ghost use Rattle.std.specs.Prelude.{◌≡◌, ◌≢◌, ◌≤◌, ◌⊎◌, pos, length, take};
-ghost use Rattle.kp_c.specs.Calls.{IsEmpty, Makes, OnHeld};
+ghost use Rattle.kp_c.specs.Calls.{IsEmpty, Makes, OfHeld, OnHeld};
 ghost use Rattle.kp_c.specs.Values.{told_action};
 ghost use Rattle.kp_cluster.specs.Actions.{told};
 ghost use Rattle.kp_c.specs.Connections.{Tells};
+ghost use Rattle.kp_c.specs.Seeing.{IsAddress};
 ghost use Rattle.kp_embed.specs.Connecting.{Connects, Loses};
 ghost use Rattle.kp_embed.specs.Going.{Stays};
 ghost use Rattle.kp_embed.specs.Hearing.{GivesUp, Listens};
@@ -45,7 +46,8 @@ pub extern "C" fn kp_producer_address(
     host_len: &mut usize,
     port: &mut u16,
 ) -> i32
-    ensures { producer.new.sealed.value ≡ producer.old.sealed.value }
+    ensures same { producer.new.sealed.value ≡ producer.old.sealed.value }
+    ensures told { result ≡ pos 0 → OfHeld (IsAddress node (take host_len.new host.new) port.new) producer.old.sealed.value }
 {
     let Some(embed) = producer.take(alloc) else {
         return Refusal::NoProducer.status();
@@ -61,7 +63,9 @@ fn copy_address(
     host: &mut [u8],
     host_len: &mut usize,
     port: &mut u16,
-) -> i32 {
+) -> i32
+    ensures { result ≡ pos 0 → IsAddress node (take host_len.new host.new) port.new embed.now }
+{
     let Some((name, number)) = embed.address(node) else {
         return Refusal::Connection(kp_embed::Fault::NoNode).status();
     };

@@ -1,8 +1,9 @@
 //! Reports, flush, close and end, and what is to be seen of a producer.
 
 ghost use Rattle.std.specs.Prelude.{◌≡◌, ◌≢◌, ◌≤◌, length, pos};
-ghost use Rattle.kp_c.specs.Calls.{IsEmpty, Makes, OnHeld};
+ghost use Rattle.kp_c.specs.Calls.{IsEmpty, Makes, OfHeld, OnHeld};
 ghost use Rattle.kp_c.specs.Ending.{Ends, Fetches};
+ghost use Rattle.kp_c.specs.Seeing.{Shows};
 ghost use Rattle.kp_embed.specs.Ending.{Calls};
 ghost use Rattle.kp_rules.specs.Calls.{Close, Flush};
 
@@ -92,7 +93,8 @@ pub extern "C" fn kp_producer_state(
     alloc: Global,
     state: &mut KpState,
 ) -> i32
-    ensures { producer.new.sealed.value ≡ producer.old.sealed.value }
+    ensures same { producer.new.sealed.value ≡ producer.old.sealed.value }
+    ensures told { result ≡ pos 0 → OfHeld (Shows state.new) producer.old.sealed.value }
 {
     let Some(embed) = producer.take(alloc) else {
         return Refusal::NoProducer.status();

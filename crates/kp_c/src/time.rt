@@ -1,7 +1,8 @@
 //! Time goes on.
 
-ghost use Rattle.std.specs.Prelude.{◌≡◌, ◌≢◌, pos};
+ghost use Rattle.std.specs.Prelude.{◌≡◌, ◌≢◌, pos, MatchOption};
 ghost use Rattle.kp_c.specs.Calls.{IsEmpty, Makes};
+ghost use Rattle.kp_c.specs.Seeing.{NEVER, TellsDue};
 ghost use Rattle.kp_embed.specs.Ticking.{Ticks};
 
 use crate::handle::KpProducer;
@@ -25,7 +26,8 @@ pub extern "C" fn kp_producer_tick(producer: &mut KpProducer, alloc: Global, now
 /// When there may be something to do again; `u64::MAX` where there is no such moment.
 #[unsafe(no_mangle)]
 pub extern "C" fn kp_producer_next_due(producer: &mut KpProducer, alloc: Global, now: u64) -> u64
-    ensures { producer.new.sealed.value ≡ producer.old.sealed.value }
+    ensures same { producer.new.sealed.value ≡ producer.old.sealed.value }
+    ensures told { MatchOption producer.old.sealed.value (result ≡ NEVER) (TellsDue now result) }
 {
     let Some(embed) = producer.take(alloc) else {
         return u64::MAX;

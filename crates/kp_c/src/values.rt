@@ -1,6 +1,7 @@
 //! What crosses to C and back.
 
 ghost use Rattle.std.specs.Prelude.{◌≡◌};
+ghost use Rattle.kp_c.specs.Seeing.{Shows};
 ghost use Rattle.kp_c.specs.Values.{cluster_of, config_of, told, told_action};
 
 use kp_accum::Config;
@@ -159,7 +160,9 @@ impl KpReport {
 }
 
 impl KpState {
-    pub(crate) fn of(embed: &Embed) -> KpState {
+    pub(crate) fn of(embed: &Embed) -> KpState
+        ensures { Shows result embed.now }
+    {
         let seen = embed.statistics();
         KpState {
             untold: seen.untold,
