@@ -1,0 +1,57 @@
+"""The crates that crates.txt lists, and the prover's commands over the libraries that `rt ci` left in crates/*/out."""
+import os
+import subprocess
+
+
+def kit():
+    """The folder of the Rattle kit."""
+    said = subprocess.run(["rt", "doc"], capture_output=True, text=True, check=True)
+    return os.path.dirname(said.stdout.strip())
+
+
+def text_of(file):
+    with open(file, encoding="utf-8") as it:
+        return it.read()
+
+
+class Crate:
+    """A crate, as crates.txt has it."""
+
+    def __init__(self, root, name, needs, all):
+        self.folder, self.name, self.needs, self.all = f"{root}/crates/{name}", name, needs, all
+
+    def below(self):
+        """The repository's libraries below it, each once."""
+        found = []
+        for name in self.needs:
+            if name in self.all:
+                found += [it for it in [*self.all[name].below(), self.all[name]] if it not in found]
+        return found
+
+    def rlib(self):
+        return f"{self.folder}/out/rlib/{self.name}.rlib"
+
+    def words(self, kit, verb):
+        """The prover's command that checks or builds the crate, in its folder."""
+        is_program = os.path.isfile(f"{self.folder}/src/main.rt")
+        words = [f"{kit}/bin/rattle", verb, "--crate-name", self.name, f"src/{'main' if is_program else 'lib'}.rt"]
+        for name in ["std", *[it for it in self.needs if it not in self.all]]:
+            words += ["--extern", f"{name}={kit}/rlibs/{name}.rlib"]
+        words += ["-L", f"dependency={kit}/rlibs"]
+        for name in self.needs:
+            if name in self.all:
+                words += ["--extern", f"{name}={self.all[name].rlib()}"]
+        for it in self.below():
+            words += ["-L", f"dependency={os.path.dirname(it.rlib())}"]
+        words += ["--antt-project", f"{kit}/rattle/logic/antt-project.json", "--logic-built", f"{kit}/logic_built"]
+        return [*words, "--links", f"{self.name}="]
+
+
+def crates_of(root, kind=Crate):
+    """The crates that crates.txt lists, by name."""
+    crates = {}
+    for line in text_of(f"{root}/crates.txt").split("\n"):
+        name, colon, needs = line.partition("#")[0].partition(":")
+        if colon:
+            crates[name.split()[0]] = kind(root, name.split()[0], needs.split(), crates)
+    return crates
