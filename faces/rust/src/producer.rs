@@ -1,0 +1,200 @@
+//! The handle.
+
+use crate::shared::{millis, Inner, Shared};
+use crate::{BatchError, Builder, Record, Report, SendError, Ticket, WaitError};
+use std::collections::VecDeque;
+use std::mem;
+use std::sync::{Arc, Mutex, PoisonError};
+use std::thread::JoinHandle;
+use std::time::{Duration, SystemTime, UNIX_EPOCH};
+
+/// A producer of one topic. It is a handle, to be cloned over threads.
+///
+/// Where the last handle is dropped, or the process ends, before [`close`](Producer::close), what is left is given up, and
+/// [`Builder::on_warning`] is told how many records were open.
+#[derive(Clone, Debug)]
+pub struct Producer {
+    owner: Arc<Owner>,
+}
+
+/// What the handles have together.
+#[derive(Debug)]
+struct Owner {
+    shared: Arc<Shared>,
+    host: Mutex<Option<JoinHandle<()>>>,
+}
+
+impl Producer {
+    /// Begins to build a producer of a topic, which finds its brokers by `"host:port,host:port"`.
+    pub fn builder(bootstrap: impl Into<String>, topic: impl Into<String>) -> Builder {
+        Builder::new(bootstrap.into(), topic.into())
+    }
+
+    pub(crate) fn new(shared: Arc<Shared>, host: JoinHandle<()>) -> Producer {
+        Producer { owner: Arc::new(Owner { shared, host: Mutex::new(Some(host)) }) }
+    }
+
+    fn shared(&self) -> &Shared {
+        &self.owner.shared
+    }
+
+    /// Accepts a record, whose report comes later. It waits where the producer is not ready, or its buffer is full, for `max_block` at
+    /// most, and not at all in a callback.
+    ///
+    /// # Errors
+    ///
+    /// The record is not sent, and comes back, with the reason.
+    pub fn send(&self, record: Record) -> Result<Ticket, SendError> {
+        let (spans, headers) = record.spelled_headers();
+        let timestamp_ms = record.timestamp_ms.unwrap_or_else(timestamp_now);
+        let sent = self.shared().accept(record.size(), |core| core.send(&record, &spans, &headers, timestamp_ms));
+        sent.map_err(|kind| SendError { record, kind })
+    }
+
+    /// Accepts values for a partition, or for each in turn, as records without keys and headers: as `send` of each, at less cost. Their
+    /// tickets are not told: the numbers of a partition go up by one with each record that is accepted for it.
+    ///
+    /// # Errors
+    ///
+    /// Only some of the first values are accepted.
+    pub fn send_batch(&self, partition: Option<u32>, values: &[&[u8]]) -> Result<(), BatchError> {
+        let bytes = values.concat();
+        let lengths: Vec<u64> = values.iter().map(|it| it.len() as u64).collect();
+        let timestamp_ms = timestamp_now();
+        let (mut accepted, mut at) = (0, 0);
+        let sent = self.shared().accept(bytes.len(), |core| {
+            let (count, sent) = core.send_batch(partition, &bytes[at..], &lengths[accepted..], timestamp_ms);
+            at += values[accepted..][..count].iter().map(|it| it.len()).sum::<usize>();
+            accepted += count;
+            sent
+        });
+        sent.map_err(|kind| BatchError { accepted, kind })
+    }
+
+    /// The reports that come, the oldest first, of which each is given once, to whoever fetches it. The iterator ends when the
+    /// producer has, and at once where [`Builder::on_report`] has a callback. It takes as many as there are, and what it has not
+    /// given it puts back when it is dropped. Reports that nobody fetches stay, at 32 bytes each.
+    pub fn reports(&self) -> Reports<'_> {
+        Reports { shared: self.shared(), timeout_ms: u64::MAX, fetched: VecDeque::new() }
+    }
+
+    /// Has all that was accepted go out, without lingering, and waits until all of it has its report, for so long at most.
+    ///
+    /// # Errors
+    ///
+    /// The timeout is over. What was accepted still goes out.
+    pub fn flush(&self, timeout: Duration) -> Result<(), WaitError> {
+        let shared = self.shared();
+        if shared.is_forked() {
+            return Err(WaitError::Forked);
+        }
+        let mut inner = shared.lock();
+        inner.core.flush();
+        shared.ring(&mut inner);
+        inner.flushing += 1;
+        let is_flushed = |it: &mut Inner| !it.is_telling && it.core.state().is_flushed;
+        let mut inner = shared.wait_until(inner, millis(timeout), |it| it.has_ended || is_flushed(it));
+        inner.flushing -= 1;
+        if is_flushed(&mut inner) {
+            return Ok(());
+        }
+        inner.all_told()
+    }
+
+    /// Accepts nothing more, and waits until all that was accepted has its report, for so long at most: what is left then is given
+    /// up, and has its report when this returns. Called in a callback it does not wait, and gives nothing up.
+    ///
+    /// # Errors
+    ///
+    /// The timeout is over, and records were given up.
+    pub fn close(&self, timeout: Duration) -> Result<(), WaitError> {
+        let shared = self.shared();
+        if shared.is_forked() {
+            return Err(WaitError::Forked);
+        }
+        let mut inner = shared.lock();
+        inner.core.close();
+        inner.is_closed = true;
+        shared.ring(&mut inner);
+        shared.notify();
+        let mut inner = shared.wait_until(inner, millis(timeout), |it| it.has_ended);
+        let closed = inner.all_told();
+        if !shared.is_host() {
+            inner.gives_up = true;
+            shared.ring(&mut inner);
+            drop(shared.wait_until(inner, u64::MAX, |it| it.has_ended));
+            self.owner.join();
+        }
+        closed
+    }
+
+    /// How many accepted records have no report yet; none in a forked process.
+    pub fn open_records(&self) -> u64 {
+        match self.shared().is_forked() {
+            true => 0,
+            false => self.shared().lock().core.state().untold,
+        }
+    }
+}
+
+impl Owner {
+    /// Waits until the host's thread is gone.
+    fn join(&self) {
+        let host = self.host.lock().unwrap_or_else(PoisonError::into_inner).take();
+        let _ = host.map(JoinHandle::join);
+    }
+}
+
+impl Drop for Owner {
+    fn drop(&mut self) {
+        if self.shared.is_forked() {
+            // The thread is not of this process.
+            mem::forget(self.host.get_mut().map(Option::take));
+        } else {
+            self.shared.abandon();
+            if !self.shared.is_host() {
+                self.join();
+            }
+        }
+    }
+}
+
+/// Milliseconds since the beginning of 1970.
+fn timestamp_now() -> i64 {
+    let since = SystemTime::now().duration_since(UNIX_EPOCH).unwrap_or_default();
+    i64::try_from(since.as_millis()).unwrap_or(i64::MAX)
+}
+
+/// Reports, which are waited for: see [`Producer::reports`].
+#[derive(Debug)]
+pub struct Reports<'a> {
+    shared: &'a Shared,
+    timeout_ms: u64,
+    fetched: VecDeque<Report>,
+}
+
+impl Reports<'_> {
+    /// The iterator ends too where for so long no report comes.
+    #[must_use]
+    pub fn timeout(mut self, timeout: Duration) -> Self {
+        self.timeout_ms = millis(timeout);
+        self
+    }
+}
+
+impl Iterator for Reports<'_> {
+    type Item = Report;
+
+    fn next(&mut self) -> Option<Report> {
+        if self.fetched.is_empty() {
+            self.fetched = self.shared.fetch(self.timeout_ms);
+        }
+        self.fetched.pop_front()
+    }
+}
+
+impl Drop for Reports<'_> {
+    fn drop(&mut self) {
+        self.shared.put_back(mem::take(&mut self.fetched));
+    }
+}
