@@ -105,7 +105,8 @@ enum kp_status {
     KP_NOT_READY = 4,            /* no broker has given a producer id yet */
     KP_NO_PARTITION = 5,
     KP_TOO_LARGE = 6,
-    KP_BUFFER_FULL = 7,          /* with it, the records would take more than buffer_memory: send it again once there are reports */
+    KP_BUFFER_FULL = 7,          /* with it, the records would take more than buffer_memory: send it again once there are reports;
+                                    kp_producer_flush has what lingers go out */
     KP_NUMBERS_SPENT = 8,
 
     /* connections */
@@ -204,7 +205,8 @@ int32_t kp_producer_send(kp_producer *, int32_t partition, bool has_key, const u
                          size_t headers_len, int64_t timestamp_ms, uint64_t now, kp_ticket *);
 
 /* Accepts values that stand one after the other, by their lengths, each as a record without key and headers. It ends at the
- * first that is refused, whose status it gives; accepted says how many were accepted before it. */
+ * first that is refused, whose status it gives; accepted says how many were accepted before it. Tickets are not told: the
+ * numbers of a partition that is named go up by one, and with a partition below 0 each value goes to the next. */
 int32_t kp_producer_send_batch(kp_producer *, int32_t partition, const uint8_t *values, size_t values_len,
                                const uint64_t *lengths, size_t lengths_len, int64_t timestamp_ms, uint64_t now, size_t *accepted);
 
