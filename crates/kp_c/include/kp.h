@@ -191,7 +191,8 @@ int32_t kp_producer_feed(kp_producer *, uint32_t node, const uint8_t *bytes, siz
 int32_t kp_producer_tick(kp_producer *, uint64_t now);
 
 /* When there may be something to do again, once all that there is was done: after now; UINT64_MAX where there is no such
- * moment, or no producer. Nothing changes. */
+ * moment, or no producer. now is that of the last kp_producer_tick: what came due since then is told too, and what was due
+ * before is not, since it waits for a connection or an answer. Nothing changes. */
 uint64_t kp_producer_next_due(kp_producer *, uint64_t now);
 
 /* ---- records */

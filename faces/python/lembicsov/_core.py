@@ -189,6 +189,7 @@ class Core:
         self._on_report = on_report
         self._is_opening = True
         self._is_short = False  # Memory was refused, and the call is to be made again.
+        self._ticked = 0  # When the last tick was.
         self._turn = 0  # The partition of the next values that name none.
         self._counts: dict[int, int] = {}  # By partition, how many records were accepted.
         self._owners: dict[int, dict[int, Owner]] = {}  # By partition and number, in the order of these.
@@ -267,7 +268,8 @@ class Core:
 
     def tick(self) -> bool:
         """Whether the producer has just become ready, or has failed to."""
-        kp.kp_producer_tick(self._handle, clock())
+        self._ticked = clock()
+        kp.kp_producer_tick(self._handle, self._ticked)
         if not self._is_opening:
             return False
         kp.kp_producer_state(self._handle, self._state)
@@ -281,9 +283,9 @@ class Core:
         if self._is_short:
             self._is_short = False
             return SHORT
-        now = clock()
-        due: int = kp.kp_producer_next_due(self._handle, now)
-        return LONG if due == NEVER else min(max(due - now, 0) / 1000, LONG)
+        # What has come due since the last tick is told too.
+        due: int = kp.kp_producer_next_due(self._handle, self._ticked)
+        return LONG if due == NEVER else min(max(due - clock(), 0) / 1000, LONG)
 
     # ---- records
 
