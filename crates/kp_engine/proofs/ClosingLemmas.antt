@@ -8,8 +8,9 @@ use Rattle.kp_connection.specs.Wire.{Told, Wired}
 use Rattle.kp_frames.specs.declared.fault.FrameFault.{FrameFault}
 use Rattle.kp_rules.specs.Calls.{Call, Close, End, Lead}
 use Rattle.kp_rules.specs.declared.outgoing.Outgoing.{Outgoing}
+use Rattle.kp_engine.specs.Away.{EndsAway, cut_if_late}
 use Rattle.kp_engine.specs.Closing.{ClosedBetween, ClosesOnce, Polled, calls_of_poll, calls_of_turn, closing}
-use Rattle.kp_engine.specs.Engine.{Polls}
+use Rattle.kp_engine.specs.Engine.{Cleared, Polls}
 use Rattle.kp_engine.specs.Exchange.{mail_of, senders_of, side_of}
 use Rattle.kp_engine.specs.Polls.{Closed, TalkUntil, Turn, TurnUntil, Turns, is_cut}
 use Rattle.kp_engine.specs.Serving.{HasPlaces, Served}
@@ -21,7 +22,7 @@ use Rattle.kp_engine.specs.declared.stop.Cause.{Cause}
 use Rattle.kp_engine.specs.declared.stop.Stop.{Stop}
 use Rattle.kp_engine.specs.declared.stop.Stop.TheVariants.{Done, NeedStream, OutOfMemory}
 use Rattle.kp_engine.proofs.RunLemmas.{nothing_lived}
-use Rattle.kp_engine.proofs.ServedLemmas.{end_serves, lead_serves, joined, only_core_serves, poll_serves_its}
+use Rattle.kp_engine.proofs.ServedLemmas.{away_serves, end_serves, lead_serves, joined, only_core_serves, poll_serves_its}
 use Rattle.kp_engine.proofs.ServingLemmas.{before_nothing, items_until_none, none_asked, none_of, parts_none, reports_none, reports_until_none}
 use Rattle.kp_engine.proofs.TalkLemmas.{only_same}
 
@@ -114,6 +115,11 @@ turns_close answers node now x w (Ready Done) y v (done, inr (cause, t)) = turn_
 turns_close answers node now x w (Ready (NeedStream cause)) y v t = turn_closes node now x y t.sent t.heard t.refused (Some cause) t.calls t.turn
 turns_close answers node now x w (Ready OutOfMemory) y v t = until_closes node now x y t.sent t.heard t.calls t.turn
 
+away_closes : (node now : ℕ) (cause : Cause) (x : Exchange) (calls : List Call) (stop : Stop) (y : Exchange) → EndsAway node now cause x calls stop y → Closes x calls y
+away_closes node now cause x calls Done y (done, t) = turn_closes node now x y [] [] None (cut_if_late t.late) calls t.turn
+away_closes node now cause x calls (NeedStream still) y (same, t) = turn_closes node now x y [] [] None (cut_if_late t.late) calls t.turn
+away_closes node now cause x calls OutOfMemory y t = until_closes node now x y [] [] calls t.turn
+
 -- ---- polls, one after the other
 
 stays : (x : Exchange) → HasPlaces x → Served x [] x
@@ -144,6 +150,17 @@ closes_here x y calls served c = record {
         },
       );
 }
+
+-- the calls of an earlier turn were forgotten before
+closes_then_here : (x b y : Exchange) (calls : List Call) → Cleared x b → Served x calls y → Closes b calls y → ClosesOnce x calls y
+closes_then_here x b y calls cleared served c = closes_here x y calls served (record {
+  closes = c.closes;
+  stands = c.stands;
+  closed = record {
+    closed = c.closed.closed ∙ ap (λ (was : Bool). was || c.closes) cleared.closed;
+    only = λ so. let o = c.closed.only so in (sym cleared.closed ∙ o.0, o.1, o.2);
+  };
+})
 
 closes_never : (x y : Exchange) (calls : List Call) → Served x calls y → flat_map closing calls ≡ [] → y.closed ≡ x.closed → ClosesOnce x calls y
 closes_never x y calls served none same =
@@ -221,15 +238,8 @@ module _ {S : Type 0} (answers : Told S) where
   poll_closes : (line : Line S) (x : Exchange) (result : Poll Stop) (y : Exchange) (left : Line S) → HasPlaces x → (poll : Polls answers line x result y left)
       → ClosesOnce x (calls_of_poll answers line x result y left poll) y
   poll_closes (Open wire) x result y left places p =
-      let turn = turns_close answers p.node p.now p.begun wire result y p.after p.turns in
-      closes_here x y (calls_of_turn answers p.node p.now p.begun wire result y p.after p.turns) (poll_serves_its answers (Open wire) x result y left places p) (record {
-        closes = turn.closes;
-        stands = turn.stands;
-        closed = record {
-          closed = turn.closed.closed ∙ ap (λ (c : Bool). c || turn.closes) p.cleared.closed;
-          only = λ so. let o = turn.closed.only so in (sym p.cleared.closed ∙ o.0, o.1, o.2);
-        };
-      })
+      closes_then_here x p.begun y (calls_of_turn answers p.node p.now p.begun wire result y p.after p.turns) p.cleared (poll_serves_its answers (Open wire) x result y left places p)
+      (turns_close answers p.node p.now p.begun wire result y p.after p.turns)
   poll_closes (Stopped stop) x result y left places p = closes_never x y [] (poll_serves_its answers (Stopped stop) x result y left places p) refl p.0.closed
 
   both : (x y : Exchange) (calls : List Call) → HasPlaces x → Polled answers x calls y → Served x calls y × ClosesOnce x calls y
@@ -239,6 +249,12 @@ module _ {S : Type 0} (answers : Told S) where
       let serves = poll_serves_its answers line y result z left first.0.places poll in
       let its = calls_of_poll answers line y result z left poll in
       (joined x y z calls its first.0 serves, closes_then x y z calls its first.0 serves first.1 (poll_closes line y result z left first.0.places poll))
+  both x _ _ places (Polled.away y z calls cause stop before turn) =
+      let first = both x y calls places before in
+      let serves = away_serves cause y stop z first.0.places turn in (
+        joined x y z calls turn.calls first.0 serves,
+        closes_then x y z calls turn.calls first.0 serves first.1 (closes_then_here y turn.begun z turn.calls turn.cleared serves (away_closes turn.node turn.now cause turn.begun turn.calls stop z turn.turns)),
+      )
   both x _ _ places (Polled.ended y z calls told before step only) =
       let first = both x y calls places before in
       let serves = end_serves y z told first.0.places step only in (
@@ -264,6 +280,8 @@ polls_then answers x y _ a _ first Polled.not_yet = subst (λ (calls : List Call
 polls_then answers x y _ a _ first (Polled.once_more u z b line left result before poll) =
     let its = calls_of_poll answers line u result z left poll in
     subst (λ (calls : List Call). Polled answers x calls z) (append_assoc a b its) (Polled.once_more u z (a ++ b) line left result (polls_then answers x y u a b first before) poll)
+polls_then answers x y _ a _ first (Polled.away u z b cause stop before turn) =
+    subst (λ (calls : List Call). Polled answers x calls z) (append_assoc a b turn.calls) (Polled.away u z (a ++ b) cause stop (polls_then answers x y u a b first before) turn)
 polls_then answers x y _ a _ first (Polled.ended u z b told before step only) =
     subst (λ (calls : List Call). Polled answers x calls z) (append_assoc a b (End told ∷ [])) (Polled.ended u z (a ++ b) told (polls_then answers x y u a b first before) step only)
 polls_then answers x y _ a _ first (Polled.led u z b partition leader now before step only) =

@@ -82,13 +82,13 @@ talked node now _ _ _ (TalkUntil.in_replies sent heard asked replied p q) = reco
 
 -- ---- with the other parts around them
 
-around : {A : Type 0} (f : Call → List A) (items tick talk reports : List Call) → flat_map f items ≡ [] → flat_map f tick ≡ [] → flat_map f reports ≡ []
+pub around : {A : Type 0} (f : Call → List A) (items tick talk reports : List Call) → flat_map f items ≡ [] → flat_map f tick ≡ [] → flat_map f reports ≡ []
     → flat_map f (items ++ tick ++ talk ++ reports) ≡ flat_map f talk
 around {A = A} f items tick talk reports p q r =
     before_nothing f (items ++ tick ++ talk) reports (flat_map f talk)
     (flat_map-append f (items ++ tick) talk ∙ ap (λ (zs : List A). zs ++ flat_map f talk) (before_nothing f items tick [] p q)) r
 
-tick_none : {A : Type 0} (f : Call → List A) (node now : ℕ) (ticked : Ticked) (tick : List Call) → TickPart node now ticked tick → f (Tick node now ticked) ≡ [] → flat_map f tick ≡ []
+pub tick_none : {A : Type 0} (f : Call → List A) (node now : ℕ) (ticked : Ticked) (tick : List Call) → TickPart node now ticked tick → f (Tick node now ticked) ≡ [] → flat_map f tick ≡ []
 tick_none {A = A} f node now ticked tick is none = ap (flat_map f) is ∙ ap (λ (zs : List A). zs ++ []) none
 
 goes_around : (items tick talk reports : List Call) (frames more contents : List (List ℕ))

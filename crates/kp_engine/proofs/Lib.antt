@@ -27,3 +27,4 @@ pub mod LaneLemmas
 pub mod StreamlessLemmas
 pub mod MadeLemmas
 pub mod LineLemmas
+pub mod AwayLemmas

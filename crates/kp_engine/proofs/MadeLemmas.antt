@@ -5,6 +5,7 @@ use Rattle.kp_connection.specs.Wire.{Told}
 use Rattle.kp_lanes.specs.declared.intake.Intake.{Intake}
 use Rattle.kp_rules.specs.Calls.{Call, End, Step}
 use Rattle.kp_rules.specs.Records.{Core}
+use Rattle.kp_engine.specs.Away.{MakesTurnAway}
 use Rattle.kp_engine.specs.Closing.{Polled, calls_of_poll}
 use Rattle.kp_engine.specs.Engine.{IsNew, Polls}
 use Rattle.kp_engine.specs.Exchange.{OnlyCore}
@@ -15,6 +16,7 @@ use Rattle.kp_engine.specs.Serving.{HasServed}
 use Rattle.kp_engine.specs.declared.engine.Line.{Line}
 use Rattle.kp_engine.specs.declared.exchange.Exchange.{Exchange}
 use Rattle.kp_engine.specs.declared.parts.Parts.{Parts}
+use Rattle.kp_engine.specs.declared.stop.Cause.{Cause}
 use Rattle.kp_engine.specs.declared.stop.Stop.{Stop}
 use Rattle.kp_engine.proofs.BegunLemmas.{new_places}
 use Rattle.kp_engine.proofs.ClosingLemmas.{polls_serve}
@@ -39,6 +41,15 @@ module _ (core : Core) (intake : Intake) where
             polled = Polled.once_more x y calls (no_line line) (no_line left) result w.polled so;
           },
         )
+
+    pub polled_away : (cause : Cause) (stop : Stop) (y : Exchange) → (turn : MakesTurnAway cause x stop y) → WasPolled core intake (calls ++ turn.calls) y
+    polled_away cause stop y turn = record {
+      may_turn = w.may_turn;
+      keeps = w.keeps;
+      first = w.first;
+      is_new = w.is_new;
+      polled = Polled.away x y calls cause stop w.polled turn;
+    }
 
     pub has_served : HasServed core intake calls x
     has_served = record {

@@ -22,6 +22,7 @@ use Rattle.kp_rules.specs.declared.outcome.Report.{Report}
 use Rattle.kp_rules.specs.declared.outgoing.Outgoing.{Outgoing}
 use Rattle.kp_rules.proofs.LeadingOnLemmas.{led_on}
 use Rattle.kp_engine.specs.Agreement.{waiting_of}
+use Rattle.kp_engine.specs.Away.{EndsAway, MakesTurnAway, cut_if_late}
 use Rattle.kp_engine.specs.Closing.{calls_of_poll, calls_of_turn}
 use Rattle.kp_engine.specs.Engine.{Cleared, Polls}
 use Rattle.kp_engine.specs.Exchange.{OnlyCore, Runs, SameLanes, SameMail, mail_of, senders_of, side_of}
@@ -268,3 +269,15 @@ poll_serves_its answers (Stopped stop) x result y left places p = cleared_serves
 pub poll_serves : {S : Type 0} (answers : Told S) (line : Line S) (x : Exchange) (result : Poll Stop) (y : Exchange) (left : Line S)
     → HasPlaces x → Polls answers line x result y left → (calls : List Call) × Served x calls y
 poll_serves answers line x result y left places poll = (calls_of_poll answers line x result y left poll, poll_serves_its answers line x result y left places poll)
+
+-- ---- with no connection
+
+ends_away_serves : (node now : ℕ) (cause : Cause) (x : Exchange) (calls : List Call) (stop : Stop) (y : Exchange) → HasPlaces x → EndsAway node now cause x calls stop y → Served x calls y
+ends_away_serves node now cause x calls Done y places (done, t) = ran x y calls t.runs places t.lanes (turn_moves node now x y [] [] None (cut_if_late t.late) calls t.turn)
+ends_away_serves node now cause x calls (NeedStream still) y places (same, t) = ran x y calls t.runs places t.lanes (turn_moves node now x y [] [] None (cut_if_late t.late) calls t.turn)
+ends_away_serves node now cause x calls OutOfMemory y places t = ran x y calls t.runs places t.lanes (until_moves node now x y [] [] calls t.turn)
+
+pub away_serves : (cause : Cause) (x : Exchange) (stop : Stop) (y : Exchange) → HasPlaces x → (turn : MakesTurnAway cause x stop y) → Served x turn.calls y
+away_serves cause x stop y places t =
+    let begun = cleared_serves x t.begun places t.cleared in
+    joined x t.begun y [] t.calls begun (ends_away_serves t.node t.now cause t.begun t.calls stop y begun.places t.turns)

@@ -7,16 +7,18 @@ use Rattle.kp_lanes.specs.declared.intake.Intake.{Intake}
 use Rattle.kp_rules.specs.Calls.{Call, End, Step}
 use Rattle.kp_rules.specs.Closing.{end_all, end_step}
 use Rattle.kp_rules.specs.Records.{Core, quietly}
+use Rattle.kp_engine.specs.Away.{MakesTurnAway}
 use Rattle.kp_engine.specs.Engine.{IsNew, Polls}
 use Rattle.kp_engine.specs.Exchange.{OnlyCore}
 use Rattle.kp_engine.specs.Opening.{MayTurn}
 use Rattle.kp_engine.specs.Serving.{HasServed, Served}
 use Rattle.kp_engine.specs.declared.engine.Line.{Line}
 use Rattle.kp_engine.specs.declared.exchange.Exchange.{Exchange}
+use Rattle.kp_engine.specs.declared.stop.Cause.{Cause}
 use Rattle.kp_engine.specs.declared.stop.Stop.{Stop}
 use Rattle.kp_engine.proofs.BegunLemmas.{new_places}
 use Rattle.kp_engine.proofs.RunLemmas.{nothing_lived}
-use Rattle.kp_engine.proofs.ServedLemmas.{end_serves, joined, only_core_serves, poll_serves}
+use Rattle.kp_engine.proofs.ServedLemmas.{away_serves, end_serves, joined, only_core_serves, poll_serves}
 
 pub none_served : (core : Core) (intake : Intake) (keeps : Bool) (x : Exchange) → MayTurn core intake
     → IsNew core intake keeps x → HasServed core intake [] x
@@ -43,6 +45,9 @@ module _ (core : Core) (intake : Intake) (calls : List Call) (x y : Exchange) (h
       → (more : List Call) × HasServed core intake (calls ++ more) y
   poll_served answers line result left polls =
       let made = poll_serves answers line x result y left h.served.places polls in (made.0, more_served made.0 made.1)
+
+  pub away_served : (cause : Cause) (stop : Stop) → (turn : MakesTurnAway cause x stop y) → HasServed core intake (calls ++ turn.calls) y
+  away_served cause stop turn = more_served turn.calls (away_serves cause x stop y h.served.places turn)
 
 ended_then : (s t : Core) (told : ℕ) → Step s (End told) t → t.ended ≡ true
 unfolding end_step

@@ -11,7 +11,7 @@ use Rattle.kp_frames.specs.declared.fault.FrameFault.{FrameFault}
 use Rattle.kp_rules.specs.declared.outgoing.Outgoing.{Outgoing}
 use Rattle.kp_rules.specs.declared.ticked.Ticked.{Ticked}
 use Rattle.kp_engine.specs.Exchange.{AreIdle, IsQuiet, MayStayOpen, OnlyCore, Runs, SameClosed, SameLanes, SameMail, SomeBusy, TookEnough, WasBusy, mail_of, senders_of, side_of}
-use Rattle.kp_engine.specs.Polls.{Closed, CutFor, FinishesAll, FinishesUntil, GoesOnBehind, HasMore, IsDone, IsUndone, TalksAll, TalksCut, TalksOn, TalksOut, TurnUntil, Turns, TurnsCut, TurnsOn, TurnsOut, stop_of}
+use Rattle.kp_engine.specs.Polls.{Closed, CutFor, FinishesAll, FinishesUntil, GoesOnBehind, HasMore, IsDone, IsUndone, TalksAll, TalksCut, TalksOn, TalksOut, Turn, TurnUntil, Turns, TurnsCut, TurnsOn, TurnsOut, is_cut, stop_of}
 use Rattle.kp_engine.specs.Steps.{OnlyMails, TakesAndCloses, TakesUntil}
 use Rattle.kp_engine.specs.Talking.{contents_of, frames_of}
 use Rattle.kp_engine.specs.Turn.{Heard, ItemsPart, Mail, MailPart, MailParts, RepliesPart, ReportsPart, ReportsPartUntil, RequestsPart, Side}
@@ -89,6 +89,11 @@ stays_open a b c closes sides view (inr (inr (inr busy))) = inr (inr (inr (busy_
 
 -- ---- a turn
 
+-- who goes on is not done
+pub goes_undone : (done : Bool) (cut : Option Cause) → GoesOnBehind (stop_of done cut) → done ≡ false
+goes_undone true cut goes = absurd goes
+goes_undone false cut goes = refl
+
 module _ (node now : ℕ) (x a b c d : Exchange) (idle : Bool) (ticked : Ticked) (takes : TakesAndCloses x a idle) (same_mail : SameMail x a) (same_lanes_taken : SameLanes x a)
     (ticks : Runs a (Tick node now ticked ∷ []) b) (tick_only : OnlyCore a b) (talk_only : OnlyCore b c) (mails : OnlyMails c d) where
   sides : (k : ℕ) → side_of d k ≡ side_of a k
@@ -143,36 +148,76 @@ module _ (node now : ℕ) (x a b c d : Exchange) (idle : Bool) (ticked : Ticked)
   reports_all cut reports p = subst (λ (n : ℕ). ReportsPart n node now cut (mail_of x) reports (mail_of d)) senders_before
       (reports_from node now (senders_of c) cut (mail_of c) (mail_of x) (mail_of d) reports mail_before p)
 
+  -- the turn, whatever was asked and heard in its middle
+  pub whole : (cut : Option Cause) (sent : List Outgoing) (heard : List Heard) (refused : Option (List ℕ × FrameFault)) (asked replied : List Call) (done : Bool)
+      → RequestsPart node now sent asked → RepliesPart now heard refused replied → (IsTrue ticked.reconnect → cut ≡ Some TimedOut) × (cut ≡ Some TimedOut → IsTrue ticked.reconnect)
+      → (cut ≡ Some TimedOut → asked ++ replied ≡ []) → (f : FinishesAll node now cut c idle done d)
+      → Turn node now x sent heard refused cut (takes.calls ++ (Tick node now ticked ∷ []) ++ (asked ++ replied) ++ f.calls) d
+  whole cut sent heard refused asked replied done p q late nothing f = record {
+    closes = takes.closes;
+    ticked = ticked;
+    items = takes.calls;
+    tick = Tick node now ticked ∷ [];
+    asked = asked;
+    replied = replied;
+    reports = f.calls;
+    of_items = items_all;
+    of_tick = refl;
+    of_requests = p;
+    of_replies = q;
+    of_reports = reports_all (is_cut cut) f.calls f.part;
+    made = refl;
+    late = late;
+    nothing_tried = nothing;
+    took = enough_all;
+    closed = closed_all;
+    only = only_all;
+    must = must_all;
+    moved = f.moved;
+  }
+
+  pub ends_done : (cut : Option Cause) → FinishesAll node now cut c idle true d → IsDone d
+  ends_done cut f = (f.done refl).1 (idle_talked (takes.found (f.done refl).0))
+
+  -- memory was refused in the last part
+  pub until_reports : (cut : Bool) (sent : List Outgoing) (heard : List Heard) (refused : Option (List ℕ × FrameFault)) (asked replied reports : List Call)
+      → RequestsPart node now sent asked → RepliesPart now heard refused replied → ReportsPartUntil node now cut (mail_of c) reports (mail_of d)
+      → TurnUntil node now x d sent heard (takes.calls ++ (Tick node now ticked ∷ []) ++ (asked ++ replied) ++ reports)
+  until_reports cut sent heard refused asked replied reports p q r =
+      TurnUntil.in_reports takes.closes ticked takes.calls (Tick node now ticked ∷ []) asked replied reports sent heard refused cut items_all (record { closed = closed_all; only = only_all }) refl p q
+      (reports_until_from node now cut (mail_of c) (mail_of x) (mail_of d) reports mail_before r)
+
+  -- where it is not done
+  pub undone_turned : (done : Bool) (cut : Option Cause) → FinishesAll node now cut c idle done d → (done ≡ false) → IsUndone x d
+  undone_turned true cut f ends = absurd (apart ends)
+    where
+      apart : true ≡ false → ⊥
+      apart e = cc
+  undone_turned false cut f ends = left f.undone takes.busy
+    where
+      left : (false ≡ true) ⊎ ((idle ≡ false) ⊎ HasMore d) → (idle ≡ true) ⊎ SomeBusy x a → IsUndone x d
+      left (inl e) busy = absurd (apart e)
+        where
+          apart : false ≡ true → ⊥
+          apart e = cc
+      left (inr (inr more)) busy = inr more
+      left (inr (inl e)) (inl free) = absurd (apart (sym e ∙ free))
+        where
+          apart : false ≡ true → ⊥
+          apart e = cc
+      left (inr (inl e)) (inr busy) = inl (busy_then x a d sides busy)
+
   module _ {S : Type 0} (answers : Told S) (w v : Wired S) where
     -- the connection goes on
     pub turned_on : (done : Bool) → ticked.reconnect ≡ false → TalksOn answers node now b w c v → FinishesAll node now None c idle done d → TurnsOn answers node now x w d v
+    unfolding whole
     turned_on done on_time p f = record {
       sent = p.sent;
       heard = p.heard;
       calls = takes.calls ++ (Tick node now ticked ∷ []) ++ (p.asked ++ p.replied) ++ f.calls;
       xs = p.xs;
-      turn = record {
-        closes = takes.closes;
-        ticked = ticked;
-        items = takes.calls;
-        tick = Tick node now ticked ∷ [];
-        asked = p.asked;
-        replied = p.replied;
-        reports = f.calls;
-        of_items = items_all;
-        of_tick = refl;
-        of_requests = p.of_requests;
-        of_replies = p.of_replies;
-        of_reports = reports_all false f.calls f.part;
-        made = refl;
-        late = (λ so. absurd (not_both ticked.reconnect on_time so), λ some. absurd (none_some some));
-        nothing_tried = λ some. absurd (none_some some);
-        took = enough_all;
-        closed = closed_all;
-        only = only_all;
-        must = must_all;
-        moved = f.moved;
-      };
+      turn = whole None p.sent p.heard None p.asked p.replied done p.of_requests p.of_replies
+          (λ so. absurd (not_both ticked.reconnect on_time so), λ some. absurd (none_some some)) (λ some. absurd (none_some some)) f;
       runs = runs_all (p.asked ++ p.replied) f.calls p.talks.runs f.runs;
       lanes = lanes_all;
       goes = p.talks.goes;
@@ -206,6 +251,7 @@ module _ (node now : ℕ) (x a b c d : Exchange) (idle : Bool) (ticked : Ticked)
 
     -- the connection is of no use any more
     pub turned_cut : (done : Bool) (cause : Cause) → TalksCut answers node now ticked.reconnect b w cause c v → FinishesAll node now (Some cause) c idle done d → TurnsCut answers node now x w cause d v
+    unfolding whole
     turned_cut done cause p f =
         let l = late_cut cause w.held p.xs p.heard p.refused (p.asked ++ p.replied) p.cut in record {
           sent = p.sent;
@@ -213,28 +259,7 @@ module _ (node now : ℕ) (x a b c d : Exchange) (idle : Bool) (ticked : Ticked)
           refused = p.refused;
           calls = takes.calls ++ (Tick node now ticked ∷ []) ++ (p.asked ++ p.replied) ++ f.calls;
           xs = p.xs;
-          turn = record {
-            closes = takes.closes;
-            ticked = ticked;
-            items = takes.calls;
-            tick = Tick node now ticked ∷ [];
-            asked = p.asked;
-            replied = p.replied;
-            reports = f.calls;
-            of_items = items_all;
-            of_tick = refl;
-            of_requests = p.of_requests;
-            of_replies = p.of_replies;
-            of_reports = reports_all true f.calls f.part;
-            made = refl;
-            late = (l.0, l.1);
-            nothing_tried = l.2;
-            took = enough_all;
-            closed = closed_all;
-            only = only_all;
-            must = must_all;
-            moved = f.moved;
-          };
+          turn = whole (Some cause) p.sent p.heard p.refused p.asked p.replied done p.of_requests p.of_replies (l.0, l.1) l.2 f;
           runs = runs_all (p.asked ++ p.replied) f.calls p.talks.runs f.runs;
           lanes = lanes_all;
           stops = p.talks.stops;
@@ -243,41 +268,10 @@ module _ (node now : ℕ) (x a b c d : Exchange) (idle : Bool) (ticked : Ticked)
 
     -- what a turn answers, by its end
     pub turned : (done : Bool) (cut : Option Cause) → TalksAll answers node now ticked.reconnect b w (Ok cut) c v → FinishesAll node now cut c idle done d → Turns answers node now x w (stop_of done cut) d v
-    turned true None p f = (ended f.done, inl (turned_on true p.0 p.1 f))
-      where
-        ended : (IsTrue true → IsTrue idle × (AreIdle c → IsDone d)) → IsDone d
-        ended h = (h refl).1 (idle_talked (takes.found (h refl).0))
-    turned true (Some cause) p f = (ended f.done, inr (cause, turned_cut true cause p f))
-      where
-        ended : (IsTrue true → IsTrue idle × (AreIdle c → IsDone d)) → IsDone d
-        ended h = (h refl).1 (idle_talked (takes.found (h refl).0))
+    turned true None p f = (ends_done None f, inl (turned_on true p.0 p.1 f))
+    turned true (Some cause) p f = (ends_done (Some cause) f, inr (cause, turned_cut true cause p f))
     turned false None p f = turned_on false p.0 p.1 f
     turned false (Some cause) p f = turned_cut false cause p f
-
-    -- where it is not done
-    pub undone_turned : (done : Bool) (cut : Option Cause) → FinishesAll node now cut c idle done d → GoesOnBehind (stop_of done cut) → IsUndone x d
-    undone_turned true cut f goes = absurd goes
-    undone_turned false cut f goes = left f.undone takes.busy
-      where
-        left : (false ≡ true) ⊎ ((idle ≡ false) ⊎ HasMore d) → (idle ≡ true) ⊎ SomeBusy x a → IsUndone x d
-        left (inl e) busy = absurd (apart e)
-          where
-            apart : false ≡ true → ⊥
-            apart e = cc
-        left (inr (inr more)) busy = inr more
-        left (inr (inl e)) (inl free) = absurd (apart (sym e ∙ free))
-          where
-            apart : false ≡ true → ⊥
-            apart e = cc
-        left (inr (inl e)) (inr busy) = inl (busy_then x a d sides busy)
-
-    -- memory was refused in the last part
-    until_reports : (cut : Bool) (sent : List Outgoing) (heard : List Heard) (refused : Option (List ℕ × FrameFault)) (asked replied reports : List Call)
-        → RequestsPart node now sent asked → RepliesPart now heard refused replied → ReportsPartUntil node now cut (mail_of c) reports (mail_of d)
-        → TurnUntil node now x d sent heard (takes.calls ++ (Tick node now ticked ∷ []) ++ (asked ++ replied) ++ reports)
-    until_reports cut sent heard refused asked replied reports p q r =
-        TurnUntil.in_reports takes.closes ticked takes.calls (Tick node now ticked ∷ []) asked replied reports sent heard refused cut items_all (record { closed = closed_all; only = only_all }) refl p q
-        (reports_until_from node now cut (mail_of c) (mail_of x) (mail_of d) reports mail_before r)
 
     pub out_in_reports : (cut : Option Cause) → TalksAll answers node now ticked.reconnect b w (Ok cut) c v → FinishesUntil node now cut c d → TurnsOut answers node now x w d v
     out_in_reports None p f =
@@ -304,24 +298,12 @@ module _ (node now : ℕ) (x a b c d : Exchange) (idle : Bool) (ticked : Ticked)
 
 -- ---- until memory was refused, before the last part
 
-module _ {S : Type 0} (answers : Told S) (nothing : (s : S) → answers s [] s) (node now : ℕ) (x a : Exchange) (w : Wired S) (same_mail : SameMail x a) (same_lanes_taken : SameLanes x a) where
-  nothing_stops : Stops answers w [] [] [] w
-  nothing_stops = Goes-stops answers w w [] [] [] (Goes-nothing answers nothing w)
+module _ (node now : ℕ) (x a : Exchange) (same_mail : SameMail x a) where
+  pub items_refused : (p : TakesUntil x a × SameClosed x a) → TurnUntil node now x a [] [] p.0.calls
+  items_refused p = TurnUntil.in_items p.0.calls p.0.part p.1 same_mail
 
-  pub out_in_items : TakesUntil x a × SameClosed x a → TurnsOut answers node now x w a w
-  out_in_items p = record {
-    sent = [];
-    heard = [];
-    calls = p.0.calls;
-    xs = [];
-    turn = TurnUntil.in_items p.0.calls p.0.part p.1 same_mail;
-    runs = p.0.runs;
-    lanes = same_lanes_taken;
-    stops = nothing_stops;
-  }
-
-  module _ (idle : Bool) (takes : TakesAndCloses x a idle) (b : Exchange) (tick_only : OnlyCore a b) where
-    closed_still : (c : Exchange) → OnlyCore a c → Closed x takes.closes c
+  module _ (idle : Bool) (takes : TakesAndCloses x a idle) where
+    pub closed_still : (c : Exchange) → OnlyCore a c → Closed x takes.closes c
     closed_still c same = record {
       closed = same.closed ∙ takes.closed;
       only = λ so.
@@ -332,17 +314,40 @@ module _ {S : Type 0} (answers : Told S) (nothing : (s : S) → answers s [] s) 
           );
     }
 
+    pub tick_refused : (b : Exchange) → OnlyCore a b → TurnUntil node now x b [] [] takes.calls
+    tick_refused b tick_only = TurnUntil.before_the_tick takes.closes takes.calls
+        (items_kept (senders_of x) (side_of x) (side_of a) (side_of b) takes.closes takes.calls (core_sides a b tick_only) takes.part)
+        (closed_still b tick_only)
+        (λ k. core_mail a b tick_only k ∙ same_mail k)
+
+    pub tick_refused_runs : (b : Exchange) → Runs a [] b → Runs x takes.calls b
+    tick_refused_runs b runs = subst (λ (calls : List Call). Runs x calls b) (append-nil takes.calls) (runs_then x a b takes.calls [] takes.runs runs)
+
+module _ {S : Type 0} (answers : Told S) (nothing : (s : S) → answers s [] s) (node now : ℕ) (x a : Exchange) (w : Wired S) (same_mail : SameMail x a) (same_lanes_taken : SameLanes x a) where
+  nothing_stops : Stops answers w [] [] [] w
+  nothing_stops = Goes-stops answers w w [] [] [] (Goes-nothing answers nothing w)
+
+  pub out_in_items : TakesUntil x a × SameClosed x a → TurnsOut answers node now x w a w
+  out_in_items p = record {
+    sent = [];
+    heard = [];
+    calls = p.0.calls;
+    xs = [];
+    turn = items_refused node now x a same_mail p;
+    runs = p.0.runs;
+    lanes = same_lanes_taken;
+    stops = nothing_stops;
+  }
+
+  module _ (idle : Bool) (takes : TakesAndCloses x a idle) (b : Exchange) (tick_only : OnlyCore a b) where
     pub out_before_the_tick : Runs a [] b → TurnsOut answers node now x w b w
     out_before_the_tick runs = record {
       sent = [];
       heard = [];
       calls = takes.calls;
       xs = [];
-      turn = TurnUntil.before_the_tick takes.closes takes.calls
-          (items_kept (senders_of x) (side_of x) (side_of a) (side_of b) takes.closes takes.calls (core_sides a b tick_only) takes.part)
-          (closed_still b tick_only)
-          (λ k. core_mail a b tick_only k ∙ same_mail k);
-      runs = subst (λ (calls : List Call). Runs x calls b) (append-nil takes.calls) (runs_then x a b takes.calls [] takes.runs runs);
+      turn = tick_refused node now x a same_mail idle takes b tick_only;
+      runs = tick_refused_runs node now x a same_mail idle takes b runs;
       lanes = lanes_then x a b same_lanes_taken (core_lanes a b tick_only);
       stops = nothing_stops;
     }
@@ -355,7 +360,7 @@ module _ {S : Type 0} (answers : Told S) (nothing : (s : S) → answers s [] s) 
       xs = p.xs;
       turn = TurnUntil.in_talk takes.closes ticked takes.calls (Tick node now ticked ∷ []) p.calls p.sent p.heard
           (items_kept (senders_of x) (side_of x) (side_of a) (side_of c) takes.closes takes.calls (λ k. core_sides b c p.talks.only k ∙ core_sides a b tick_only k) takes.part)
-          (closed_still c (only_then a b c tick_only p.talks.only))
+          (closed_still node now x a same_mail idle takes c (only_then a b c tick_only p.talks.only))
           refl p.until
           (λ k. core_mail b c p.talks.only k ∙ core_mail a b tick_only k ∙ same_mail k);
       runs = runs_then x b c (takes.calls ++ (Tick node now ticked ∷ [])) p.calls (runs_then x a b takes.calls (Tick node now ticked ∷ []) takes.runs ticks) p.talks.runs;

@@ -5,6 +5,7 @@ use Rattle.futures.specs.declared.task.Poll.{Poll}
 use Rattle.futures.specs.declared.task.Poll.TheVariants.{Ready, Pending}
 use Rattle.kp_connection.specs.Wire.{Told, Wired}
 use Rattle.kp_rules.specs.Calls.{Call, Close, End, Lead, Step}
+use Rattle.kp_engine.specs.Away.{MakesTurnAway}
 use Rattle.kp_engine.specs.Engine.{Polls}
 use Rattle.kp_engine.specs.Exchange.{AreIdle, IsQuiet, OnlyCore}
 use Rattle.kp_engine.specs.Polls.{Turns}
@@ -13,6 +14,7 @@ use Rattle.kp_engine.specs.Turn.{if_so}
 use Rattle.kp_engine.specs.declared.engine.Line.{Line}
 use Rattle.kp_engine.specs.declared.engine.Line.TheVariants.{Open, Stopped}
 use Rattle.kp_engine.specs.declared.exchange.Exchange.{Exchange}
+use Rattle.kp_engine.specs.declared.stop.Cause.{Cause}
 use Rattle.kp_engine.specs.declared.stop.Stop.{Stop}
 use Rattle.kp_engine.specs.declared.stop.Stop.TheVariants.{Done, NeedStream, OutOfMemory}
 
@@ -33,11 +35,14 @@ abbrev pub calls_of_poll : {S : Type 0} (answers : Told S) (line : Line S) (x : 
 calls_of_poll answers (Open wire) x result y left poll = calls_of_turn answers poll.node poll.now poll.begun wire result y poll.after poll.turns
 calls_of_poll answers (Stopped stop) x result y left poll = []
 
--- Polls, ends and leaders told, one after the other, each poll over whatever connection there is then: all their calls.
+-- Polls, ends and leaders told, one after the other, each poll over whatever connection there is then, or with none: all
+-- their calls.
 pub data Polled {S : Type 0} (answers : Told S) (x : Exchange) : List Call → Exchange → Type 0 where
   not_yet : Polled answers x [] x
   once_more : (y z : Exchange) (calls : List Call) (line left : Line S) (result : Poll Stop) → Polled answers x calls y
       → (poll : Polls answers line y result z left) → Polled answers x (calls ++ calls_of_poll answers line y result z left poll) z
+  away : (y z : Exchange) (calls : List Call) (cause : Cause) (stop : Stop) → Polled answers x calls y
+      → (turn : MakesTurnAway cause y stop z) → Polled answers x (calls ++ turn.calls) z
   ended : (y z : Exchange) (calls : List Call) (told : ℕ) → Polled answers x calls y → Step y.core (End told) z.core
       → OnlyCore y z → Polled answers x (calls ++ End told ∷ []) z
   led : (y z : Exchange) (calls : List Call) (partition leader now : ℕ) → Polled answers x calls y

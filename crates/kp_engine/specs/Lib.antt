@@ -7,6 +7,7 @@ pub mod Opening
 pub mod Talking
 pub mod Polls
 pub mod Engine
+pub mod Away
 pub mod Serving
 pub mod Parts
 pub mod Clocked

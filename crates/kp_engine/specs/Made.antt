@@ -16,7 +16,7 @@ abbrev pub anything : Told (Unit {0})
 anything old xs new = Unit {0}
 
 -- An engine was made of this core and of these lanes. It was polled and ended any number of times, over streams that were
--- lost and given anew: it is this one now, and these are all calls on its core.
+-- lost and given anew, or with none: it is this one now, and these are all calls on its core.
 pub record WasPolled (core : Core) (intake : Intake) (calls : List Call) (x : Exchange) : Type 0 where
   pub may_turn : MayTurn core intake
   pub keeps : Bool

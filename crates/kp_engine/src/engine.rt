@@ -14,7 +14,8 @@ use crate::clock::Clock;
 use crate::exchange::Exchange;
 use crate::moves::Moves;
 use crate::parts::Parts;
-use crate::stop::Stop;
+use crate::stop::{Cause, Stop};
+use crate::turn::away::turn_away;
 use crate::turn::turn;
 use crate::turned::Turned;
 use futures::Future;
@@ -43,7 +44,7 @@ pub(crate) enum Line<S> {
 }
 
 impl<S: Stream, C: Clock> Engine<S, C> {
-    ghost use Rattle.kp_engine.specs.Clocked.{PollsOnce};
+    ghost use Rattle.kp_engine.specs.Clocked.{PollsAway, PollsOnce};
 
     /// An engine over a fresh core, fresh lanes and a stream. With `keeps_turns` it keeps the calls of its last turn.
     /// Where memory is refused, the values come back.
@@ -72,6 +73,31 @@ impl<S: Stream, C: Clock> Engine<S, C> {
         }
     }
 
+    /// The same with no connection yet: it needs its first stream.
+    pub fn without_stream(
+        alloc: Global,
+        core: Core,
+        intake: Intake,
+        clock: C,
+        keeps_turns: bool,
+    ) -> Result<Engine<S, C>, (Core, Intake, C)>
+        requires { MayTurn core intake }
+        ensures made { IfOk result (λ e. IsNew core intake keeps_turns e.exchange) }
+        ensures line { IfOk result (λ e. e.line ≡ Line.Stopped (Stop.NeedStream Cause.Io)) }
+        ensures clock { IfOk result (λ e. e.clock ≡ clock) }
+        ensures back { IfErr result (λ given. given ≡ (core, intake, clock)) }
+    {
+        match Exchange::new(alloc, core, intake, keeps_turns) {
+            Ok(exchange) => Ok(Engine {
+                alloc,
+                exchange,
+                clock,
+                line: Line::Stopped(Stop::NeedStream(Cause::Io)),
+            }),
+            Err((core, intake)) => Err((core, intake, clock)),
+        }
+    }
+
     /// One turn, unless the connection was given up: then the same is answered again. Pending where the connection goes
     /// on.
     pub fn poll_turn(&mut self, cx: &mut Context<'_>) -> Poll<Stop>
@@ -90,6 +116,31 @@ impl<S: Stream, C: Clock> Engine<S, C> {
             self.line = Line::Stopped(*stop);
         }
         polled
+    }
+
+    /// One turn with no connection, where the last poll gave NeedStream: items, and the close; the tick; reports. Done
+    /// and OutOfMemory end the engine; else it needs a stream still, for the same cause.
+    pub fn poll_away(&mut self) -> Stop
+        requires { NeedsStream self.old.line }
+        ensures { PollsAway C.moments self.old result self.new }
+    {
+        let cause = self.cause();
+        self.exchange.clear();
+        let now = self.clock.now();
+        let stop = turn_away(&mut self.exchange, cause, 0, now);
+        self.line = Line::Stopped(stop);
+        stop
+    }
+
+    /// What the connection was given up for.
+    fn cause(&self) -> Cause
+        requires { NeedsStream self.now.line }
+        ensures { self.now.line ≡ Line.Stopped (Stop.NeedStream result) }
+    {
+        match &self.line {
+            Line::Stopped(Stop::NeedStream(cause)) => *cause,
+            _ => unreachable!(),
+        }
     }
 
     /// Goes on over another stream, where the last poll gave NeedStream.

@@ -17,6 +17,7 @@ ghost use Rattle.kp_rules.specs.Records.{Core};
 ghost use Rattle.kp_rules.specs.Reports.{reports_to};
 ghost use Rattle.kp_rules.specs.declared.names.Names.{Names};
 ghost use Rattle.kp_rules.specs.declared.outgoing.Outgoing.{Outgoing};
+ghost use Rattle.kp_engine.specs.Away.{MakesTurnAway};
 ghost use Rattle.kp_engine.specs.Closing.{ClosesOnce, Polled};
 ghost use Rattle.kp_engine.specs.Engine.{IsNew, Polls};
 ghost use Rattle.kp_engine.specs.Exchange.{senders_of, side_of, OnlyCore};
@@ -61,6 +62,12 @@ pub fn a_poll_serves<S: Stream>()
         → HasPlaces x → Polls S.answers line x result y left → (calls : List Call) × Served x calls y }
 {}
 
+/// So does a turn with no connection.
+pub fn a_turn_away_serves()
+    ensures { (cause : Cause) (x : Exchange) (stop : Stop) (y : Exchange)
+        → HasPlaces x → (turn : MakesTurnAway cause x stop y) → Served x turn.calls y }
+{}
+
 /// So does an end.
 pub fn an_end_serves()
     ensures { (x y : Exchange) (told : ℕ) → HasPlaces x → Step x.core (End told) y.core → OnlyCore x y
@@ -81,6 +88,12 @@ pub fn polls_serve<S: Stream>()
 pub fn a_poll_leaves_the_lanes<S: Stream>()
     ensures { (line : Line S) (x : Exchange) (result : Poll Stop) (y : Exchange) (left : Line S)
         → Polls S.answers line x result y left → lanes_of y.intake ≡ lanes_of x.intake }
+{}
+
+/// So does a turn with no connection.
+pub fn a_turn_away_leaves_the_lanes()
+    ensures { (cause : Cause) (x : Exchange) (stop : Stop) (y : Exchange)
+        → MakesTurnAway cause x stop y → lanes_of y.intake ≡ lanes_of x.intake }
 {}
 
 // ---- the close
@@ -164,6 +177,12 @@ pub fn a_poll_is_served_too<S: Stream>()
         → (more : List Call) × HasServed core intake (calls ++ more) y }
 {}
 
+/// So with a turn with no connection.
+pub fn a_turn_away_is_served_too()
+    ensures { (core : Core) (intake : Intake) (calls : List Call) (cause : Cause) (x : Exchange) (stop : Stop) (y : Exchange)
+        → HasServed core intake calls x → (turn : MakesTurnAway cause x stop y) → HasServed core intake (calls ++ turn.calls) y }
+{}
+
 /// And with an end, after which its core has ended.
 pub fn an_end_is_served_too()
     ensures { (core : Core) (intake : Intake) (calls : List Call) (x y : Exchange) (told : ℕ) → HasServed core intake calls x
@@ -201,4 +220,10 @@ pub fn calls_go_until_memory_is_refused()
     ensures { (node now : ℕ) (x y : Exchange) (sent : List Outgoing) (heard : List Heard) (calls : List Call)
         → TurnUntil node now x y sent heard calls → (more : List (List ℕ)) × (flat_map asked_by calls ≡ frames_of sent ++ more)
         × (flat_map replied_by calls ≡ contents_of heard) }
+{}
+
+/// With no connection there are none.
+pub fn no_call_goes_with_no_connection()
+    ensures { (cause : Cause) (x : Exchange) (stop : Stop) (y : Exchange) → (turn : MakesTurnAway cause x stop y)
+        → (flat_map asked_by turn.calls ≡ []) × (flat_map replied_by turn.calls ≡ []) }
 {}

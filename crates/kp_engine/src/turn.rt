@@ -6,6 +6,7 @@ ghost use Rattle.futures.specs.Task.{Covers, Keeps};
 ghost use Rattle.kp_frames.specs.Stream.{is_faulty};
 ghost use Rattle.kp_engine.specs.Polls.{GoesOnBehind, IsUndone, TalksAll, Turns, stop_of};
 
+pub(crate) mod away;
 mod ending;
 mod hearing;
 mod writing;

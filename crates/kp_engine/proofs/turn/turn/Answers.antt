@@ -3,7 +3,7 @@ use Rattle.futures.specs.declared.task.Poll.{Poll}
 use Rattle.kp_engine.specs.Polls.{GoesOnBehind, IsUndone, Turns}
 use Rattle.kp_engine.specs.declared.stop.Stop.{Stop}
 use Rattle.kp_engine.proofs.TalkingLemmas.{talks_only}
-use Rattle.kp_engine.proofs.TurnLemmas.{out_in_items, out_before_the_tick, out_in_talk, out_in_reports, turned, undone_turned}
+use Rattle.kp_engine.proofs.TurnLemmas.{goes_undone, out_in_items, out_before_the_tick, out_in_talk, out_in_reports, turned, undone_turned}
 use Rattle.kp_engine.proofs.turn.turn.Goals as goal
 
 pub returns-in_default-clause-turns : goal.returns-in_default-clause-turns
@@ -34,5 +34,5 @@ returns-clause-turns g c =
 pub returns-clause-undone : goal.returns-clause-undone
 returns-clause-undone g c =
     subst (λ (r : Poll Stop). GoesOnBehind r → IsUndone c.args.exchange.now c.finish.new.exchange) (sym c.stop_of.ensures)
-    (undone_turned c.args.node c.args.now c.args.exchange.now c.take_items.new.self c.tick.new.self c.talk.new.exchange c.finish.new.exchange c.in-Ok.idle c.in-Ok-tick.ticked c.in-Ok.ensures.takes c.take_items.ensures.mail c.take_items.ensures.lanes
-    c.in-Ok-tick.ensures.ok c.tick.ensures.same (talks_only g.S.Stream.answers c.args.node c.args.now c.in-Ok-tick.ticked.reconnect c.tick.new.self c.args.wire.now (Ok c.in-Ok-talk.cut) c.talk.new.exchange c.talk.new.wire c.in-Ok-talk.ensures.talks) c.finish.ensures.only g.S.Stream.answers c.args.wire.now c.talk.new.wire c.in-Ok-finish.done c.in-Ok-talk.cut c.in-Ok-finish.ensures.finishes)
+    (λ goes. undone_turned c.args.node c.args.now c.args.exchange.now c.take_items.new.self c.tick.new.self c.talk.new.exchange c.finish.new.exchange c.in-Ok.idle c.in-Ok-tick.ticked c.in-Ok.ensures.takes c.take_items.ensures.mail c.take_items.ensures.lanes
+    c.in-Ok-tick.ensures.ok c.tick.ensures.same (talks_only g.S.Stream.answers c.args.node c.args.now c.in-Ok-tick.ticked.reconnect c.tick.new.self c.args.wire.now (Ok c.in-Ok-talk.cut) c.talk.new.exchange c.talk.new.wire c.in-Ok-talk.ensures.talks) c.finish.ensures.only c.in-Ok-finish.done c.in-Ok-talk.cut c.in-Ok-finish.ensures.finishes (goes_undone c.in-Ok-finish.done c.in-Ok-talk.cut goes))
