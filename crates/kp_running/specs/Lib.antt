@@ -3,3 +3,4 @@ pub mod Bells
 pub mod Engines
 pub mod Pace
 pub mod Running
+pub mod Lasting

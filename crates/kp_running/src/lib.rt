@@ -4,7 +4,9 @@
 
 mod bell;
 mod bells;
+mod connecting;
 mod engine;
+mod lasting;
 mod millis;
 mod pace;
 mod running;
@@ -12,6 +14,8 @@ mod turning;
 
 pub use bell::{Bell, SenderBell};
 pub use bells::Bells;
+pub use connecting::Connecting;
+pub use lasting::{Lasting, Over};
 pub use millis::{Millis, Passed};
 pub use running::Running;
 pub use turning::Turning;

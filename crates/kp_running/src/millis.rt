@@ -1,11 +1,12 @@
 //! The runtime's clock as an engine's.
 
-ghost use Rattle.std.specs.Prelude.{◌≡◌, ◌≤◌, [], map, Some, IfOk};
+ghost use Rattle.std.specs.Duration.{as_nanos};
+ghost use Rattle.std.specs.Prelude.{◌≡◌, ◌≤◌, ◌-◌, ◌/◌, ◌^◌, [], map, min, Some, IfOk};
 ghost use Rattle.std.specs.List.{last_or};
 
 use http_server::Log;
 use std::io;
-use std::time::{Clock, Instant};
+use std::time::{Clock, Duration, Instant};
 
 /// What has passed since a moment, in milliseconds. It never goes back; where the clock cannot be read, it shows what it
 /// showed last.
@@ -30,11 +31,17 @@ impl Passed {
         ensures never_back { self.old.shown ≤ self.new.shown }
     {
         if let Ok(passed) = self.start.elapsed(rt) {
-            let millis = u64::try_from(passed.as_millis()).unwrap_or(u64::MAX);
-            self.shown = self.shown.max(millis);
+            self.shown = self.shown.max(millis_of(passed));
         }
         self.shown
     }
+}
+
+/// So much time in milliseconds.
+fn millis_of(passed: Duration) -> u64
+    ensures { result ≡ min (as_nanos passed / 1_000_000) (2 ^ 64 - 1) }
+{
+    u64::try_from(passed.as_millis()).unwrap_or(u64::MAX)
 }
 
 /// The runtime's clock as an engine's: milliseconds since a moment.

@@ -2,7 +2,7 @@
 
 ghost use Rattle.std.specs.Prelude.{ℕ};
 ghost use Rattle.futures.specs.Poll.{OnPending};
-ghost use Rattle.futures.specs.Task.{Covers, Keeps};
+ghost use Rattle.futures.specs.Task.{Hears, Keeps};
 ghost use Rattle.futures.specs.declared.task.Poll.{Poll as Polled};
 
 use futures::task::{Context, Poll};
@@ -21,7 +21,7 @@ pub trait Turning: Drop {
     /// One poll.
     fn poll_turn(&mut self, cx: &mut Context<'_>) -> Poll<Self::Stop>
         ensures polls { polls self.old result self.new }
-        ensures registered { OnPending result (Covers cx.new (reader self.new)) }
+        ensures registered { OnPending result ((s : ℕ) → reader self.new s → Hears cx.new s) }
         ensures kept { Keeps cx.old cx.new };
 
     /// Whether the last poll moved something: what was refused or came to nothing is no move.
