@@ -13,10 +13,11 @@ use Rattle.kp_engine.specs.Closing.{Polled, calls_of_poll}
 use Rattle.kp_engine.specs.Engine.{fresh_wire}
 use Rattle.kp_engine.specs.Serving.{HasPlaces, Served, asked_by, replied_by}
 use Rattle.kp_engine.specs.declared.engine.Line.{Line}
-use Rattle.kp_engine.specs.declared.engine.Line.TheVariants.{Open}
+use Rattle.kp_engine.specs.declared.engine.Line.TheVariants.{Open, Stopped}
 use Rattle.kp_engine.specs.declared.exchange.Exchange.{Exchange}
+use Rattle.kp_engine.specs.declared.stop.Stop.TheVariants.{NeedStream}
 use Rattle.kp_engine.proofs.ClosingLemmas.{polls_serve, polls_then}
-use Rattle.kp_engine.proofs.ServedLemmas.{poll_serves_its}
+use Rattle.kp_engine.proofs.ServedLemmas.{away_serves, poll_serves_its}
 use Rattle.kp_frames.specs.declared.frame.TheConstants.{CONTENT_LIMIT}
 use Rattle.kp_frames.specs.Stream.{Split, at_most, frame, stream}
 use Rattle.kp_frames.proofs.StreamLemmas.{passes_spelled, stream_more}
@@ -203,6 +204,9 @@ over_polls answers first calls given x _ _ _ _ _ p OverStream.not_yet = subst (�
 over_polls answers first calls given x _ _ _ _ _ p (OverStream.once_more y z more mine xs line left result before poll) =
     subst (λ (cs : List Call). Polled answers first cs z) (append_assoc calls more (calls_of_poll answers line y result z left poll))
     (Polled.once_more y z (calls ++ more) line left result (over_polls answers first calls given x more mine xs y line p before) poll)
+over_polls answers first calls given x _ _ _ _ _ p (OverStream.away y z more mine xs cause stop before turn) =
+    subst (λ (cs : List Call). Polled answers first cs z) (append_assoc calls more turn.calls)
+    (Polled.away y z (calls ++ more) cause stop (over_polls answers first calls given x more mine xs y (Stopped (NeedStream cause)) p before) turn)
 over_polls answers first calls given x _ _ _ _ _ p (OverStream.meanwhile y z more mine others xs line before polled) =
     subst (λ (cs : List Call). Polled answers first cs z) (append_assoc calls more others)
     (polls_then answers first y z (calls ++ more) others (over_polls answers first calls given x more mine xs y line p before) polled)
@@ -280,6 +284,9 @@ over_framed answers c names given x _ _ _ _ _ places config named order OverStre
 over_framed answers c names given x _ _ _ _ _ places config named order (OverStream.once_more y z calls mine xs line left result before poll) =
     let p : FramedOver c names x calls mine y = over_framed answers c names given x calls mine xs y line places config named order before in
     mine_then c names x y z calls mine (calls_of_poll answers line y result z left poll) p (poll_serves_its answers line y result z left p.places poll)
+over_framed answers c names given x _ _ _ _ _ places config named order (OverStream.away y z calls mine xs cause stop before turn) =
+    let p : FramedOver c names x calls mine y = over_framed answers c names given x calls mine xs y (Stopped (NeedStream cause)) places config named order before in
+    mine_then c names x y z calls mine turn.calls p (away_serves cause y stop z p.places turn)
 over_framed answers c names given x _ _ _ _ _ places config named order (OverStream.meanwhile y z calls mine others xs line before polled) =
     let p : FramedOver c names x calls mine y = over_framed answers c names given x calls mine xs y line places config named order before in
     others_then c names x y z calls mine others p (polls_serve answers y z others p.places polled)

@@ -9,9 +9,10 @@ use Rattle.futures.specs.declared.task.Poll.{Poll}
 use Rattle.futures.specs.declared.task.Poll.TheVariants.{Ready, Pending}
 use Rattle.kp_accum.specs.declared.item.Item.{Item}
 use Rattle.kp_connection.specs.Wire.{Told, Wired}
+use Rattle.kp_engine.specs.Away.{EndsAway, MakesTurnAway, cut_if_late}
 use Rattle.kp_engine.specs.Closing.{Polled, calls_of_poll, calls_of_turn}
 use Rattle.kp_engine.specs.Agreement.{held_at}
-use Rattle.kp_engine.specs.Engine.{Polls}
+use Rattle.kp_engine.specs.Engine.{Cleared, Polls}
 use Rattle.kp_engine.specs.Exchange.{mail_of, senders_of, side_of}
 use Rattle.kp_engine.specs.Polls.{TalkUntil, Turn, TurnUntil, Turns, is_cut}
 use Rattle.kp_engine.specs.Serving.{HasPlaces, Served}
@@ -23,7 +24,7 @@ use Rattle.kp_engine.specs.declared.stop.Cause.{Cause}
 use Rattle.kp_engine.specs.declared.stop.Stop.{Stop}
 use Rattle.kp_engine.specs.declared.stop.Stop.TheVariants.{Done, NeedStream, OutOfMemory}
 use Rattle.kp_engine.proofs.ClosingLemmas.{polls_serve}
-use Rattle.kp_engine.proofs.ServedLemmas.{poll_serves_its}
+use Rattle.kp_engine.proofs.ServedLemmas.{away_serves, poll_serves_its}
 use Rattle.kp_engine.proofs.ServingLemmas.{before_nothing, none_asked, none_of, reports_none, reports_until_none}
 use Rattle.kp_frames.specs.declared.fault.FrameFault.{FrameFault}
 use Rattle.kp_lanes.specs.Entries.{has_mark, items_of}
@@ -255,6 +256,11 @@ module _ (x y : Exchange) (own : (k : ℕ) → Theirs k (items_of (side_of y k).
   turns_feed answers node now w (Ready (NeedStream cause)) v t = turn_feeds node now t.sent t.heard t.refused (Some cause) t.calls t.turn
   turns_feed answers node now w (Ready OutOfMemory) v t = until_turn_feeds node now t.sent t.heard t.calls t.turn
 
+  away_feeds : (node now : ℕ) (cause : Cause) (calls : List Call) (stop : Stop) → EndsAway node now cause x calls stop y → Feeding (side_of x) calls (side_of y)
+  away_feeds node now cause calls Done (done, t) = turn_feeds node now [] [] None (cut_if_late t.late) calls t.turn
+  away_feeds node now cause calls (NeedStream still) (same, t) = turn_feeds node now [] [] None (cut_if_late t.late) calls t.turn
+  away_feeds node now cause calls OutOfMemory t = until_turn_feeds node now [] [] calls t.turn
+
 -- ---- places that no sender has
 
 abbrev pub IsSized : Exchange → Type 0
@@ -286,20 +292,31 @@ same_side x y p q k =
 pub sized_then : (x y : Exchange) (calls : List Call) → IsSized x → Served x calls y → IsSized y
 sized_then x y calls sized s = ap length s.lanes.lanes ∙ sized ∙ sym s.lanes.senders
 
+-- the calls of an earlier turn were forgotten before
+cleared_feeds : (x b y : Exchange) (calls : List Call) → Cleared x b → IsSized x → IsSized y → senders_of y ≡ senders_of x → ((k : ℕ) → Theirs k (option_to_list (side_of x k).held))
+    → (((k : ℕ) → Theirs k (option_to_list (side_of b k).held))
+    → ((k : ℕ) → senders_of b ≤ k → (items_of (side_of y k).passed ≡ items_of (side_of b k).passed) × ((side_of y k).held ≡ (side_of b k).held)) → Feeding (side_of b) calls (side_of y))
+    → Feeding (side_of x) calls (side_of y)
+cleared_feeds x b y calls cleared sized sized' same had feeds i =
+    let alike : (k : ℕ) → side_of b k ≡ side_of x k = same_side x b cleared.intake cleared.items in
+    let many : senders_of b ≡ senders_of x = ap length cleared.items in
+    let sized_b : IsSized b = ap (λ (t : Intake). length (lanes_of t)) cleared.intake ∙ sized ∙ sym many in
+    subst (λ (s : Side). FeedsSide s (offers i calls) (side_of y i)) (alike i)
+    (feeds (λ k. subst (λ (s : Side). Theirs k (option_to_list s.held)) (sym (alike k)) (had k)) (same_beyond b y sized_b sized' (same ∙ sym many)) i)
+
+away_turn_feeds : (cause : Cause) (x : Exchange) (stop : Stop) (y : Exchange) → IsSized x → IsSized y → senders_of y ≡ senders_of x
+    → ((k : ℕ) → Theirs k (items_of (side_of y k).passed)) → ((k : ℕ) → Theirs k (option_to_list (side_of x k).held))
+    → (turn : MakesTurnAway cause x stop y) → Feeding (side_of x) turn.calls (side_of y)
+away_turn_feeds cause x stop y sized sized' same own had p =
+    cleared_feeds x p.begun y p.calls p.cleared sized sized' same had (λ had_b beyond. away_feeds p.begun y own had_b beyond p.node p.now cause p.calls stop p.turns)
+
 module _ {S : Type 0} (answers : Told S) where
   poll_feeds : (line : Line S) (x : Exchange) (result : Poll Stop) (y : Exchange) (left : Line S) → IsSized x → IsSized y → senders_of y ≡ senders_of x
       → ((k : ℕ) → Theirs k (items_of (side_of y k).passed)) → ((k : ℕ) → Theirs k (option_to_list (side_of x k).held))
       → (poll : Polls answers line x result y left) → Feeding (side_of x) (calls_of_poll answers line x result y left poll) (side_of y)
   poll_feeds (Open wire) x result y left sized sized' same own had p i =
-      let b : Exchange = p.begun in
-      let alike : (k : ℕ) → side_of b k ≡ side_of x k = same_side x b p.cleared.intake p.cleared.items in
-      let many : senders_of b ≡ senders_of x = ap length p.cleared.items in
-      let sized_b : IsSized b = ap (λ (t : Intake). length (lanes_of t)) p.cleared.intake ∙ sized ∙ sym many in
-      subst (λ (s : Side). FeedsSide s (offers i (calls_of_turn answers p.node p.now b wire result y p.after p.turns)) (side_of y i)) (alike i)
-      (turns_feed b y own
-      (λ k. subst (λ (s : Side). Theirs k (option_to_list s.held)) (sym (alike k)) (had k))
-      (same_beyond b y sized_b sized' (same ∙ sym many))
-      answers p.node p.now wire result p.after p.turns i)
+      cleared_feeds x p.begun y (calls_of_turn answers p.node p.now p.begun wire result y p.after p.turns) p.cleared sized sized' same had
+      (λ had_b beyond. turns_feed p.begun y own had_b beyond answers p.node p.now wire result p.after p.turns) i
   poll_feeds (Stopped stop) x result y left sized sized' same own had p i =
       let alike : side_of y i ≡ side_of x i = same_side x y p.0.intake p.0.items i in
       side_stays (side_of x i) (side_of y i) (ap (λ (s : Side). items_of s.passed) alike) (ap (λ (s : Side). s.held) alike)
@@ -327,19 +344,32 @@ module _ {S : Type 0} (answers : Told S) where
         subst (Theirs k) (append-nil held)
         (all_back (λ i. i.sender ≡ k) last.0 (held ++ []) (subst (Theirs k) last.1 all))
 
+    -- behind what was fed, more is
+    fed_then : (calls mine : List Call) (y z : Exchange) → Served first calls y → Served y mine z → ((k : ℕ) → Theirs k (items_of (side_of z k).passed))
+        → (((k : ℕ) → Theirs k (items_of (side_of y k).passed)) → Feeding (side_of first) calls (side_of y))
+        → (IsSized y → IsSized z → ((k : ℕ) → Theirs k (option_to_list (side_of y k).held)) → Feeding (side_of y) mine (side_of z))
+        → Feeding (side_of first) (calls ++ mine) (side_of z)
+    fed_then calls mine y z served further own before then i =
+        let sized_y : IsSized y = sized_then first y calls sized served in
+        let own_y = own_before y z mine sized_y further own in
+        let f : Feeding (side_of first) calls (side_of y) = before own_y in
+        let g : Feeding (side_of y) mine (side_of z) = then sized_y (sized_then y z mine sized_y further) (held_own y calls own_y f) in
+        subst (λ (os : List Offer). FeedsSide (side_of first i) os (side_of z i)) (sym (flat_map-append (offered_by i) calls mine))
+        (sides_then (side_of first i) (side_of y i) (side_of z i) (offers i calls) (offers i mine) (f i) (g i))
+
     pub polls_feed : (calls : List Call) (y : Exchange) → Polled answers first calls y → ((k : ℕ) → Theirs k (items_of (side_of y k).passed))
         → Feeding (side_of first) calls (side_of y)
     polls_feed _ _ Polled.not_yet own i = side_stays (side_of first i) (side_of first i) refl refl
     polls_feed _ _ (Polled.once_more y z calls line left result before poll) own i =
         let served : Served first calls y = polls_serve answers first y calls places before in
         let further : Served y (calls_of_poll answers line y result z left poll) z = poll_serves_its answers line y result z left served.places poll in
-        let sized_y : IsSized y = sized_then first y calls sized served in
-        let own_y = own_before y z (calls_of_poll answers line y result z left poll) sized_y further own in
-        let f : Feeding (side_of first) calls (side_of y) = polls_feed calls y before own_y in
-        let g = poll_feeds line y result z left sized_y (sized_then y z (calls_of_poll answers line y result z left poll) sized_y further) further.lanes.senders own
-        (held_own y calls own_y f) poll in
-        subst (λ (os : List Offer). FeedsSide (side_of first i) os (side_of z i)) (sym (flat_map-append (offered_by i) calls (calls_of_poll answers line y result z left poll)))
-        (sides_then (side_of first i) (side_of y i) (side_of z i) (offers i calls) (offers i (calls_of_poll answers line y result z left poll)) (f i) (g i))
+        fed_then calls (calls_of_poll answers line y result z left poll) y z served further own (λ own_y. polls_feed calls y before own_y)
+        (λ sized_y sized_z had_y. poll_feeds line y result z left sized_y sized_z further.lanes.senders own had_y poll) i
+    polls_feed _ _ (Polled.away y z calls cause stop before turn) own i =
+        let served : Served first calls y = polls_serve answers first y calls places before in
+        let further : Served y turn.calls z = away_serves cause y stop z served.places turn in
+        fed_then calls turn.calls y z served further own (λ own_y. polls_feed calls y before own_y)
+        (λ sized_y sized_z had_y. away_turn_feeds cause y stop z sized_y sized_z further.lanes.senders own had_y turn) i
     polls_feed _ _ (Polled.ended y z calls told before step only) own i =
         let alike : (k : ℕ) → side_of z k ≡ side_of y k = same_side y z only.intake only.items in
         let f : Feeding (side_of first) calls (side_of y) = polls_feed calls y before (λ k. subst (λ (s : Side). Theirs k (items_of s.passed)) (alike k) (own k)) in

@@ -1,5 +1,6 @@
 -- The polls of an engine that was run to its stop.
-use Rattle.std.proofs.Common.{ℕ, List, [], ◌∷◌, ◌++◌, subst, append_assoc}
+use Rattle.std.proofs.Common.{ℕ, List, [], ◌∷◌, ◌++◌, sym, subst, append_assoc, append-nil}
+use Rattle.futures.specs.declared.task.Poll.{Poll}
 use Rattle.futures.specs.declared.task.Poll.TheVariants.{Ready, Pending}
 use Rattle.kp_connection.specs.Answers.{Answer}
 use Rattle.kp_connection.specs.Wire.{Told}
@@ -9,7 +10,9 @@ use Rattle.kp_engine.specs.declared.engine.Engine.{Engine}
 use Rattle.kp_engine.specs.declared.exchange.Exchange.{Exchange}
 use Rattle.kp_engine.specs.declared.stop.Stop.{Stop}
 use Rattle.kp_rules.specs.Calls.{Call}
+use Rattle.kp_running.specs.Lasting.{LastsOnce}
 use Rattle.kp_running.specs.Running.{GoesThrough, Reaches}
+use Rattle.kp_running.specs.declared.lasting.Over.{Over}
 use Rattle.kp_world.specs.World.{Opening}
 use Rattle.kp_polls.specs.Bytes.{OverStream, answered_in_poll}
 use Rattle.kp_polls.specs.Polling.{Polling}
@@ -60,3 +63,35 @@ module _ {S C : Type 0} (answers : Told S) (moments : C → List ℕ) where
       → OverStream answers given x calls mine xs old.exchange old.line → Reaches (PollsOnce answers moments) old stop new
       → (more : List Call) × (ys : List Answer) × OverStream answers given x (calls ++ more) (mine ++ more) (xs ++ ys) new.exchange new.line
   run_over_stream x given calls mine xs old new stop over reaches = run_over x given reaches.between old new stop calls mine xs over reaches.goes
+
+  -- an engine that lasts through outages
+  once_polled : (first : Exchange) (calls : List Call) (old : Engine S C) (result : Poll Over) (new : Engine S C) → Polled answers first calls old.exchange
+      → LastsOnce answers moments old result new → (more : List Call) × Polled answers first (calls ++ more) new.exchange
+  once_polled first calls old _ _ p (LastsOnce.over_it new polled none poll) = (
+    calls_of_poll answers old.line old.exchange polled new.exchange new.line poll.polls,
+    Polled.once_more old.exchange new.exchange calls old.line new.line polled p poll.polls,
+  )
+  once_polled first calls old _ _ p (LastsOnce.over_the_next mid new stream polled given poll) = (
+    calls_of_poll answers mid.line mid.exchange polled new.exchange new.line poll.polls,
+    Polled.once_more mid.exchange new.exchange calls mid.line new.line polled (subst (λ (x : Exchange). Polled answers first calls x) (sym given.exchange) p) poll.polls,
+  )
+  once_polled first calls old _ _ p (LastsOnce.with_none new stop poll) = (poll.turn.calls, Polled.away old.exchange new.exchange calls poll.cause stop p poll.turn)
+  once_polled first calls old _ _ p (LastsOnce.given_up cause is) = ([], subst (λ (cs : List Call). Polled answers first cs old.exchange) (sym (append-nil calls)) p)
+
+  module _ {E : Type 0} (engine : E → Engine S C) (polls : E → Poll Over → E → Type 0)
+      (each : (was is : E) (result : Poll Over) → polls was result is → LastsOnce answers moments (engine was) result (engine is)) where
+    lasting_polled : (first : Exchange) (between : List E) (old new : E) (stop : Over) (calls : List Call) → Polled answers first calls (engine old).exchange
+        → GoesThrough polls old between stop new → (more : List Call) × Polled answers first (calls ++ more) (engine new).exchange
+    lasting_polled first [] old new stop calls polled went = once_polled first calls (engine old) (Ready stop) (engine new) polled (each old new (Ready stop) went)
+    lasting_polled first (next ∷ between) old new stop calls polled went =
+        let mine = once_polled first calls (engine old) Pending (engine next) polled (each old next Pending went.0) in
+        let later = lasting_polled first between next new stop (calls ++ mine.0) mine.1 went.1 in
+        (mine.0 ++ later.0, subst (λ (cs : List Call). Polled answers first cs (engine new).exchange) (append_assoc calls mine.0 later.0) later.1)
+
+    pub lasting_polls : (o : Opening) (calls : List Call) (old new : E) (stop : Over) → Polling answers o calls (engine old).exchange → Reaches polls old stop new
+        → (more : List Call) × Polling answers o (calls ++ more) (engine new).exchange
+    lasting_polls o calls old new stop p reaches =
+        let all = lasting_polled p.first reaches.between old new stop calls p.polled reaches.goes in (
+          all.0,
+          record { may_begin = p.may_begin; intake = p.intake; may_turn = p.may_turn; keeps = p.keeps; first = p.first; is_new = p.is_new; polled = all.1 },
+        )

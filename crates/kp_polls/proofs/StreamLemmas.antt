@@ -17,6 +17,7 @@ use Rattle.kp_engine.specs.declared.engine.Line.TheVariants.{Open, Stopped}
 use Rattle.kp_engine.specs.declared.exchange.Exchange.{Exchange}
 use Rattle.kp_engine.specs.declared.stop.Stop.{Stop}
 use Rattle.kp_engine.specs.declared.stop.Stop.TheVariants.{Done, NeedStream, OutOfMemory}
+use Rattle.kp_engine.proofs.AwayLemmas.{none_goes}
 use Rattle.kp_engine.proofs.FrameLemmas.{turn_goes, until_goes}
 use Rattle.kp_engine.proofs.ServingLemmas.{before_nothing}
 use Rattle.kp_rules.specs.Calls.{Call}
@@ -114,6 +115,9 @@ module _ {S : Type 0} (answers : Told S) (nothing : (s : S) → answers s [] s)
   went_over given x _ _ _ _ _ OverStream.not_yet = Goes-nothing answers nothing (fresh_wire given)
   went_over given x _ _ _ _ _ (OverStream.once_more y z calls mine xs line left result before poll) =
       poll_over (fresh_wire given) mine xs line y result z left (went_over given x calls mine xs y line before) poll
+  went_over given x _ _ _ _ _ (OverStream.away y z calls mine xs cause stop before turn) =
+      let silent = none_goes cause y stop z turn in
+      silently (fresh_wire given) mine turn.calls xs (Stopped stop) silent.0 silent.1 (went_over given x calls mine xs y (Stopped (NeedStream cause)) before)
   went_over given x _ _ _ _ _ (OverStream.meanwhile y z calls mine others xs line before polled) = went_over given x calls mine xs y line before
 
   -- also where it is still there
