@@ -4,5 +4,5 @@ pub mod EndLemmas
 pub mod FittingLemmas
 mod OpeningLemmas
 mod ProducerLemmas
+mod SingleLemmas
 pub mod ServiceLemmas
-mod StopLemmas

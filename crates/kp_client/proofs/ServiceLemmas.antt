@@ -1,32 +1,43 @@
--- An engine is run from stop to stop.
+-- An engine is run to its end, through outages.
 use Rattle.std.proofs.Common.{◌≡◌, List, [], ◌∷◌, ◌++◌, refl, sym, ap, ◌∙◌, subst, inr, ⊎_elim}
 use Rattle.std.specs.Prelude.{ℕ, Bool, Option, Some, IfSome, Result, Ok, Err, IfOk}
 use Rattle.futures.specs.declared.task.Poll.{Poll}
 use Rattle.futures.specs.declared.task.Poll.TheVariants.{Ready, Pending}
 use Rattle.kp_connection.specs.Wire.{Told, Wired}
-use Rattle.kp_engine.specs.Clocked.{PollsOnce}
+use Rattle.kp_engine.specs.Clocked.{PollsAway, PollsOnce}
 use Rattle.kp_engine.specs.Engine.{IsNew, Polls}
 use Rattle.kp_engine.specs.Closing.{Polled, calls_of_poll}
 use Rattle.kp_engine.specs.Made.{WasPolled, anything}
 use Rattle.kp_engine.specs.Opening.{MayTurn}
+use Rattle.kp_engine.specs.Polls.{IsDone}
 use Rattle.kp_engine.specs.Serving.{HasServed}
 use Rattle.kp_engine.specs.declared.engine.Engine.{Engine}
 use Rattle.kp_engine.specs.declared.engine.Line.{Line}
 use Rattle.kp_engine.specs.declared.engine.Line.TheVariants.{Open, Stopped}
 use Rattle.kp_engine.specs.declared.exchange.Exchange.{Exchange}
+use Rattle.kp_engine.specs.declared.stop.Cause.{Cause}
+use Rattle.kp_engine.specs.declared.stop.Cause.TheVariants.{Io}
 use Rattle.kp_engine.specs.declared.stop.Stop.{Stop}
-use Rattle.kp_engine.proofs.MadeLemmas.{has_served, new_polled}
+use Rattle.kp_engine.specs.declared.stop.Stop.TheVariants.{NeedStream}
+use Rattle.kp_engine.proofs.MadeLemmas.{has_served, new_polled, polled_away}
 use Rattle.kp_engine.proofs.StreamlessLemmas.{no_line, poll_so}
 use Rattle.kp_lanes.specs.Intake.{lanes_of}
 use Rattle.kp_lanes.specs.declared.intake.Intake.{Intake}
 use Rattle.kp_rules.specs.Calls.{Call}
 use Rattle.kp_rules.specs.Records.{Core}
+use Rattle.kp_running.specs.Lasting.{IfGivenUp, IsGoing, IsLeft, IsSpent, LastsBy, LastsOnce}
 use Rattle.kp_running.specs.Running.{GoesThrough, Reaches}
-use Rattle.kp_client.specs.Ends.{EndsAs, HasEnded, WasServed, WasUnserved}
+use Rattle.kp_running.specs.declared.lasting.Over.{Over}
+use Rattle.kp_running.specs.declared.lasting.Over.TheVariants as kinds
+use Rattle.kp_running.proofs.LastingLemmas.{once_left}
+use Rattle.kp_client.specs.Ends.{EndsAs, HasEnded, MayEnd, WasServed, WasUnserved}
 use Rattle.kp_client.specs.Left.{parts_in}
-use Rattle.kp_client.specs.Serving.{GoesOn, IsServing, LastGave, Serves}
+use Rattle.kp_client.specs.Policy.{limit_of}
+use Rattle.kp_client.specs.Serving.{ending_for, GivesUpFor, GoesOn, IsServing, LastGave, Serves}
 use Rattle.kp_client.specs.declared.fault.ServiceFault.{ServiceFault}
 use Rattle.kp_client.specs.declared.left.Ended.{Ended}
+use Rattle.kp_client.specs.declared.left.Ending.TheVariants.{Done}
+use Rattle.kp_client.specs.declared.policy.Policy.{Policy}
 use Rattle.kp_client.specs.declared.tended.Tended.{Tended}
 
 open_stopped : {S : Type 0} {wire : Wired S} {stop : Stop} → Open wire ≡ Stopped stop → ⊥
@@ -35,10 +46,9 @@ open_stopped e = absurd cc
 stopped_alike : (S : Type 0) (one other : Stop) → ◌≡◌ {A = Line S} (Stopped one) (Stopped other) → one ≡ other
 stopped_alike S one other e = cc
 
-module _ {S C : Type 0} (answers : Told S) (moments : C → List ℕ) where
-  abbrev polls : Tended S C → Poll Stop → Tended S C → Type 0
-  polls old polled new = PollsOnce answers moments old.engine polled new.engine × (new.again.policy ≡ old.again.policy)
+-- ---- one poll
 
+module _ {S C : Type 0} (answers : Told S) (moments : C → List ℕ) where
   abbrev stop_of : Stop → Poll Stop → Stop
   stop_of other (Ready stop) = stop
   stop_of other Pending = other
@@ -60,19 +70,13 @@ module _ {S C : Type 0} (answers : Told S) (moments : C → List ℕ) where
       → LastGave core intake (earlier ++ calls_of_poll anything (no_line line) x polled y (no_line left) (poll_so answers line x polled y left poll)) stop y
   gave_so core intake earlier x h line (Ready gave) y left poll stop is =
       let same : gave ≡ stop = stopped_alike S gave stop (sym (stops_at line x gave y left poll) ∙ is) in
-      subst (λ (s : Stop). LastGave core intake (earlier ++ calls_of_poll anything (no_line line) x (Ready gave) y (no_line left) (poll_so answers line x (Ready gave) y left poll)) s y) same record {
-        earlier = earlier;
-        before = x;
-        polled = h;
-        line = no_line line;
-        left = no_line left;
-        poll = poll_so answers line x (Ready gave) y left poll;
-        made = refl;
-      }
+      let so = poll_so answers line x (Ready gave) y left poll in
+      subst (λ (s : Stop). LastGave core intake (earlier ++ calls_of_poll anything (no_line line) x (Ready gave) y (no_line left) so) s y) same
+      (LastGave.over_one earlier x y (no_line line) (no_line left) gave h so)
   gave_so core intake earlier x h line Pending y left poll stop is = absurd (still_open line x y left poll stop is)
 
-  once : (old new : Engine S C) (polled : Poll Stop) → PollsOnce answers moments old polled new → GoesOn old new
-  once old new polled p core intake h =
+  turned : (old new : Engine S C) (polled : Poll Stop) → PollsOnce answers moments old polled new → GoesOn old new
+  turned old new polled p core intake h =
       let so = poll_so answers old.line old.exchange polled new.exchange new.line p.polls in record {
         calls = h.calls ++ calls_of_poll anything (no_line old.line) old.exchange polled new.exchange (no_line new.line) so;
         polled = record {
@@ -85,44 +89,102 @@ module _ {S C : Type 0} (answers : Told S) (moments : C → List ℕ) where
         gave = gave_so core intake h.calls old.exchange h.polled old.line polled new.exchange new.line p.polls;
       }
 
-  goes : (old : Tended S C) (between : List (Tended S C)) (stop : Stop) (new : Tended S C) → GoesThrough polls old between stop new
-      → GoesOn old.engine new.engine
-  goes old [] stop new p = once old.engine new.engine (Ready stop) p.0
-  goes old (next ∷ rest) stop new (p, more) = λ core intake h. goes next rest stop new more core intake (once old.engine next.engine Pending p.0 core intake h)
+  turned_away : (old new : Engine S C) (stop : Stop) → PollsAway moments old stop new → GoesOn old new
+  turned_away old new stop p core intake h = record {
+    calls = h.calls ++ p.turn.calls;
+    polled = polled_away core intake h.calls old.exchange h.polled p.cause stop new.exchange p.turn;
+    gave = λ told is.
+        let same : stop ≡ told = stopped_alike S stop told (sym p.line ∙ is) in
+        subst (λ (s : Stop). LastGave core intake (h.calls ++ p.turn.calls) s new.exchange) same
+        (LastGave.with_none h.calls old.exchange new.exchange p.cause stop h.polled p.turn);
+  }
 
-  stops : (old : Tended S C) (between : List (Tended S C)) (stop : Stop) (new : Tended S C) → GoesThrough polls old between stop new
-      → new.engine.line ≡ Stopped stop
-  stops old [] stop new p = stops_at old.engine.line old.engine.exchange stop new.engine.exchange new.engine.line p.0.polls
-  stops old (next ∷ rest) stop new (p, more) = stops next rest stop new more
+  -- over a stream that it was given
+  still_serves : (old new : Engine S C) (wire : Wired S) → new.exchange ≡ old.exchange → new.line ≡ Open wire → GoesOn old new
+  still_serves old new wire same is_open core intake h = record {
+    calls = h.calls;
+    polled = subst (λ (x : Exchange). WasPolled core intake h.calls x) (sym same) h.polled;
+    gave = λ stop is. absurd (open_stopped (sym is_open ∙ is));
+  }
 
-  keeps : (old : Tended S C) (between : List (Tended S C)) (stop : Stop) (new : Tended S C) → GoesThrough polls old between stop new
-      → new.again.policy ≡ old.again.policy
-  keeps old [] stop new p = p.1
-  keeps old (next ∷ rest) stop new (p, more) = keeps next rest stop new more ∙ p.1
+  once : (old : Engine S C) (result : Poll Over) (new : Engine S C) → LastsOnce answers moments old result new → GoesOn old new
+  once old _ _ (LastsOnce.over_it new polled none p) = turned old new polled p
+  once old _ _ (LastsOnce.over_the_next mid new stream polled given p) =
+      λ core intake h. turned mid new polled p core intake (still_serves old mid _ given.exchange given.line core intake h)
+  once old _ _ (LastsOnce.with_none new stop p) = turned_away old new stop p
+  once old _ _ (LastsOnce.given_up cause is) = λ core intake h. h
 
-  pub keeps_policy : (old : Tended S C) (stop : Stop) (new : Tended S C) → Reaches polls old stop new → new.again.policy ≡ old.again.policy
-  keeps_policy old stop new r = keeps old r.between stop new r.goes
+  -- ---- any number of polls
 
-  pub goes_on : (old : Tended S C) (stop : Stop) (new : Tended S C) → Reaches polls old stop new → GoesOn old.engine new.engine
-  goes_on old stop new r = goes old r.between stop new r.goes
+  module _ {K : Type 0} (limit : K → Option ℕ) (made : K → ℕ) where
+    abbrev pub polls : Tended S C K → Poll Over → Tended S C K → Type 0
+    polls old polled new = LastsBy answers moments limit made old.lasting.engine old.lasting.connecting polled new.lasting.engine new.lasting.connecting
 
-  pub stops_for : (old : Tended S C) (stop : Stop) (new : Tended S C) → Reaches polls old stop new → new.engine.line ≡ Stopped stop
-  stops_for old stop new r = stops old r.between stop new r.goes
+    goes : (old : Tended S C K) (between : List (Tended S C K)) (over : Over) (new : Tended S C K) → GoesThrough polls old between over new
+        → GoesOn old.lasting.engine new.lasting.engine
+    goes old [] over new p = once old.lasting.engine (Ready over) new.lasting.engine p.once
+    goes old (next ∷ rest) over new (p, more) = λ core intake h. goes next rest over new more core intake (once old.lasting.engine Pending next.lasting.engine p.once core intake h)
 
-pub new_serves : {S C : Type 0} (core : Core) (intake : Intake) (keeps : Bool) (engine : Engine S C) (wire : Wired S) → MayTurn core intake
-    → IsNew core intake keeps engine.exchange → engine.line ≡ Open wire → Serves core intake engine
-new_serves core intake keeps engine wire may is_new is_open = record {
-  calls = [];
-  polled = new_polled core intake keeps engine.exchange may is_new;
-  gave = λ stop is. absurd (open_stopped (sym is_open ∙ is));
-}
+    leaves : (old : Tended S C K) (between : List (Tended S C K)) (over : Over) (new : Tended S C K) → GoesThrough polls old between over new
+        → IsGoing old.lasting.engine.line → IsLeft (Ready over) new.lasting.engine
+    leaves old [] over new p going = once_left answers moments old.lasting.engine (Ready over) new.lasting.engine p.once going
+    leaves old (next ∷ rest) over new (p, more) going =
+        leaves next rest over new more (once_left answers moments old.lasting.engine Pending next.lasting.engine p.once going)
 
-pub still_serves : {S C : Type 0} (old new : Engine S C) (wire : Wired S) → new.exchange ≡ old.exchange → new.line ≡ Open wire → GoesOn old new
-still_serves old new wire same is_open core intake h = record {
-  calls = h.calls;
-  polled = subst (λ (x : Exchange). WasPolled core intake h.calls x) (sym same) h.polled;
-  gave = λ stop is. absurd (open_stopped (sym is_open ∙ is));
-}
+    keeps : (old : Tended S C K) (between : List (Tended S C K)) (over : Over) (new : Tended S C K) → GoesThrough polls old between over new
+        → limit new.lasting.connecting ≡ limit old.lasting.connecting
+    keeps old [] over new p = p.same
+    keeps old (next ∷ rest) over new (p, more) = keeps next rest over new more ∙ p.same
+
+    spends : (old : Tended S C K) (between : List (Tended S C K)) (over : Over) (new : Tended S C K) → GoesThrough polls old between over new
+        → IfGivenUp (Ready over) (IsSpent (limit new.lasting.connecting) (made new.lasting.connecting))
+    spends old [] over new p = p.spent
+    spends old (next ∷ rest) over new (p, more) = spends next rest over new more
+
+    module _ (o : Option (Tended S C K)) (old : Tended S C K) (over : Over) (new : Tended S C K) (is : o ≡ Some old) where
+      reached : IfSome o (λ e. Reaches polls e over new) → Reaches polls old over new
+      reached r = subst (λ (p : Option (Tended S C K)). IfSome p (λ e. Reaches polls e over new)) is r
+
+      pub runs_on : IfSome o (λ e. Reaches polls e over new) → GoesOn old.lasting.engine new.lasting.engine
+      runs_on r = let reaches = reached r in goes old reaches.between over new reaches.goes
+
+      pub runs_to : IfSome o (λ e. Reaches polls e over new) → IsGoing old.lasting.engine.line → IsLeft (Ready over) new.lasting.engine
+      runs_to r = let reaches = reached r in leaves old reaches.between over new reaches.goes
+
+      -- it is given up only where as many were made as it may make at first
+      pub runs_out : IfSome o (λ e. Reaches polls e over new) → IfGivenUp (Ready over) (IsSpent (limit old.lasting.connecting) (made new.lasting.connecting))
+      runs_out r =
+          let reaches = reached r in
+          subst (λ (l : Option ℕ). IfGivenUp (Ready over) (IsSpent l (made new.lasting.connecting))) (keeps old reaches.between over new reaches.goes)
+          (spends old reaches.between over new reaches.goes)
+
+-- ---- its end
+
+pub done_left : {S C : Type 0} (over : Over) (engine : Engine S C) → ending_for over ≡ Done → IsLeft (Ready over) engine → IsDone engine.exchange
+done_left kinds.Done engine is left = left.1
+done_left (kinds.GaveUp cause) engine is left = absurd cc
+done_left kinds.OutOfMemory engine is left = absurd cc
+
+pub gave_up_for : {S C : Type 0} (over : Over) (engine : Engine S C) → IsLeft (Ready over) engine → GivesUpFor (ending_for over) engine
+gave_up_for kinds.Done engine left = tt
+gave_up_for (kinds.GaveUp cause) engine left = left
+gave_up_for kinds.OutOfMemory engine left = tt
+
+pub may_end : (over : Over) (policy : Policy) (made : ℕ) → IfGivenUp (Ready over) (IsSpent (limit_of policy) made) → MayEnd policy (ending_for over) made
+may_end kinds.Done policy made h = tt
+may_end (kinds.GaveUp cause) policy made h = h
+may_end kinds.OutOfMemory policy made h = tt
+
+pub new_serves : {S C : Type 0} (core : Core) (intake : Intake) (keeps : Bool) (engine : Engine S C) → MayTurn core intake
+    → IsNew core intake keeps engine.exchange → engine.line ≡ Stopped (NeedStream Io) → Serves core intake engine
+new_serves {S = S} core intake keeps engine may is_new needs =
+    let polled = new_polled core intake keeps engine.exchange may is_new in record {
+      calls = [];
+      polled = polled;
+      gave = λ stop is.
+          subst (λ (s : Stop). LastGave core intake [] s engine.exchange) (stopped_alike S (NeedStream Io) stop (sym needs ∙ is))
+          (LastGave.not_yet engine.exchange polled);
+    }
 
 pub serving_on : {S C : Type 0} (old new : Engine S C) → GoesOn old new → IsServing old → IsServing new
 serving_on old new goes h = record { core = h.core; intake = h.intake; serves = goes h.core h.intake h.serves }
@@ -137,23 +199,6 @@ same_lanes core intake ended h = ⊎_elim
     (λ (n : WasUnserved core intake h.calls ended). n.looks.lanes)
     h.how
 
-module _ {S C : Type 0} (answers : Told S) (moments : C → List ℕ) where
-  reached : (o : Option (Tended S C)) (old : Tended S C) (stop : Stop) (new : Tended S C) → o ≡ Some old
-      → IfSome o (λ e. Reaches (polls answers moments) e stop new) → Reaches (polls answers moments) old stop new
-  reached o old stop new is r = subst (λ (p : Option (Tended S C)). IfSome p (λ e. Reaches (polls answers moments) e stop new)) is r
-
-  pub runs_on : (o : Option (Tended S C)) (old : Tended S C) (stop : Stop) (new : Tended S C) → o ≡ Some old
-      → IfSome o (λ e. Reaches (polls answers moments) e stop new) → GoesOn old.engine new.engine
-  runs_on o old stop new is r = goes_on answers moments old stop new (reached o old stop new is r)
-
-  pub runs_with : (o : Option (Tended S C)) (old : Tended S C) (stop : Stop) (new : Tended S C) → o ≡ Some old
-      → IfSome o (λ e. Reaches (polls answers moments) e stop new) → new.again.policy ≡ old.again.policy
-  runs_with o old stop new is r = keeps_policy answers moments old stop new (reached o old stop new is r)
-
-  pub runs_to : (o : Option (Tended S C)) (old : Tended S C) (stop : Stop) (new : Tended S C) → o ≡ Some old
-      → IfSome o (λ e. Reaches (polls answers moments) e stop new) → new.engine.line ≡ Stopped stop
-  runs_to o old stop new is r = stops_for answers moments old stop new (reached o old stop new is r)
-
 pub still_lanes : (core : Core) (intake : Intake) (result : Result Ended ServiceFault) → IfOk result (HasEnded core intake)
     → IfOk result (λ ended. lanes_of (parts_in ended).intake ≡ lanes_of intake)
 still_lanes core intake (Ok ended) h = same_lanes core intake ended h
@@ -163,11 +208,11 @@ pub unserved_ended : (core : Core) (intake : Intake) (ended : Ended) → WasUnse
 unserved_ended core intake ended h = record { calls = []; how = inr h }
 
 -- What was served of an engine that was just made.
-pub ended_anew : {S C : Type 0} (core : Core) (intake : Intake) (keeps : Bool) (engine served : Engine S C) (wire : Wired S) (result : Result Ended ServiceFault) → MayTurn core intake
-    → IsNew core intake keeps engine.exchange → engine.line ≡ Open wire → served ≡ engine → IfOk result (EndsAs served) → IfOk result (HasEnded core intake)
-ended_anew core intake keeps engine served wire (Ok ended) may is_new is_open is h =
-    h core intake (subst (λ (e : Engine _ _). Serves core intake e) (sym is) (new_serves core intake keeps engine wire may is_new is_open))
-ended_anew core intake keeps engine served wire (Err fault) may is_new is_open is h = tt
+pub ended_anew : {S C : Type 0} (core : Core) (intake : Intake) (keeps : Bool) (engine served : Engine S C) (result : Result Ended ServiceFault) → MayTurn core intake
+    → IsNew core intake keeps engine.exchange → engine.line ≡ Stopped (NeedStream Io) → served ≡ engine → IfOk result (EndsAs served) → IfOk result (HasEnded core intake)
+ended_anew core intake keeps engine served (Ok ended) may is_new needs is h =
+    h core intake (subst (λ (e : Engine _ _). Serves core intake e) (sym is) (new_serves core intake keeps engine may is_new needs))
+ended_anew core intake keeps engine served (Err fault) may is_new needs is h = tt
 
 pub unserved_back : (core k : Core) (intake t : Intake) (ended : Ended) → WasUnserved k t [] ended → k ≡ core → t ≡ intake → HasEnded core intake ended
 unserved_back core k intake t ended h same_core same_intake =

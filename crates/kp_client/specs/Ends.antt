@@ -1,5 +1,5 @@
 -- To what a service of a core and of lanes has come: all calls on the core are known.
-use Rattle.std.specs.Prelude.{◌≡◌, ◌≢◌, ◌⊎◌, ℕ, ◌≤◌, true, List, [], ◌∷◌, ◌++◌}
+use Rattle.std.specs.Prelude.{◌≡◌, ◌≢◌, ◌⊎◌, ℕ, true, All, List, [], ◌∷◌, ◌++◌}
 use Rattle.kp_engine.specs.Made.{WasEnded}
 use Rattle.kp_engine.specs.Opening.{MayTurn}
 use Rattle.kp_engine.specs.declared.engine.Engine.{Engine}
@@ -8,9 +8,12 @@ use Rattle.kp_engine.specs.declared.parts.Parts.{Parts}
 use Rattle.kp_engine.specs.declared.stop.Cause.{Cause}
 use Rattle.kp_engine.specs.declared.stop.Stop.TheVariants.{NeedStream}
 use Rattle.kp_lanes.specs.Intake.{intake_limits, lanes_of, passed_lists, taken_lists, told_lists}
+use Rattle.kp_lanes.specs.Settling.{IsOf, SameFinished}
 use Rattle.kp_lanes.specs.declared.intake.Intake.{Intake}
+use Rattle.kp_lanes.specs.declared.sender.Finished.{Finished}
 use Rattle.kp_rules.specs.Calls.{Call, End}
 use Rattle.kp_rules.specs.Records.{Core}
+use Rattle.kp_running.specs.Lasting.{IsSpent}
 use Rattle.kp_client.specs.Left.{ending_of, new_connections_of, parts_in}
 use Rattle.kp_client.specs.Policy.{limit_of}
 use Rattle.kp_client.specs.Serving.{LastGave, Serves}
@@ -27,7 +30,7 @@ pub record Looks (old new : Intake) : Type 0 where
   pub taken : taken_lists new ≡ taken_lists old
   pub told : told_lists new ≡ told_lists old
 
--- These are the calls of an engine whose last poll before its end needed a stream for this cause.
+-- These are the calls of an engine that needed a connection before its end, for this cause.
 pub record NeededStream (core : Core) (intake : Intake) (calls : List Call) (cause : Cause) : Type 0 where
   pub earlier : List Call
   pub last : Exchange
@@ -35,8 +38,8 @@ pub record NeededStream (core : Core) (intake : Intake) (calls : List Call) (cau
   pub told : ℕ
   pub made : calls ≡ earlier ++ End told ∷ []
 
--- An engine was made of them, polled over one stream after the other, ended, and taken apart. It was closed, where the
--- service says that it is done; and it needed a stream for the cause for which the service gave up.
+-- An engine was made of them, polled over one stream after the other and with none, ended, and taken apart. It was closed,
+-- where the service says that it is done; and it needed a stream for the cause for which the service gave up.
 pub record WasServed (core : Core) (intake : Intake) (calls : List Call) (ended : Ended) : Type 0 where
   pub parts : Parts
   pub engine : WasEnded core intake calls parts
@@ -58,7 +61,7 @@ pub record WasUnserved (core : Core) (intake : Intake) (calls : List Call) (ende
 
 -- To give up, as many new connections have to be made as the policy allows.
 abbrev pub MayEnd : Policy → Ending → ℕ → Type 0
-MayEnd policy (GaveUp cause) made = limit_of policy ≤ made
+MayEnd policy (GaveUp cause) made = IsSpent (limit_of policy) made
 MayEnd policy ending made = Unit {0}
 
 -- It gave up only then.
@@ -78,3 +81,14 @@ EndsAs engine ended =
 abbrev pub StaysEnded : Ended → Ended → Type 0
 StaysEnded old new =
     (core : Core) (intake : Intake) → HasEnded core intake old → HasEnded core intake new
+
+-- The end and what has finished are as they were, and can be settled again.
+pub record ComesBack (old : Ended) (finished : List Finished) (new : Ended) (back : List Finished) : Type 0 where
+  pub same_core : (parts_in new).core ≡ (parts_in old).core
+  pub same_held : (parts_in new).held ≡ (parts_in old).held
+  pub same_lanes : lanes_of (parts_in new).intake ≡ lanes_of (parts_in old).intake
+  pub same_ending : ending_of new ≡ ending_of old
+  pub same_connections : new_connections_of new ≡ new_connections_of old
+  pub same_end : StaysEnded old new
+  pub same_finished : SameFinished finished back
+  pub again : All (IsOf (lanes_of (parts_in new).intake)) back

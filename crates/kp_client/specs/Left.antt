@@ -1,13 +1,15 @@
 -- What is left of a producer: each accepted record has one report, or comes back.
-use Rattle.std.specs.Prelude.{◌≡◌, ℕ, List, [], ◌++◌, All, length, slice_index_or}
+use Rattle.std.specs.Prelude.{◌≡◌, ℕ, List, [], ◌∷◌, ◌++◌, All, length, slice_index_or}
 use Rattle.kp_accum.specs.declared.item.Item.{Item}
 use Rattle.kp_engine.specs.Agreement.{waiting_of}
 use Rattle.kp_engine.specs.Parts.{to_sender, HaveReports}
 use Rattle.kp_engine.specs.Serving.{from_sender}
 use Rattle.kp_engine.specs.declared.parts.Parts.{Parts}
 use Rattle.kp_lanes.specs.Intake.{intake_limits, lanes_of}
-use Rattle.kp_lanes.specs.Sender.{all_accepted, all_got, finished_number}
+use Rattle.kp_lanes.specs.Sender.{all_accepted, all_got, finished_id, finished_number}
 use Rattle.kp_lanes.specs.Settling.{left_items, left_reports, Adds, EachOnce, IsInPlace, IsOf}
+use Rattle.kp_lanes.specs.declared.fault.SettleFault.{SettleFault}
+use Rattle.kp_lanes.specs.declared.fault.SettleFault.TheVariants.{Missing, OutOfMemory}
 use Rattle.kp_lanes.specs.declared.sender.Finished.{Finished}
 use Rattle.kp_lanes.specs.declared.settling.Settled.{Settled}
 use Rattle.kp_rules.specs.declared.outcome.Report.{Report}
@@ -54,3 +56,13 @@ pub record IsSettled (parts : Parts) (finished : List Finished) (left : Left) : 
   pub adds : All (Adds parts.intake (rings_left left)) finished
   pub same_core : left.core ≡ parts.core
   pub same_held : left.held ≡ parts.held
+
+-- it is the only sender's, at the only lane
+pub record IsOnly (parts : Parts) (f : Finished) : Type 0 where
+  pub lane : lanes_of parts.intake ≡ finished_id f ∷ []
+  pub number : finished_number f ≡ 0
+
+-- Why it could not be settled: not each sender has finished, once; or memory is wanting.
+abbrev pub IsWhy : Parts → List Finished → SettleFault → Type 0
+IsWhy parts finished Missing = ¬ EachOnce (length (lanes_of parts.intake)) finished
+IsWhy parts finished OutOfMemory = EachOnce (length (lanes_of parts.intake)) finished

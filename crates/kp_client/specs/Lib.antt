@@ -1,5 +1,6 @@
 pub mod Accounts
 pub mod Closing
+pub mod Connecting
 pub mod Ends
 pub mod Faults
 pub mod Fitting

@@ -1,12 +1,12 @@
 -- What contracts see of a producer that was opened.
-use Rattle.std.specs.Prelude.{◌≡◌, ℕ, ◌*◌, List, Ok, All, IfSome, length, map}
+use Rattle.std.specs.Prelude.{◌≡◌, ℕ, ◌*◌, List, [], ◌∷◌, Ok, All, IfSome, length, map}
 use Rattle.std.specs.Duration.{as_nanos}
 use Rattle.std.specs.declared.net.socket_addr.SocketAddr.{SocketAddr}
 use Rattle.kp_hello.specs.Hello.{metadata_given, producer_id_given}
 use Rattle.kp_hello.specs.declared.hello.Hello.{Hello}
 use Rattle.kp_lanes.specs.Closer.{closer_gate}
 use Rattle.kp_lanes.specs.Intake.{intake_gate, lanes_of, numbers_below}
-use Rattle.kp_lanes.specs.Sender.{sender_number, IsFresh, IsSenderOf}
+use Rattle.kp_lanes.specs.Sender.{sender_id, sender_number, IsFresh, IsSenderOf}
 use Rattle.kp_rules.specs.Auditing.{opened}
 use Rattle.kp_rules.specs.Opening.{new_core}
 use Rattle.kp_rules.specs.Records.{Core}
@@ -16,8 +16,10 @@ use Rattle.kp_client.specs.Policy.{none_made}
 use Rattle.kp_client.specs.Producer.{lane_of}
 use Rattle.kp_client.specs.Service.{again_of, core_of, hello_of, intake_of, partitions_of, way_of}
 use Rattle.kp_client.specs.Settings.{limits_of}
+use Rattle.kp_client.specs.declared.closer.Closer.{Closer}
 use Rattle.kp_client.specs.declared.connecting.Way.{Way}
 use Rattle.kp_client.specs.declared.opening.Opened.{Opened}
+use Rattle.kp_client.specs.declared.producer.Producer.{Producer}
 use Rattle.kp_client.specs.declared.service.Service.{Service}
 use Rattle.kp_client.specs.declared.settings.Settings.{Settings}
 
@@ -56,3 +58,11 @@ pub record IsOpen (address : SocketAddr) (s : Settings) (opened : Opened) : Type
   pub lanes : All (λ p. IsSenderOf (lanes_of (intake_of opened.service)) (lane_of p)) opened.producers.items
   pub senders : length (lanes_of (intake_of opened.service)) ≡ s.senders
   pub gate : closer_gate (lanes_closer opened.closer) ≡ intake_gate (intake_of opened.service)
+
+-- The handle is that of a new sender, the only one, at the service's only lane, and the closer shuts this lane's gate.
+pub record IsOpenSingle (address : SocketAddr) (s : Settings) (producer : Producer) (closer : Closer) (service : Service) : Type 0 where
+  pub begins : Begins address (record s { senders = 1 }) service
+  pub number : sender_number (lane_of producer) ≡ 0
+  pub fresh : IsFresh s.capacity (limits_of (hello_of service) s) (lane_of producer)
+  pub lane : lanes_of (intake_of service) ≡ sender_id (lane_of producer) ∷ []
+  pub gate : closer_gate (lanes_closer closer) ≡ intake_gate (intake_of service)

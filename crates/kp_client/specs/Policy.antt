@@ -1,12 +1,19 @@
 -- How many new connections there may be, and the waits between them.
-use Rattle.std.specs.Prelude.{ℕ, ◌*◌, ◌==◌, max, min, if◌then◌else◌}
+use Rattle.std.specs.Prelude.{ℕ, ◌*◌, ◌<◌, ◌==◌, max, min, Option, Some, None, if◌then◌else◌}
 use Rattle.kp_client.specs.declared.again.Again.{Again}
 use Rattle.kp_client.specs.declared.policy.Policy.{Policy}
-use Rattle.kp_client.specs.declared.policy.Policy.TheVariants.{InAll, InARow}
+use Rattle.kp_client.specs.declared.policy.Policy.TheVariants.{InAll, InARow, Unlimited}
 
-abbrev pub limit_of : Policy → ℕ
-limit_of (InAll n) = n
-limit_of (InARow n) = n
+-- how many there may be, where there is a limit
+abbrev pub limit_of : Policy → Option ℕ
+limit_of (InAll n) = Some n
+limit_of (InARow n) = Some n
+limit_of Unlimited = None
+
+-- where so many were made, there may be one more
+abbrev pub MayMake : Option ℕ → ℕ → Type 0
+MayMake None made = Unit {0}
+MayMake (Some limit) made = made < limit
 
 -- the longest wait, in milliseconds: a second, unless retry.backoff.ms is longer
 abbrev pub longest_wait : ℕ → ℕ
@@ -20,6 +27,7 @@ none_made policy retry_backoff = record { policy = policy; made = 0; wait = 0; l
 abbrev pub made_after_reply : Policy → ℕ → ℕ
 made_after_reply (InAll n) made = made
 made_after_reply (InARow n) made = 0
+made_after_reply Unlimited made = made
 
 -- the wait before the one behind the next, in milliseconds: ten, and then twice as long each time, up to the longest
 abbrev pub wait_after : (longest wait : ℕ) → ℕ

@@ -3,7 +3,10 @@ use Rattle.std.specs.Prelude.{◌≡◌, ◌≢◌, ℕ, ◌≤◌, [], ◌∷�
 use Rattle.kp_batch.specs.declared.record.Record.{Record}
 use Rattle.kp_lanes.specs.Entries.{count_of}
 use Rattle.kp_lanes.specs.Gate.{told_shut}
-use Rattle.kp_lanes.specs.Sender.{accepted, entered, finished_id, finished_number, got, goes_to, sender_id, sender_number, turn, turn_after, Accepts, Refuses, SameSender, sender_view, seen_reports}
+use Rattle.kp_lanes.specs.Sender.{accepted, entered, finished_id, finished_number, got, goes_to, known_free_of, sender_id, sender_number, turn, turn_after, Accepts, Refuses, SameSender, sender_view, seen_reports}
+use Rattle.kp_lanes.specs.declared.entry.Entry.TheVariants.{Mark}
+use Rattle.kp_lanes.specs.declared.fault.FlushFault.{FlushFault}
+use Rattle.kp_lanes.specs.declared.fault.FlushFault.TheVariants as flushing
 use Rattle.kp_lanes.specs.declared.fault.SendFault.{SendFault}
 use Rattle.kp_lanes.specs.declared.fault.SendFault.TheVariants.{Closed}
 use Rattle.kp_lanes.specs.declared.sender.Finished.{Finished}
@@ -79,6 +82,30 @@ pub record SendsLater (old : Producer) (target : Target) (body : Record) (answer
   pub lost_nothing : LostNothing old last
   pub unknown : sender_view (lane_of last) ≡ sender_view (lane_of old)
   pub sends : Sends last target body answer new
+
+-- A mark was put behind all that the sender has sent. Nothing more is known of the gate.
+pub record HasMarked (old new : Producer) : Type 0 where
+  pub marked : entered (lane_of new) ≡ entered (lane_of old) ++ Mark ∷ []
+  pub unknown : sender_view (lane_of new) ≡ sender_view (lane_of old)
+
+-- No mark was put, and nothing has changed but that the gate is known to be shut, where this is why.
+pub record HasNotMarked (old : Producer) (fault : FlushFault) (new : Producer) : Type 0 where
+  pub lost_nothing : entered (lane_of new) ≡ entered (lane_of old)
+  pub full : fault ≡ flushing.LaneFull → known_free_of (lane_of old) ≡ 0
+  pub unknown : fault ≢ flushing.Closed → sender_view (lane_of new) ≡ sender_view (lane_of old)
+  pub closed : fault ≡ flushing.Closed → sender_view (lane_of new) ≡ told_shut (sender_view (lane_of old))
+
+abbrev pub Marks : Producer → Result (Unit {0}) FlushFault → Producer → Type 0
+Marks old (Ok done) new = HasMarked old new
+Marks old (Err fault) new = HasNotMarked old fault new
+
+-- A flush was asked for, or not. What was accepted and received stays.
+pub record Flushes (old : Producer) (answer : Result (Unit {0}) FlushFault) (new : Producer) : Type 0 where
+  pub same : SameProducer old new
+  pub items : accepted (lane_of new) ≡ accepted (lane_of old)
+  pub turns : turn (lane_of new) ≡ turn (lane_of old)
+  pub heard : got (lane_of new) ≡ got (lane_of old)
+  pub marks : Marks old answer new
 
 -- The next report was received, or this end of the ring sees none.
 abbrev pub Hears : Producer → Option Report → Producer → Type 0

@@ -7,14 +7,14 @@ use Rattle.kp_lanes.specs.declared.limits.Limits.{Limits}
 use Rattle.kp_rules.specs.Opening.{NAME_LIMIT}
 use Rattle.kp_client.specs.declared.fault.OpenFault.{OpenFault}
 use Rattle.kp_client.specs.declared.fault.OpenFault.TheVariants.{Topic, Client, Config}
-use Rattle.kp_client.specs.declared.policy.Policy.TheVariants.{InARow}
+use Rattle.kp_client.specs.declared.policy.Policy.TheVariants.{Unlimited}
 use Rattle.kp_client.specs.declared.settings.Settings.{Settings}
 
 abbrev pub of_config : Result (Unit {0}) ConfigFault → Result (Unit {0}) OpenFault
 of_config (Ok done) = Ok done
 of_config (Err fault) = Err (Config fault)
 
--- one sender with 1024 places, Kafka's configuration, any number of partitions, ten new connections in a row, no audit
+-- one sender with 1024 places, Kafka's configuration, any number of partitions, as many new connections as it takes, no audit
 abbrev pub default_settings : List ℕ → List ℕ → Settings
 default_settings topic client = record {
   names = record { topic = topic; client = client };
@@ -22,7 +22,7 @@ default_settings topic client = record {
   capacity = 1024;
   config = default_config;
   partitions = None;
-  policy = InARow 10;
+  policy = Unlimited;
   audits = false;
 }
 

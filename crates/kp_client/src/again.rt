@@ -1,7 +1,8 @@
 //! When the next connection is made.
 
-ghost use Rattle.std.specs.Prelude.{◌≡◌, ◌≤◌, ◌<◌, ◌+◌, ◌*◌, max, min, None, Some, IfSome, IfNone};
-ghost use Rattle.kp_client.specs.Policy.{limit_of, made_after_reply, none_made, wait_after};
+ghost use Rattle.std.specs.Prelude.{◌≡◌, ◌+◌, ◌-◌, ◌^◌, max, min, IfSome, IfNone};
+ghost use Rattle.kp_running.specs.Lasting.{IsSpent};
+ghost use Rattle.kp_client.specs.Policy.{limit_of, made_after_reply, none_made, wait_after, MayMake};
 
 use crate::policy::Policy;
 
@@ -15,7 +16,7 @@ const LONGEST: u64 = 1000;
 #[derive(Debug, Drop)]
 pub(crate) struct Again {
     policy: Policy,
-    /// How many were made: in all, or since the last reply.
+    /// How many were made: in all, or since the last reply. Above u32::MAX it counts no further.
     made: u32,
     /// The wait before the next one, in milliseconds.
     wait: u64,
@@ -37,18 +38,19 @@ impl Again {
 
     /// The wait before the next new connection, in milliseconds, or none, where the policy allows no more.
     pub(crate) fn next(&mut self) -> Option<u64>
-        ensures next { IfSome result (λ wait. (wait ≡ self.old.wait) × (self.old.made < limit_of self.old.policy)) }
-        ensures counted { IfSome result (λ _. self.new.made ≡ self.old.made + 1) }
+        ensures next { IfSome result (λ wait. (wait ≡ self.old.wait) × MayMake (limit_of self.old.policy) self.old.made) }
+        ensures counted { IfSome result (λ _. self.new.made ≡ min (self.old.made + 1) (2 ^ 32 - 1)) }
         ensures longer { IfSome result (λ _. self.new.wait ≡ wait_after self.old.longest self.old.wait) }
-        ensures none { IfNone result ((limit_of self.old.policy ≤ self.old.made) × (self.new ≡ self.old)) }
+        ensures none { IfNone result (IsSpent (limit_of self.old.policy) self.old.made × (self.new ≡ self.old)) }
         ensures same { (self.new.policy ≡ self.old.policy) × (self.new.longest ≡ self.old.longest) }
     {
-        let (Policy::InAll(limit) | Policy::InARow(limit)) = self.policy;
-        if self.made >= limit {
-            return None;
+        if let Policy::InAll(limit) | Policy::InARow(limit) = self.policy {
+            if self.made >= limit {
+                return None;
+            }
         }
         let wait = self.wait;
-        self.made += 1;
+        self.made = self.made.saturating_add(1);
         self.wait = if wait == 0 {
             SHORTEST
         } else {

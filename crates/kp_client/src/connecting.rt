@@ -1,22 +1,20 @@
 //! Connections to a broker.
 
-ghost use Rattle.std.specs.Prelude.{◌≡◌, ◌≢◌, ◌≤◌, IfErr, IfNone, IfOk, IfSome};
+ghost use Rattle.std.specs.Prelude.{◌≡◌, ◌≢◌, IfErr, IfOk, IfSome};
 ghost use Rattle.kp_client.specs.Faults.{IsLater};
 ghost use Rattle.kp_client.specs.Opening.{IsGreeting};
-ghost use Rattle.kp_client.specs.Policy.{limit_of};
 
-use crate::again::Again;
 use crate::fault::OpenFault;
 use kp_connection::{Handshake, Plain};
 use kp_core::Names;
 use kp_hello::{HandshakeFault, Hello};
 use std::alloc::AllocGlobal;
+use std::io;
 use std::net::{Net, SocketAddr};
 use std::random::RandomSource;
 use std::sync::Wait;
 use std::thread::Threads;
 use std::time::{Clock, Duration};
-use std::{io, thread};
 use tokio::net::TcpStream;
 use tokio::runtime::{Builder, Runtime};
 
@@ -46,49 +44,6 @@ where
         }
         Err(_elapsed) => Err(io::ErrorKind::TimedOut.into()),
     }
-}
-
-/// A connection for an engine. The first is no new one; where it can't be made, new ones are, as often and at such
-/// distances as the policy has it.
-pub(crate) fn connect_first<R>(
-    rt: &R,
-    runtime: &mut Runtime,
-    way: Way,
-    again: &mut Again,
-) -> Option<Plain<TcpStream>>
-where
-    R: Wait + Threads + Clock + RandomSource + AllocGlobal + Sync + Net,
-    ensures spent { IfNone result (limit_of again.old.policy ≤ again.new.made) }
-    ensures same { again.new.policy ≡ again.old.policy }
-{
-    match connect(rt, runtime, way) {
-        Ok(inner) => Some(Plain { inner }),
-        Err(_) => connect_again(rt, runtime, way, again),
-    }
-}
-
-/// A new connection in place of one that was lost. None where the policy allows no more.
-pub(crate) fn connect_again<R>(
-    rt: &R,
-    runtime: &mut Runtime,
-    way: Way,
-    again: &mut Again,
-) -> Option<Plain<TcpStream>>
-where
-    R: Wait + Threads + Clock + RandomSource + AllocGlobal + Sync + Net,
-    ensures spent { IfNone result (limit_of again.old.policy ≤ again.new.made) }
-    ensures same { again.new.policy ≡ again.old.policy }
-{
-    for _ in rt.forever() {
-        let wait = again.next()?;
-        if wait > 0 {
-            thread::sleep(rt, Duration::from_millis(wait));
-        }
-        if let Ok(inner) = connect(rt, runtime, way) {
-            return Some(Plain { inner });
-        }
-    }
-    unreachable!()
 }
 
 /// Asks the broker for the topic's partitions and for a producer id, over a connection that ends with this.

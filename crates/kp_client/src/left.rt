@@ -8,7 +8,7 @@ use kp_accum::Item;
 use kp_core::{Core, Report};
 use kp_engine::{Cause, Held, Parts};
 use kp_lanes::{Finished, Intake, SettleFault, Settled};
-use std::alloc::Global;
+use std::alloc::{AllocFailed, Global};
 
 /// Why a service has ended.
 #[derive(Clone, Copy, Debug, PartialEq, Eq)]
@@ -33,13 +33,12 @@ pub struct Ended {
 }
 
 impl Ended {
-    ghost use Rattle.std.specs.Prelude.{◌≢◌, [], All, IfOk, IfErr, IsOk, length};
+    ghost use Rattle.std.specs.Prelude.{◌≢◌, ◌∷◌, [], All, IfOk, IfErr};
     ghost use Rattle.kp_engine.specs.Opening.{MayTurn};
     ghost use Rattle.kp_lanes.specs.Intake.{lanes_of};
-    ghost use Rattle.kp_lanes.specs.Settling.{EachOnce, IsOf, SameFinished};
-    ghost use Rattle.kp_lanes.specs.declared.fault.SettleFault.TheVariants.{Missing};
-    ghost use Rattle.kp_client.specs.Ends.{StaysEnded, WasUnserved};
-    ghost use Rattle.kp_client.specs.Left.{ending_of, new_connections_of, parts_in, AccountsFor, IsSettled};
+    ghost use Rattle.kp_lanes.specs.Settling.{IsOf};
+    ghost use Rattle.kp_client.specs.Ends.{ComesBack, WasUnserved};
+    ghost use Rattle.kp_client.specs.Left.{ending_of, new_connections_of, parts_in, AccountsFor, IsOnly, IsSettled, IsWhy};
 
     pub(crate) fn new(parts: Parts, ending: Ending, new_connections: u32) -> Ended
         requires accounted { AllAccounted parts }
@@ -106,17 +105,10 @@ impl Ended {
         // Each accepted record has one report, or comes back.
         ensures settled { IfOk result (λ left. All (AccountsFor left) finished.items) }
         ensures rings { IfOk result (IsSettled (parts_in self) finished.items) }
-        ensures all { IsOk result → EachOnce (length (lanes_of (parts_in self).intake)) finished.items }
-        ensures core { IfOk result (λ left. (left.core ≡ (parts_in self).core) × (left.held ≡ (parts_in self).held)) }
 
         // At a fault nothing has changed.
-        ensures missing { IfErr result (λ e. e.0 ≡ Missing → ¬ EachOnce (length (lanes_of (parts_in self).intake)) finished.items) }
-        ensures not_missing { IfErr result (λ e. e.0 ≢ Missing → EachOnce (length (lanes_of (parts_in self).intake)) finished.items) }
-        ensures core_stays { IfErr result (λ e. ((parts_in e.1).core ≡ (parts_in self).core) × ((parts_in e.1).held ≡ (parts_in self).held)) }
-        ensures ending_stays { IfErr result (λ e. (ending_of e.1 ≡ ending_of self) × (new_connections_of e.1 ≡ new_connections_of self)) }
-        ensures ended_stays { IfErr result (λ e. StaysEnded self e.1) }
-        ensures finished { IfErr result (λ e. SameFinished finished.items e.2.items) }
-        ensures again { IfErr result (λ e. All (IsOf (lanes_of (parts_in e.1).intake)) e.2.items) }
+        ensures why { IfErr result (λ e. IsWhy (parts_in self) finished.items e.0) }
+        ensures back { IfErr result (λ e. ComesBack self finished.items e.1 e.2.items) }
     {
         let Ended {
             parts,
@@ -135,6 +127,27 @@ impl Ended {
                 let parts = Parts { core, intake, held };
                 Err((fault, Ended::new(parts, ending, new_connections), finished))
             }
+        }
+    }
+
+    /// The same of a producer with one sender. Where memory is refused, what was given comes back.
+    pub fn settle_single(self, alloc: Global, finished: Finished) -> Result<Left, (Ended, Finished)>
+        requires { IsOnly (parts_in self) finished }
+        ensures settled { IfOk result (λ left. AccountsFor left finished) }
+        ensures rings { IfOk result (IsSettled (parts_in self) (finished ∷ [])) }
+        ensures back { IfErr result (λ e. ComesBack self (finished ∷ []) e.0 (e.1 ∷ [])) }
+        ensures again { IfErr result (λ e. IsOnly (parts_in e.0) e.1) }
+    {
+        let mut all = Vec::new(alloc);
+        if let Err(AllocFailed { value }) = all.push(finished) {
+            return Err((self, value));
+        }
+        match self.settle(alloc, all) {
+            Ok(left) => Ok(left),
+            Err((_fault, ended, mut all)) => match all.pop() {
+                Some(finished) => Err((ended, finished)),
+                None => unreachable!(),
+            },
         }
     }
 }

@@ -5,6 +5,7 @@
 mod again;
 mod closer;
 mod connecting;
+mod connector;
 mod counts;
 mod fault;
 mod left;
@@ -20,9 +21,20 @@ mod tended;
 pub use closer::Closer;
 pub use fault::{OpenFault, ServiceFault};
 pub use left::{Ended, Ending, Left};
-pub use opening::{Opened, open};
+pub use opening::{Opened, open, open_single};
 pub use policy::Policy;
 pub use producer::Producer;
 pub use service::Service;
 pub use settings::Settings;
 pub use statistics::{Monitor, Statistics};
+
+// What a caller names of the crates below.
+pub use kp_accum::{Config, ConfigFault, Item};
+pub use kp_batch::{Header, Record, Timestamp};
+pub use kp_core::{Core, Names, Outcome, Reason, Report};
+pub use kp_engine::{Cause, Held};
+pub use kp_hello::HandshakeFault;
+pub use kp_lanes::{
+    Finished, FlushFault, OpenFault as LanesFault, SendFault, SettleFault, Target, Ticket,
+};
+pub use kp_wire::{Blob, Seq, Text};

@@ -7,7 +7,7 @@ ghost use Rattle.kp_client.specs.Producer.{lane_of};
 ghost use Rattle.kp_client.specs.Service.{HasBell};
 ghost use Rattle.kp_client.specs.Settings.{checked_settings};
 ghost use Rattle.kp_engine.specs.Opening.{MayTurn};
-ghost use Rattle.kp_client.specs.Opening.{IsGreeting, IsOpen, IsWay};
+ghost use Rattle.kp_client.specs.Opening.{IsGreeting, IsOpen, IsOpenSingle, IsWay};
 
 use crate::closer::Closer;
 use crate::connecting::{Way, expect_partitions, greet};
@@ -34,26 +34,6 @@ pub struct Opened {
     pub service: Service,
 }
 
-impl Opened {
-    /// The parts of a producer with one sender.
-    pub fn into_single(self) -> (Producer, Closer, Service)
-        requires { length self.producers.items ≡ 1 }
-        ensures producer { self.producers.items ≡ result.0 ∷ [] }
-        ensures others { (result.1 ≡ self.closer) × (result.2 ≡ self.service) }
-    {
-        let Opened {
-            producers,
-            closer,
-            service,
-        } = self;
-        let mut producers = producers;
-        match producers.pop() {
-            Some(producer) => (producer, closer, service),
-            None => unreachable!(),
-        }
-    }
-}
-
 /// Opens a producer over the broker at this address: connects, asks for the topic's partitions and for a producer id, and
 /// opens the lanes. Nothing is sent before the service runs.
 pub fn open<R>(rt: &R, address: SocketAddr, settings: Settings) -> Result<Opened, OpenFault>
@@ -76,6 +56,33 @@ where
     let hello = greet(rt, way, names)?;
     expect_partitions(hello, settings.partitions)?;
     open_known(alloc, way, settings, hello, start)
+}
+
+/// Opens a producer with one sender, whatever the settings say of senders: its handle, what closes it, and its service.
+pub fn open_single<R>(
+    rt: &R,
+    address: SocketAddr,
+    settings: Settings,
+) -> Result<(Producer, Closer, Service), OpenFault>
+where
+    R: Wait + Threads + Clock + RandomSource + AllocGlobal + Sync + Net,
+    ensures opened { IfOk result (λ r. IsOpenSingle address settings r.0 r.1 r.2) }
+    ensures first { IfErr (checked_settings settings) (λ fault. result ≡ Err fault) }
+    ensures only { IfErr result (λ fault. OfSettings fault → checked_settings settings ≡ Err fault) }
+{
+    let settings = Settings {
+        senders: 1,
+        ..settings
+    };
+    let Opened {
+        mut producers,
+        closer,
+        service,
+    } = open(rt, address, settings)?;
+    match producers.pop() {
+        Some(producer) => Ok((producer, closer, service)),
+        None => unreachable!(),
+    }
 }
 
 /// Opens it where the broker has said hello.

@@ -32,12 +32,9 @@ pub struct Producer {
 }
 
 impl Producer {
-    ghost use Rattle.std.specs.Prelude.{◌≡◌, ◌≢◌, ◌-◌, ◌++◌, ◌∷◌, [], IfErr, IfOk, OnOk, OnErr};
-    ghost use Rattle.kp_lanes.specs.declared.entry.Entry.TheVariants.{Mark};
-    ghost use Rattle.kp_lanes.specs.declared.fault.FlushFault.TheVariants as flushing;
-    ghost use Rattle.kp_lanes.specs.Gate.{told_shut};
-    ghost use Rattle.kp_lanes.specs.Sender.{accepted, all_accepted, all_got, entered, finished_id, finished_number, got, known_free_of, sender_id, sender_view, turn};
-    ghost use Rattle.kp_client.specs.Producer.{lane_of, Hears, SameProducer, SendsLater, Sends};
+    ghost use Rattle.std.specs.Prelude.{◌≡◌, ◌-◌, IfOk};
+    ghost use Rattle.kp_lanes.specs.Sender.{accepted, all_accepted, all_got, finished_id, finished_number, got, sender_id, turn};
+    ghost use Rattle.kp_client.specs.Producer.{lane_of, Flushes, Hears, SameProducer, SendsLater, Sends};
     ghost use Rattle.kp_client.specs.Statistics.{counted_by, shared_by};
 
     pub(crate) fn new(sender: Sender, shared: Arc<Shared, Global>) -> Producer
@@ -130,16 +127,7 @@ impl Producer {
 
     /// Asks that all that this sender has sent goes out without a wait for fuller batches.
     pub fn flush(&mut self) -> Result<(), FlushFault>
-        ensures same { SameProducer self.old self.new }
-        ensures items { accepted (lane_of self.new) ≡ accepted (lane_of self.old) }
-        ensures turns { turn (lane_of self.new) ≡ turn (lane_of self.old) }
-        ensures heard { got (lane_of self.new) ≡ got (lane_of self.old) }
-        ensures marked { OnOk result (entered (lane_of self.new) ≡ entered (lane_of self.old) ++ Mark ∷ []) }
-        ensures lost_nothing { OnErr result (entered (lane_of self.new) ≡ entered (lane_of self.old)) }
-        ensures full { IfErr result (λ fault. fault ≡ flushing.LaneFull → known_free_of (lane_of self.old) ≡ 0) }
-        ensures unknown { OnOk result (sender_view (lane_of self.new) ≡ sender_view (lane_of self.old)) }
-        ensures other { IfErr result (λ fault. fault ≢ flushing.Closed → sender_view (lane_of self.new) ≡ sender_view (lane_of self.old)) }
-        ensures closed { IfErr result (λ fault. fault ≡ flushing.Closed → sender_view (lane_of self.new) ≡ told_shut (sender_view (lane_of self.old))) }
+        ensures { Flushes self.old result self.new }
     {
         let flushed = self.sender.flush();
         if flushed.is_ok() {

@@ -1,16 +1,19 @@
 //! The service: what sends for all senders of a producer, on a thread of its own.
 
-ghost use Rattle.std.specs.Prelude.{◌≡◌, IfErr, IfOk, IfSome};
+ghost use Rattle.std.specs.Prelude.{◌≡◌, IfErr, IfOk};
 ghost use Rattle.kp_engine.specs.Opening.{MayTurn};
 ghost use Rattle.kp_lanes.specs.Intake.{lanes_of};
 ghost use Rattle.kp_client.specs.Fitting.{Fits};
 ghost use Rattle.kp_engine.specs.Polls.{IsDone};
 ghost use Rattle.kp_client.specs.Left.{parts_in};
-ghost use Rattle.kp_client.specs.Ends.{EndsAs, GaveUpLast, HasEnded, MayEnd};
-ghost use Rattle.kp_client.specs.Serving.{GivesUpFor, GoesOn, HasStream, IsServing, StoppedFor};
+ghost use Rattle.kp_client.specs.Ends.{EndsAs, GaveUpLast, HasEnded};
+ghost use Rattle.kp_client.specs.Left.{ending_of, new_connections_of};
+ghost use Rattle.kp_client.specs.Serving.{ending_for, GivesUpFor, IsServing};
+ghost use Rattle.kp_running.specs.Lasting.{IsGoing};
 
 use crate::again::Again;
-use crate::connecting::{Way, connect_again, connect_first};
+use crate::connecting::Way;
+use crate::connector::Connector;
 use crate::fault::{OpenFault, ServiceFault};
 use crate::left::{Ended, Ending};
 use crate::settings::Settings;
@@ -18,10 +21,10 @@ use crate::shared::Shared;
 use crate::tended::Tended;
 use kp_connection::{Plain, Stream};
 use kp_core::Core;
-use kp_engine::{Cause, Clock as Moments, Engine, Stop};
+use kp_engine::{Clock as Moments, Engine};
 use kp_hello::Hello;
 use kp_lanes::Intake;
-use kp_running::{Millis, Running};
+use kp_running::{Connecting, Millis, Over, Running};
 use std::alloc::{AllocGlobal, Global};
 use std::net::Net;
 use std::random::RandomSource;
@@ -138,7 +141,7 @@ impl Service {
     }
 }
 
-/// Opens an event loop and a connection, and serves.
+/// Opens an event loop, and serves.
 fn serve<R>(
     rt: &R,
     alloc: Global,
@@ -154,103 +157,80 @@ where
     ensures ended { IfOk result (HasEnded core intake) }
     ensures gave_up { IfOk result (GaveUpLast again.policy) }
 {
-    let mut again = again;
+    let made = again.made();
     let Ok(mut runtime) = Builder::new_current_thread().build(rt) else {
-        let (ending, made) = (Ending::OutOfMemory, again.made());
-        return Ok(Ended::unserved(alloc, core, intake, ending, made));
+        return Ok(Ended::unserved(alloc, core, intake, Ending::OutOfMemory, made));
     };
-    let Some(stream) = connect_first(rt, &mut runtime, way, &mut again) else {
-        let (ending, made) = (Ending::GaveUp(Cause::Io), again.made());
-        return Ok(Ended::unserved(alloc, core, intake, ending, made));
+    let Ok(handle) = runtime.handle().clone() else {
+        return Ok(Ended::unserved(alloc, core, intake, Ending::OutOfMemory, made));
     };
-    shared.counts.connections.add(1);
+    let connector = Connector::new(rt, handle, way, again, shared);
     let clock = Millis::since(rt, shared.start);
-    match Engine::new(alloc, core, intake, stream, clock, false) {
+    match Engine::without_stream(alloc, core, intake, clock, false) {
         Ok(engine) => {
-            let tended = Tended::new(engine, again, shared);
-            serve_on(rt, &mut runtime, way, shared, tended)
+            let tended = Tended::new(engine, connector, shared);
+            serve_on(rt, &mut runtime, shared, tended)
         }
-        Err((core, intake, _stream, _clock)) => {
-            let (ending, made) = (Ending::OutOfMemory, again.made());
-            Ok(Ended::unserved(alloc, core, intake, ending, made))
+        Err((core, intake, _clock)) => {
+            Ok(Ended::unserved(alloc, core, intake, Ending::OutOfMemory, made))
         }
     }
 }
 
 /// The engine of a service.
-type Served<'a, R> = Tended<'a, Plain<TcpStream>, Millis<'a, R>>;
+type Served<'a, R> = Tended<'a, Plain<TcpStream>, Millis<'a, R>, Connector<'a, R>>;
 
-/// Serves over one connection after the other.
+/// Serves over one connection after the other, and with none.
 fn serve_on<'a, R>(
     rt: &'a R,
     runtime: &mut Runtime,
-    way: Way,
     shared: &'a Shared,
     tended: Served<'a, R>,
 ) -> Result<Ended, ServiceFault>
 where
     R: Wait + Threads + Clock + RandomSource + AllocGlobal + Sync + Net,
-    requires serves { IsServing tended.engine }
-    requires stream { HasStream tended.engine }
-    ensures ended { IfOk result (EndsAs tended.entry.engine) }
-    ensures gave_up { IfOk result (GaveUpLast tended.entry.again.policy) }
-{
-    let mut tended = tended;
-    for _ in rt.forever() {
-        let (served, stop) = run_once(rt, runtime, shared, tended)?;
-        tended = served;
-        match stop {
-            Some(Stop::NeedStream(cause)) => {
-                match connect_again(rt, runtime, way, &mut tended.again) {
-                    Some(stream) => {
-                        shared.counts.connections.add(1);
-                        tended.engine.give_stream(stream);
-                    }
-                    None => return Ok(ended(tended, Ending::GaveUp(cause))),
-                }
-            }
-            Some(Stop::Done) => return Ok(ended(tended, Ending::Done)),
-            Some(Stop::OutOfMemory) | None => return Ok(ended(tended, Ending::OutOfMemory)),
-        }
-    }
-    unreachable!()
-}
-
-/// Runs the engine to its next stop. None, where there is no memory to run it in.
-fn run_once<'a, R>(
-    rt: &'a R,
-    runtime: &mut Runtime,
-    shared: &'a Shared,
-    tended: Served<'a, R>,
-) -> Result<(Served<'a, R>, Option<Stop>), ServiceFault>
-where
-    R: Wait + Threads + Clock + RandomSource + AllocGlobal + Sync + Net,
-    requires { HasStream tended.engine }
-    ensures served { IfOk result (λ out. GoesOn tended.entry.engine out.0.engine) }
-    ensures policy { IfOk result (λ out. out.0.again.policy ≡ tended.entry.again.policy) }
-    ensures stopped { IfOk result (λ out. StoppedFor out.1 out.0.engine) }
-    ensures done { IfOk result (λ out. IfSome out.1 (λ stop. stop ≡ Stop.Done → IsDone out.0.engine.exchange)) }
+    requires serves { IsServing tended.lasting.engine }
+    requires going { IsGoing tended.lasting.engine.line }
+    ensures ended { IfOk result (EndsAs tended.entry.lasting.engine) }
+    ensures gave_up { IfOk result (GaveUpLast tended.entry.lasting.connecting.again.policy) }
 {
     match Running::new(rt, runtime.handle(), &shared.bells, tended) {
         Ok(running) => {
-            let (tended, stop) = runtime.block_on(rt, running)?;
-            Ok((tended, Some(stop)))
+            let (tended, over) = runtime.block_on(rt, running)?;
+            let made = tended.lasting.connecting.made();
+            Ok(ended(tended, ending_for(over), made))
         }
-        Err((_refused, tended)) => Ok((tended, None)),
+        Err((_refused, tended)) => {
+            let made = tended.lasting.connecting.made();
+            Ok(ended(tended, Ending::OutOfMemory, made))
+        }
+    }
+}
+
+/// Why the service ends.
+fn ending_for(over: Over) -> Ending
+    ensures { result ≡ ending_for over }
+{
+    match over {
+        Over::Done => Ending::Done,
+        Over::GaveUp(cause) => Ending::GaveUp(cause),
+        Over::OutOfMemory => Ending::OutOfMemory,
     }
 }
 
 /// Gives up what has no report, and takes the engine apart.
-fn ended<S: Stream, C: Moments>(tended: Tended<'_, S, C>, ending: Ending) -> Ended
-    requires serves { IsServing tended.engine }
-    requires done { ending ≡ Ending.Done → IsDone tended.engine.exchange }
-    requires spent { MayEnd tended.again.policy ending tended.again.made }
-    requires cause { GivesUpFor ending tended.engine }
-    ensures ended { EndsAs tended.entry.engine result }
-    ensures gave_up { GaveUpLast tended.entry.again.policy result }
+fn ended<S: Stream, C: Moments, K: Connecting<Stream = S>>(
+    tended: Tended<'_, S, C, K>,
+    ending: Ending,
+    made: u32,
+) -> Ended
+    requires serves { IsServing tended.lasting.engine }
+    requires done { ending ≡ Ending.Done → IsDone tended.lasting.engine.exchange }
+    requires cause { GivesUpFor ending tended.lasting.engine }
+    ensures ended { EndsAs tended.entry.lasting.engine result }
+    ensures told { (ending_of result ≡ ending) × (new_connections_of result ≡ made) }
 {
     tended.count_batches();
-    let made = tended.again.made();
     let mut engine = tended.into_engine();
     let _told = engine.end();
     Ended::new(engine.into_parts(), ending, made)

@@ -36,8 +36,8 @@ pub struct Settings {
 }
 
 impl Settings {
-    /// The defaults: one sender with 1024 places, Kafka's configuration, as many partitions as the broker names, up to ten
-    /// new connections in a row, and no audit.
+    /// The defaults: one sender with 1024 places, Kafka's configuration, as many partitions as the broker names, as many new
+    /// connections as it takes, and no audit.
     pub fn new(alloc: Global, topic: &str, client: &str) -> Result<Settings, AllocError>
         ensures { IfOk result (λ settings. settings ≡ default_settings topic.now client.now) }
     {
@@ -50,7 +50,7 @@ impl Settings {
             capacity: 1024,
             config: Config::default(),
             partitions: None,
-            policy: Policy::InARow(10),
+            policy: Policy::Unlimited,
             audits: false,
         })
     }

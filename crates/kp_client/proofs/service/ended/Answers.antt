@@ -60,7 +60,7 @@ returns-clause-ended g c core intake h =
         gave_up = λ cause is. record {
           earlier = s.calls;
           last = _;
-          gave = s.gave (NeedStream cause) (ap (λ (e : Engine _ _). e.line) c.into_engine-engine.ensures ∙ subst (λ (how : Ending). GivesUpFor how c.args.tended.engine) (sym c.new.ensures.1 ∙ is) c.requires.cause);
+          gave = s.gave (NeedStream cause) (ap (λ (e : Engine _ _). e.line) c.into_engine-engine.ensures ∙ subst (λ (how : Ending). GivesUpFor how c.args.tended.lasting.engine) (sym c.new.ensures.1 ∙ is) c.requires.cause);
           told = c.end-told.result;
           made = refl;
         };

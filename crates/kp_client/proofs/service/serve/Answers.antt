@@ -1,7 +1,8 @@
-use Rattle.std.proofs.Common.{◌∙◌, ap, subst, sym}
+use Rattle.std.proofs.Common.{ap, subst, sym}
 use Rattle.std.specs.Prelude.{false}
-use Rattle.kp_engine.specs.Engine.{stop_in}
 use Rattle.kp_engine.specs.declared.engine.Engine.{Engine}
+use Rattle.kp_engine.specs.declared.engine.Line.{Line}
+use Rattle.kp_running.specs.Lasting.{IsGoing}
 use Rattle.kp_client.specs.Serving.{IsServing}
 use Rattle.kp_client.proofs.ServiceLemmas.{ended_anew, new_serves, unserved_back, unserved_ended}
 use Rattle.kp_client.proofs.service.serve.Goals as goal
@@ -12,21 +13,22 @@ serve_on-requires-clause-serves g c _ _ =
     (record {
       core = c.args.core;
       intake = c.args.intake;
-      serves = new_serves c.args.core c.args.intake false c.in-Ok-new.engine _ c.requires c.in-Ok-new.ensures.made c.in-Ok-new.ensures.line;
+      serves = new_serves c.args.core c.args.intake false c.in-Ok-without_stream.engine c.requires c.in-Ok-without_stream.ensures.made c.in-Ok-without_stream.ensures.line;
     })
 
-pub serve_on-requires-clause-stream : goal.serve_on-requires-clause-stream
-serve_on-requires-clause-stream g c _ _ = ap (λ (e : Engine _ _). stop_in e.line) c.new-tended.ensures.0 ∙ ap stop_in c.in-Ok-new.ensures.line
+pub serve_on-requires-clause-going : goal.serve_on-requires-clause-going
+serve_on-requires-clause-going g c _ _ =
+    subst (λ (e : Engine _ _). IsGoing e.line) (sym c.new-tended.ensures.0) (subst (λ (l : Line _). IsGoing l) (sym c.in-Ok-without_stream.ensures.line) tt)
 
 pub returns-in_default-clause-ended : goal.returns-in_default-clause-ended
 returns-in_default-clause-ended g c = unserved_ended c.args.core c.args.intake _ c.unserved.ensures.unserved
 
-pub returns-in_default-connect_first-clause-ended : goal.returns-in_default-connect_first-clause-ended
-returns-in_default-connect_first-clause-ended g c = unserved_ended c.args.core c.args.intake _ c.unserved-in_default-connect_first.ensures.unserved
+pub returns-in_default-clone-clause-ended : goal.returns-in_default-clone-clause-ended
+returns-in_default-clone-clause-ended g c = unserved_ended c.args.core c.args.intake _ c.unserved-in_default-clone.ensures.unserved
 
-pub returns-in-Ok-new-clause-ended : goal.returns-in-Ok-new-clause-ended
-returns-in-Ok-new-clause-ended g c =
-    ended_anew c.args.core c.args.intake false c.in-Ok-new.engine _ _ _ c.requires c.in-Ok-new.ensures.made c.in-Ok-new.ensures.line c.new-tended.ensures.0 c.serve_on.ensures.ended
+pub returns-in-Ok-without_stream-clause-ended : goal.returns-in-Ok-without_stream-clause-ended
+returns-in-Ok-without_stream-clause-ended g c =
+    ended_anew c.args.core c.args.intake false c.in-Ok-without_stream.engine _ _ c.requires c.in-Ok-without_stream.ensures.made c.in-Ok-without_stream.ensures.line c.new-tended.ensures.0 c.serve_on.ensures.ended
 
 pub returns-clause-ended : goal.returns-clause-ended
 returns-clause-ended g c =

@@ -1,34 +1,36 @@
-use Rattle.std.proofs.Common.{◌∙◌, ap}
-use Rattle.kp_engine.specs.Engine.{stop_in}
-use Rattle.kp_client.proofs.ServiceLemmas.{serving_on, still_serves}
+use Rattle.std.proofs.Common.{◌∙◌, ℕ, subst, sym}
+use Rattle.kp_client.specs.Ends.{MayEnd}
+use Rattle.kp_client.specs.Left.{new_connections_of}
+use Rattle.kp_client.specs.Serving.{ending_for, GivesUpFor}
+use Rattle.kp_client.specs.declared.left.Ending.{Ending}
+use Rattle.kp_client.proofs.ServiceLemmas.{done_left, gave_up_for, may_end, runs_on, runs_out, runs_to, serving_on}
 use Rattle.kp_client.proofs.service.serve_on.Goals as goal
-
-pub loop-preserved : goal.loop-preserved
-loop-preserved g c = record {
-  next = tt;
-  finite = tt;
-  goes = λ core intake h. still_serves _ _ _ c.give_stream.ensures.same.0 c.give_stream.ensures.line core intake (c.in_ok-served.ensures.served core intake (c.loop.invariant.goes core intake h));
-  policy = c.connect_again.ensures.same ∙ (c.in_ok-served.ensures.policy ∙ c.loop.invariant.policy);
-  stream = ap stop_in c.give_stream.ensures.line;
-}
 
 pub ended-requires-clause-serves : goal.ended-requires-clause-serves
 ended-requires-clause-serves g c =
-    serving_on _ _ (λ core intake h. c.in_ok-served.ensures.served core intake (c.loop.invariant.goes core intake h)) c.requires.serves
+    serving_on _ _ (runs_on _ _ _ _ c.in-Ok.running.engine c.args.tended c.in_ok-tended-in-Ok.over c.in_ok-tended-in-Ok.tended c.in-Ok.ensures.ok c.in_ok-tended-in-Ok.ensures) c.requires.serves
 
-pub ended-requires-in-Some-Done-clause-serves : goal.ended-requires-in-Some-Done-clause-serves
-ended-requires-in-Some-Done-clause-serves g c =
-    serving_on _ _ (λ core intake h. c.in_ok-served.ensures.served core intake (c.loop.invariant.goes core intake h)) c.requires.serves
+pub ended-requires-clause-done : goal.ended-requires-clause-done
+ended-requires-clause-done g c is =
+    done_left c.in_ok-tended-in-Ok.over c.in_ok-tended-in-Ok.tended.lasting.engine (sym c.ending_for.ensures ∙ is)
+    (runs_to _ _ _ _ c.in-Ok.running.engine c.args.tended c.in_ok-tended-in-Ok.over c.in_ok-tended-in-Ok.tended c.in-Ok.ensures.ok c.in_ok-tended-in-Ok.ensures c.requires.going)
 
-pub ended-requires-in-Some-OutOfMemory-clause-serves : goal.ended-requires-in-Some-OutOfMemory-clause-serves
-ended-requires-in-Some-OutOfMemory-clause-serves g c =
-    serving_on _ _ (λ core intake h. c.in_ok-served.ensures.served core intake (c.loop.invariant.goes core intake h)) c.requires.serves
+pub ended-requires-clause-cause : goal.ended-requires-clause-cause
+ended-requires-clause-cause g c =
+    subst (λ (how : Ending). GivesUpFor how c.in_ok-tended-in-Ok.tended.lasting.engine) (sym c.ending_for.ensures)
+    (gave_up_for c.in_ok-tended-in-Ok.over c.in_ok-tended-in-Ok.tended.lasting.engine
+    (runs_to _ _ _ _ c.in-Ok.running.engine c.args.tended c.in_ok-tended-in-Ok.over c.in_ok-tended-in-Ok.tended c.in-Ok.ensures.ok c.in_ok-tended-in-Ok.ensures c.requires.going))
 
-pub returns-in-None-connect_again-clause-ended : goal.returns-in-None-connect_again-clause-ended
-returns-in-None-connect_again-clause-ended g c = λ core intake h. c.ended.ensures.ended core intake (c.in_ok-served.ensures.served core intake (c.loop.invariant.goes core intake h))
+pub returns-in_ok-tended-in-Ok-clause-ended : goal.returns-in_ok-tended-in-Ok-clause-ended
+returns-in_ok-tended-in-Ok-clause-ended g c = λ core intake h. c.ended.ensures.ended core intake
+    (runs_on _ _ _ _ c.in-Ok.running.engine c.args.tended c.in_ok-tended-in-Ok.over c.in_ok-tended-in-Ok.tended c.in-Ok.ensures.ok c.in_ok-tended-in-Ok.ensures core intake h)
 
-pub returns-in-Some-Done-clause-ended : goal.returns-in-Some-Done-clause-ended
-returns-in-Some-Done-clause-ended g c = λ core intake h. c.ended-in-Some-Done.ensures.ended core intake (c.in_ok-served.ensures.served core intake (c.loop.invariant.goes core intake h))
-
-pub returns-in-Some-OutOfMemory-clause-ended : goal.returns-in-Some-OutOfMemory-clause-ended
-returns-in-Some-OutOfMemory-clause-ended g c = λ core intake h. c.ended-in-Some-OutOfMemory.ensures.ended core intake (c.in_ok-served.ensures.served core intake (c.loop.invariant.goes core intake h))
+pub returns-in_ok-tended-in-Ok-clause-gave_up : goal.returns-in_ok-tended-in-Ok-clause-gave_up
+returns-in_ok-tended-in-Ok-clause-gave_up g c =
+    let over = c.in_ok-tended-in-Ok.over in
+    let policy = c.args.tended.lasting.connecting.again.policy in
+    let made = c.in_ok-tended-in-Ok.tended.lasting.connecting.again.made in
+    let may : MayEnd policy (ending_for over) made = may_end over policy made
+    (runs_out _ _ _ _ c.in-Ok.running.engine c.args.tended c.in_ok-tended-in-Ok.over c.in_ok-tended-in-Ok.tended c.in-Ok.ensures.ok c.in_ok-tended-in-Ok.ensures) in
+    subst (λ (how : Ending). MayEnd policy how (new_connections_of c.ended.result)) (sym (c.ended.ensures.told.0 ∙ c.ending_for.ensures))
+    (subst (λ (n : ℕ). MayEnd policy (ending_for over) n) (sym (c.ended.ensures.told.1 ∙ c.made-made.ensures)) may)

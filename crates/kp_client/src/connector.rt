@@ -1,0 +1,181 @@
+//! What makes a service's connections, beside its engine's turns.
+
+ghost use Rattle.std.specs.Prelude.{◌≡◌, ℕ, None};
+ghost use Rattle.futures.specs.Poll.{OnPending};
+ghost use Rattle.futures.specs.Task.{Hears, Keeps};
+ghost use Rattle.kp_running.specs.Lasting.{IsSpent};
+ghost use Rattle.kp_client.specs.Connecting.{waits_of};
+ghost use Rattle.kp_client.specs.Policy.{limit_of, made_after_reply};
+
+use crate::again::Again;
+use crate::connecting::Way;
+use crate::shared::Shared;
+use futures::Future;
+use futures::task::{Context, Poll};
+use kp_connection::Plain;
+use kp_running::Connecting;
+use std::net::Net;
+use std::time::{Clock, Duration};
+use tokio::net::{ConnectFuture, TcpStream};
+use tokio::runtime::Handle;
+use tokio::time::{Sleep, Timeout};
+
+/// How far the next connection is.
+#[derive(Drop)]
+pub(crate) enum Stage {
+    /// None is under way.
+    Idle,
+    /// The next try waits for its moment.
+    Pausing(Sleep),
+    Trying(Timeout<ConnectFuture>),
+}
+
+/// Makes a service's connections: the first is no new one; where it can't be made, and in place of one that was lost, new
+/// ones are, as often and at such distances as the policy has it.
+#[derive(Drop)]
+pub(crate) struct Connector<'a, R> {
+    rt: &'a R,
+    handle: Handle,
+    way: Way,
+    again: Again,
+    shared: &'a Shared,
+    /// The first try was begun.
+    begun: bool,
+    stage: Stage,
+}
+
+impl<'a, R: Net + Clock> Connector<'a, R> {
+    pub(crate) fn new(
+        rt: &'a R,
+        handle: Handle,
+        way: Way,
+        again: Again,
+        shared: &'a Shared,
+    ) -> Connector<'a, R>
+        ensures { result.again ≡ again }
+    {
+        Connector {
+            rt,
+            handle,
+            way,
+            again,
+            shared,
+            begun: false,
+            stage: Stage::Idle,
+        }
+    }
+
+    /// How many new connections its policy has counted.
+    pub(crate) fn made(&self) -> u32
+        ensures { result ≡ self.now.again.made }
+    {
+        self.again.made()
+    }
+
+    /// Begins the next try, or the wait before it. None where the policy allows no more.
+    fn begin<T>(&mut self, cx: &mut Context<'_>) -> Poll<Option<T>>
+        ensures registered { OnPending result ((s : ℕ) → waits_of self.new.stage s → Hears cx.new s) }
+        ensures policy { self.new.again.policy ≡ self.old.again.policy }
+        ensures spent { result ≡ Poll.Ready None → IsSpent (limit_of self.new.again.policy) self.new.again.made }
+        ensures kept { Keeps cx.old cx.new }
+    {
+        if !self.begun {
+            self.begun = true;
+            self.stage = self.begin_try();
+            return self.go_on(cx);
+        }
+        match self.again.next() {
+            None => Poll::Ready(None),
+            Some(wait) => {
+                self.stage = self.begin_wait(wait);
+                self.go_on(cx)
+            }
+        }
+    }
+
+    /// Asks to be polled again, where a try or a wait was begun; where memory was refused to it, whoever polls comes back.
+    fn go_on<T>(&self, cx: &mut Context<'_>) -> Poll<Option<T>>
+        ensures pending { result ≡ Poll.Pending }
+        ensures registered { (s : ℕ) → waits_of self.now.stage s → Hears cx.new s }
+        ensures kept { Keeps cx.old cx.new }
+    {
+        match &self.stage {
+            Stage::Idle => Poll::Pending,
+            Stage::Pausing(_) | Stage::Trying(_) => cx.yield_now(),
+        }
+    }
+
+    /// A wait of so many milliseconds before the next try.
+    fn begin_wait(&self, wait: u64) -> Stage {
+        if wait == 0 {
+            return self.begin_try();
+        }
+        let wait = Duration::from_millis(wait);
+        match self.handle.time().sleep(self.rt, wait) {
+            Ok(sleep) => Stage::Pausing(sleep),
+            Err(_) => Stage::Idle,
+        }
+    }
+
+    fn begin_try(&self) -> Stage {
+        let connecting = TcpStream::connect(self.rt, self.way.address, self.handle.reactor());
+        let timed = self
+            .handle
+            .time()
+            .timeout(self.rt, self.way.patience, connecting);
+        match timed {
+            Ok(timed) => Stage::Trying(timed),
+            Err(_) => Stage::Idle,
+        }
+    }
+}
+
+impl<R: Net + Clock> Connecting for Connector<'_, R> {
+    type Stream = Plain<TcpStream>;
+
+    ghost waits = { λ connector. waits_of connector.stage };
+
+    ghost limit = { λ connector. limit_of connector.again.policy };
+
+    ghost made = { λ connector. connector.again.made };
+
+    ghost noted = { λ old new. (new.again.wait ≡ 0) × (new.again.made ≡ made_after_reply old.again.policy old.again.made) };
+
+    fn poll_connect(
+        &mut self,
+        cx: &mut Context<'_>,
+        wanted: bool,
+    ) -> Poll<Option<Plain<TcpStream>>> {
+        match &mut self.stage {
+            Stage::Idle => {
+                if !wanted {
+                    return Poll::Pending;
+                }
+                self.begin(cx)
+            }
+            Stage::Pausing(sleep) => {
+                if sleep.poll_elapsed(cx).is_pending() {
+                    return Poll::Pending;
+                }
+                self.stage = self.begin_try();
+                self.go_on(cx)
+            }
+            Stage::Trying(trying) => match trying.poll(cx) {
+                Poll::Pending => Poll::Pending,
+                Poll::Ready(tried) => {
+                    self.stage = Stage::Idle;
+                    let Ok(Ok(inner)) = tried else {
+                        return cx.yield_now();
+                    };
+                    let _set = inner.set_nodelay(true);
+                    self.shared.counts.connections.add(1);
+                    Poll::Ready(Some(Plain { inner }))
+                }
+            },
+        }
+    }
+
+    fn note_reply(&mut self) {
+        self.again.note_reply();
+    }
+}
