@@ -3,13 +3,14 @@
 //! run, over a broker of its own in a thread: the run's name, and behind it a plan of the broker's faults, or numbers.
 //!
 //! `latency RECORDS MILLIS` tells how long records took that were sent so far apart, and `idle MILLIS` keeps a producer
-//! that has nothing to send: these are for measuring.
+//! that has nothing to send: these are for measuring. `publish IP:PORT RECORDS MILLIS LINGER REQUEST DELIVERY` publishes to
+//! a broker elsewhere, with so many milliseconds between records, and tells what became of each.
 #![tactic(auto)]
 
 mod both;
 mod broker;
-mod example;
 mod job;
+mod publishing;
 mod run;
 mod session;
 mod telling;
@@ -18,7 +19,8 @@ mod wrong;
 
 use broker::over_broker;
 use kp_broker::FaultPlan;
-use run::Line;
+use publishing::publish;
+use run::{Line, Run};
 use std::alloc::{AllocGlobal, Global};
 use std::io;
 use std::net::{Net, TcpListener, TcpStream};
@@ -42,6 +44,12 @@ where
 {
     println!(rt; "== {line}")?;
     match Line::read(line) {
+        Some(
+            Line {
+                run: Run::Publish(publishing),
+                ..
+            },
+        ) => publish(rt, publishing),
         Some(line) => over_broker(rt, line.run, &plan_of(rt.alloc(), line.plan)?),
         None => {
             println!(rt; "no run")?;

@@ -1,10 +1,10 @@
 //! What a run is to be.
 
+use crate::publishing::Publishing;
+
 /// What a run is to be.
-#[derive(Clone, Copy, Debug, PartialEq, Eq)]
+#[derive(Clone, Copy, Debug)]
 pub(crate) enum Run {
-    /// The README's example.
-    Example,
     /// Three records, each sent once the one before it is told of, and what was counted.
     Counted,
     /// Two records, and no new connection where the first is lost.
@@ -31,6 +31,8 @@ pub(crate) enum Run {
     Latency { records: u32, apart: u64 },
     /// A producer that has nothing to send for so many milliseconds.
     Idle { millis: u64 },
+    /// Records to a broker elsewhere.
+    Publish(Publishing),
 }
 
 /// A line of the input: a run, and what its broker does with some of the requests.
@@ -47,7 +49,6 @@ impl<'a> Line<'a> {
         let (name, rest) = line.split_once(' ').unwrap_or((line, ""));
         let planned = |run| Some(Line { run, plan: rest });
         match name {
-            "example" => planned(Run::Example),
             "counted" => planned(Run::Counted),
             "gives-up" => planned(Run::GivesUp),
             "twice" => planned(Run::Twice),
@@ -63,6 +64,10 @@ impl<'a> Line<'a> {
                 let (records, apart) = rest.split_once(' ')?;
                 let (records, apart) = (records.parse().ok()?, apart.parse().ok()?);
                 let run = Run::Latency { records, apart };
+                Some(Line { run, plan: "" })
+            }
+            "publish" => {
+                let run = Run::Publish(Publishing::read(rest)?);
                 Some(Line { run, plan: "" })
             }
             "idle" => {

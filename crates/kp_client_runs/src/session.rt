@@ -1,21 +1,13 @@
 //! A producer with one sender, from its opening to its settling.
 
 ghost use Rattle.std.specs.Prelude.{◌∷◌, [], IfOk};
-ghost use Rattle.kp_client.specs.Left.{parts_in, IsSettled};
-ghost use Rattle.kp_client.specs.Producer.{lane_of};
-ghost use Rattle.kp_client.specs.Service.{intake_of};
-ghost use Rattle.kp_lanes.specs.Intake.{lanes_of};
-ghost use Rattle.kp_lanes.specs.Sender.{IsSenderOf};
+ghost use Rattle.kp_client.specs.Left.{parts_in, IsOnly, IsSettled};
 ghost use Rattle.kp_client.specs.declared.left.Left.{Left as AllLeft};
 ghost use Rattle.kp_client_runs.specs.Held.{WasHeld};
-ghost use Rattle.kp_lanes.specs.Settling.{IsOf};
 
 use crate::job::{Heard, Job, work};
 use crate::wrong::Wrong;
-use kp_client::{
-    Closer, Ended, Ending, Left, Monitor, Opened, Producer, Service, Settings, Statistics, open,
-};
-use kp_lanes::Finished;
+use kp_client::{Ended, Ending, Finished, Left, Monitor, Settings, Statistics, open_single};
 use std::alloc::{AllocGlobal, Global};
 use std::net::{Net, SocketAddr, TcpListener, TcpStream};
 use std::random::RandomSource;
@@ -41,11 +33,11 @@ fn settle(
     heard: Heard,
     monitor: Monitor,
 ) -> Result<Came, Wrong>
-    requires { IsOf (lanes_of (parts_in ended).intake) finished }
+    requires { IsOnly (parts_in ended) finished }
     ensures { IfOk result (λ _. (left : AllLeft) × IsSettled (parts_in ended) (finished ∷ []) left) }
 {
     let ending = ended.ending();
-    let Ok(left) = ended.settle(alloc, vec![in alloc; finished]?) else {
+    let Ok(left) = ended.settle_single(alloc, finished) else {
         return Err(Wrong::OutOfMemory);
     };
     let Left { items, held, .. } = left;
@@ -73,11 +65,7 @@ where
     R: Net<Listener = TcpListener, Stream = TcpStream>,
     ensures { IfOk result (λ _. WasHeld address (record settings { senders = 1 })) }
 {
-    let settings = Settings {
-        senders: 1,
-        ..settings
-    };
-    let (producer, closer, service) = open(rt, address, settings)?.into_single();
+    let (producer, closer, service) = open_single(rt, address, settings)?;
     let monitor = producer.monitor()?.try_clone()?;
     let ((finished, heard), ended) = thread::join(
         rt,

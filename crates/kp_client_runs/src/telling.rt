@@ -2,8 +2,7 @@
 
 use crate::both::{tell_bells, tell_both};
 use crate::broker::nobody;
-use crate::example::publish;
-use crate::job::{Heard, Job, record};
+use crate::job::{Heard, Job};
 use crate::run::Run;
 use crate::session::{Came, hold};
 use crate::waiting::{tell_again, tell_closes, tell_waits};
@@ -149,11 +148,6 @@ where
     };
     let three = Job { records: 3, ..one };
     match run {
-        Run::Example => {
-            let report = publish(rt, address, record(rt.alloc())?)?;
-            tell_outcome(rt, report.map(|report| report.outcome))?;
-            Ok(())
-        }
         Run::Counted => tell_job(rt, address, Policy::InARow(10), three),
         Run::GivesUp => tell_job(rt, address, Policy::InAll(0), Job { records: 2, ..one }),
         Run::Twice => {
@@ -177,6 +171,7 @@ where
                 rest: 0,
             },
         ),
+        Run::Publish(_) => Ok(()),
         Run::Idle { millis } => {
             tell_job(
                 rt,
