@@ -14,7 +14,8 @@ abbrev pub of_config : Result (Unit {0}) ConfigFault → Result (Unit {0}) OpenF
 of_config (Ok done) = Ok done
 of_config (Err fault) = Err (Config fault)
 
--- one sender with 1024 places, Kafka's configuration, any number of partitions, as many new connections as it takes, no audit
+-- one sender with 1024 places, Kafka's configuration, any number of partitions, tries to open for as long as a record is tried,
+-- as many new connections as it takes, no audit
 abbrev pub default_settings : List ℕ → List ℕ → Settings
 default_settings topic client = record {
   names = record { topic = topic; client = client };
@@ -22,6 +23,7 @@ default_settings topic client = record {
   capacity = 1024;
   config = default_config;
   partitions = None;
+  open_timeout_ms = default_config.delivery_timeout_ms;
   policy = Unlimited;
   audits = false;
 }

@@ -5,6 +5,7 @@ ghost use Rattle.kp_client.specs.Faults.{IsLater};
 ghost use Rattle.kp_client.specs.Opening.{IsGreeting};
 
 use crate::fault::OpenFault;
+use crate::settings::Settings;
 use kp_connection::{Handshake, Plain};
 use kp_core::Names;
 use kp_hello::{HandshakeFault, Hello};
@@ -13,10 +14,16 @@ use std::io;
 use std::net::{Net, SocketAddr};
 use std::random::RandomSource;
 use std::sync::Wait;
-use std::thread::Threads;
-use std::time::{Clock, Duration};
+use std::thread::{self, Threads};
+use std::time::{Clock, Duration, Instant};
 use tokio::net::TcpStream;
 use tokio::runtime::{Builder, Runtime};
+
+/// The wait before the first further try to open, in milliseconds.
+const SHORTEST: u64 = 50;
+
+/// The longest such wait, in milliseconds.
+const LONGEST: u64 = 1000;
 
 /// The way to a broker.
 #[derive(Clone, Copy, Debug)]
@@ -61,6 +68,44 @@ where
         Ok(Ok((hello, _stream))) => Ok(hello),
         Ok(Err(fault)) => Err(fault.into()),
         Err(_elapsed) => Err(OpenFault::Network),
+    }
+}
+
+/// The same, and again while the broker can't be reached, until so many milliseconds have passed since then.
+pub(crate) fn greet_until<R>(
+    rt: &R,
+    way: Way,
+    settings: &Settings,
+    begun: Instant,
+) -> Result<Hello, OpenFault>
+where
+    R: Wait + Threads + Clock + RandomSource + AllocGlobal + Sync + Net,
+    ensures greeting { IfOk result (IsGreeting settings.now.names) }
+    ensures later { IfErr result IsLater }
+{
+    let within = Duration::from_millis(settings.open_timeout_ms);
+    let mut wait = SHORTEST;
+    for _ in rt.forever() {
+        let names = settings.copy_names(rt.alloc())?;
+        let greeted = greet(rt, way, names);
+        if !is_unreached(&greeted) || has_passed(rt, begun, within) {
+            return greeted;
+        }
+        thread::sleep(rt, Duration::from_millis(wait));
+        wait = wait.saturating_mul(2).min(LONGEST);
+    }
+    unreachable!()
+}
+
+fn is_unreached(greeted: &Result<Hello, OpenFault>) -> bool {
+    matches!(greeted, Err(OpenFault::Network))
+}
+
+/// Whether so much time has passed since then; also where the clock can't be read.
+fn has_passed<R: Clock>(rt: &R, begun: Instant, within: Duration) -> bool {
+    match begun.elapsed(rt) {
+        Ok(passed) => passed >= within,
+        Err(_) => true,
     }
 }
 

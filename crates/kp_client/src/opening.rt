@@ -10,7 +10,7 @@ ghost use Rattle.kp_engine.specs.Opening.{MayTurn};
 ghost use Rattle.kp_client.specs.Opening.{IsGreeting, IsOpen, IsOpenSingle, IsWay};
 
 use crate::closer::Closer;
-use crate::connecting::{Way, expect_partitions, greet};
+use crate::connecting::{Way, expect_partitions, greet_until};
 use crate::fault::OpenFault;
 use crate::producer::Producer;
 use crate::service::Service;
@@ -35,7 +35,8 @@ pub struct Opened {
 }
 
 /// Opens a producer over the broker at this address: connects, asks for the topic's partitions and for a producer id, and
-/// opens the lanes. Nothing is sent before the service runs.
+/// opens the lanes. While the broker can't be reached it tries again, for `open_timeout_ms`. Nothing is sent before the
+/// service runs.
 pub fn open<R>(rt: &R, address: SocketAddr, settings: Settings) -> Result<Opened, OpenFault>
 where
     R: Wait + Threads + Clock + RandomSource + AllocGlobal + Sync + Net,
@@ -48,12 +49,11 @@ where
     settings.check()?;
     let alloc = rt.alloc();
     let start = Instant::now(rt)?;
-    let names = settings.copy_names(alloc)?;
     let way = Way {
         address,
         patience: settings.patience(),
     };
-    let hello = greet(rt, way, names)?;
+    let hello = greet_until(rt, way, &settings, start)?;
     expect_partitions(hello, settings.partitions)?;
     open_known(alloc, way, settings, hello, start)
 }

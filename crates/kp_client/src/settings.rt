@@ -29,6 +29,8 @@ pub struct Settings {
     pub config: Config,
     /// How many partitions the topic is to have, where its number is known.
     pub partitions: Option<u32>,
+    /// For how long `open` tries again while the broker can't be reached, in milliseconds. 0 is once.
+    pub open_timeout_ms: u64,
     /// How often a connection that was lost is made anew.
     pub policy: Policy,
     /// Whether a list of the records that were handed over is kept. It grows as long as the producer lives.
@@ -36,11 +38,12 @@ pub struct Settings {
 }
 
 impl Settings {
-    /// The defaults: one sender with 1024 places, Kafka's configuration, as many partitions as the broker names, as many new
-    /// connections as it takes, and no audit.
+    /// The defaults: one sender with 1024 places, Kafka's configuration, as many partitions as the broker names, tries to open
+    /// for as long as a record is tried, as many new connections as it takes, and no audit.
     pub fn new(alloc: Global, topic: &str, client: &str) -> Result<Settings, AllocError>
         ensures { IfOk result (λ settings. settings ≡ default_settings topic.now client.now) }
     {
+        let config = Config::default();
         Ok(Settings {
             names: Names {
                 topic: Text::from_str(alloc, topic)?,
@@ -48,8 +51,9 @@ impl Settings {
             },
             senders: 1,
             capacity: 1024,
-            config: Config::default(),
+            config,
             partitions: None,
+            open_timeout_ms: config.delivery_timeout_ms,
             policy: Policy::Unlimited,
             audits: false,
         })

@@ -5,7 +5,7 @@ ghost use Rattle.kp_client.specs.Producer.{Finishes, SameProducer};
 use crate::telling::settings;
 use crate::wrong::Wrong;
 use kp_client::{
-    Blob, Closer, Finished, Policy, Producer, Record, Seq, Settings, Target, Timestamp, open_single,
+    Blob, Closer, Finished, Producer, Record, Seq, Settings, Target, Timestamp, open_single,
 };
 use std::alloc::{AllocError, AllocGlobal, Global};
 use std::net::{Net, SocketAddr, TcpListener, TcpStream};
@@ -43,7 +43,7 @@ impl Publishing {
 
     fn settings(self, alloc: Global) -> Result<Settings, AllocError> {
         let mut settings = settings(alloc)?;
-        settings.policy = Policy::Unlimited;
+        settings.open_timeout_ms = self.delivery_timeout;
         settings.config.linger_ms = self.linger;
         settings.config.request_timeout_ms = self.request_timeout;
         settings.config.delivery_timeout_ms = self.delivery_timeout;

@@ -24,7 +24,9 @@ const PATIENCE: u64 = 50;
 const HASTE: u64 = 500;
 
 pub(crate) fn settings(alloc: Global) -> Result<Settings, AllocError> {
-    Settings::new(alloc, "t", "kp")
+    let mut settings = Settings::new(alloc, "t", "kp")?;
+    settings.open_timeout_ms = 0;
+    Ok(settings)
 }
 
 /// Prints what became of a record.

@@ -18,5 +18,6 @@ pub record AreSettingsOf (options : Options) (settings : Settings) : Type 0 wher
   pub capacity : settings.capacity ≡ CAPACITY
   pub config : settings.config ≡ options.config
   pub partitions : settings.partitions ≡ expected_partitions options.place options.partitions
+  pub once : settings.open_timeout_ms ≡ 0
   pub policy : settings.policy ≡ InAll NEW_CONNECTIONS
   pub audits : settings.audits ≡ options.audits

@@ -142,6 +142,7 @@ impl<'a> Options<'a> {
             capacity: CAPACITY,
             config: self.config,
             partitions: self.expected_partitions(),
+            open_timeout_ms: 0,
             policy: Policy::InAll(NEW_CONNECTIONS),
             audits: self.audits,
             ..Settings::new(alloc, self.topic, CLIENT)?
