@@ -5,7 +5,8 @@ ghost use Rattle.kp_client.specs.Producer.{Finishes, SameProducer};
 use crate::telling::settings;
 use crate::wrong::Wrong;
 use kp_client::{
-    Blob, Closer, Finished, Producer, Record, Seq, Settings, Target, Timestamp, open_single,
+    Blob, Closer, Finished, Monitor, Producer, Record, Seq, Settings, Target, Timestamp,
+    open_single,
 };
 use std::alloc::{AllocError, AllocGlobal, Global};
 use std::net::{Net, SocketAddr, TcpListener, TcpStream};
@@ -24,20 +25,26 @@ pub(crate) struct Publishing {
     pub(crate) linger: u64,
     pub(crate) request_timeout: u64,
     pub(crate) delivery_timeout: u64,
+    /// How long behind each record a flush is asked for, if any is.
+    pub(crate) flush: Option<u64>,
 }
 
 impl Publishing {
     /// The words behind the run's name.
     pub(crate) fn read(words: &str) -> Option<Publishing> {
         let mut words = words.split(' ');
-        let publishing = Publishing {
+        let mut publishing = Publishing {
             address: words.next()?.parse().ok()?,
             records: words.next()?.parse().ok()?,
             apart: words.next()?.parse().ok()?,
             linger: words.next()?.parse().ok()?,
             request_timeout: words.next()?.parse().ok()?,
             delivery_timeout: words.next()?.parse().ok()?,
+            flush: None,
         };
+        if let Some(word) = words.next() {
+            publishing.flush = Some(word.parse().ok()?);
+        }
         words.next().is_none().then_some(publishing)
     }
 
@@ -110,13 +117,29 @@ fn hear_for<R: Wait + Clock + Print>(
     Ok(())
 }
 
-/// Sends a record, and hears what comes until the next one's moment.
+/// Flushes so many milliseconds later, and hears what comes until then.
+fn flush_later<R: Wait + Clock + Print>(
+    rt: &R,
+    producer: &mut Producer,
+    sent: &[Instant],
+    millis: u64,
+) -> Result<(), Wrong>
+    ensures { SameProducer producer.old producer.new }
+{
+    hear_for(rt, producer, sent, millis)?;
+    if let Err(refused) = producer.flush() {
+        println!(rt; "no flush: {refused:?}")?;
+    }
+    Ok(())
+}
+
+/// Sends a record, flushes where that is asked for, and hears what comes until the next one's moment.
 fn send_one<R: Wait + Clock + AllocGlobal + Print>(
     rt: &R,
     producer: &mut Producer,
     sent: &mut Vec<Instant>,
     number: u32,
-    apart: u64,
+    publishing: Publishing,
 ) -> Result<(), Wrong>
     ensures { SameProducer producer.old producer.new }
 {
@@ -125,7 +148,10 @@ fn send_one<R: Wait + Clock + AllocGlobal + Print>(
     if let Err((fault, _)) = producer.send(rt, Target::Named(0), record) {
         println!(rt; "{number} {fault:?}")?;
     }
-    hear_for(rt, producer, sent, apart)
+    if let Some(millis) = publishing.flush {
+        flush_later(rt, producer, sent, millis)?;
+    }
+    hear_for(rt, producer, sent, publishing.apart)
 }
 
 /// Sends all, one after the other.
@@ -138,7 +164,7 @@ fn send_each<R: Wait + Clock + AllocGlobal + Print>(
     ensures { SameProducer producer.old producer.new }
 {
     for number in 0..publishing.records {
-        send_one(rt, producer, sent, number, publishing.apart)?;
+        send_one(rt, producer, sent, number, publishing)?;
     }
     Ok(())
 }
@@ -172,17 +198,28 @@ fn send_all<R: Wait + Clock + AllocGlobal + Print>(
     hear_rest(rt, producer, &sent)
 }
 
-/// The same, and closes the producer.
+/// Prints what was counted.
+fn tell_counts<R: Print>(rt: &R, monitor: &Monitor) -> Result<(), Wrong> {
+    println!(rt; "{:?}", monitor.read())?;
+    Ok(())
+}
+
+/// The same, prints what was counted by a tenth of a second later, and closes the producer.
 fn publish_all<R: Wait + Clock + AllocGlobal + Print>(
     rt: &R,
     producer: Producer,
     closer: Closer,
+    monitor: &Monitor,
     publishing: Publishing,
 ) -> (Finished, Result<(), Wrong>)
     ensures { Finishes producer result.0 }
 {
     let (mut producer, mut closer) = (producer, closer);
-    let done = send_all(rt, &mut producer, publishing);
+    let mut done = send_all(rt, &mut producer, publishing);
+    if done.is_ok() {
+        thread::sleep(rt, Duration::from_millis(100));
+        done = tell_counts(rt, monitor);
+    }
     closer.close();
     (producer.finish(), done)
 }
@@ -196,9 +233,10 @@ where
     let settings = publishing.settings(rt.alloc())?;
     let (producer, closer, service) = open_single(rt, publishing.address, settings)?;
     let monitor = producer.monitor()?;
+    let reader = &monitor;
     let ((finished, done), ended) = thread::join(
         rt,
-        move || publish_all(rt, producer, closer, publishing),
+        move || publish_all(rt, producer, closer, reader, publishing),
         move || service.run(rt),
     );
     done?;
@@ -208,7 +246,7 @@ where
         ended.ending(),
         ended.new_connections()
     )?;
-    println!(rt; "{:?}", monitor.read())?;
+    tell_counts(rt, &monitor)?;
     if ended.settle_single(rt.alloc(), finished).is_err() {
         return Err(Wrong::OutOfMemory);
     }
