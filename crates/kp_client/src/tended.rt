@@ -48,7 +48,7 @@ impl<'a, S: Stream, C: Clock, K: Connecting<Stream = S>> Tended<'a, S, C, K> {
         self.shared.counts.attempts.set(core.attempts_sent());
     }
 
-    /// Counts what the last poll has done.
+    /// Counts what the last turn has done.
     fn count(&mut self)
         ensures { self.new.lasting ≡ self.old.lasting }
     {
@@ -74,7 +74,10 @@ impl<S: Stream, C: Clock, K: Connecting<Stream = S>> Turning for Tended<'_, S, C
 
     fn poll_turn(&mut self, cx: &mut Context<'_>) -> Poll<Over> {
         let polled = self.lasting.poll_turn(cx);
-        self.count();
+        // A poll that gives up makes no turn.
+        if !matches!(polled, Poll::Ready(Over::GaveUp(_))) {
+            self.count();
+        }
         polled
     }
 
