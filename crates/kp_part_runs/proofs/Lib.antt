@@ -1,2 +1,1 @@
 mod FrameLemmas
-pub mod FramingFacts

@@ -10,3 +10,4 @@ pub mod MomentLemmas
 pub mod TellingLemmas
 pub mod FencingLemmas
 pub mod SettlingLemmas
+pub mod FramingFacts
