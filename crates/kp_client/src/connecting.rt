@@ -3,6 +3,7 @@
 ghost use Rattle.std.specs.Prelude.{◌≡◌, ◌≢◌, IfErr, IfOk, IfSome};
 ghost use Rattle.kp_client.specs.Faults.{IsLater};
 ghost use Rattle.kp_client.specs.Opening.{IsGreeting};
+ghost use Rattle.kp_client.specs.declared.fault.OpenFault.TheVariants.{Partitions};
 
 use crate::fault::OpenFault;
 use crate::settings::Settings;
@@ -71,7 +72,7 @@ where
     }
 }
 
-/// The same, and again while the broker can't be reached, until so many milliseconds have passed since then.
+/// The same, and again while that may get better, until so many milliseconds have passed since then.
 pub(crate) fn greet_until<R>(
     rt: &R,
     way: Way,
@@ -88,37 +89,47 @@ where
     for _ in rt.forever() {
         let names = settings.copy_names(rt.alloc())?;
         let greeted = greet(rt, way, names);
-        if !is_unreached(&greeted) || has_passed(rt, begun, within) {
+        let left = left_of(rt, begun, within);
+        if !may_get_better(&greeted) || left.is_zero() {
             return greeted;
         }
-        thread::sleep(rt, Duration::from_millis(wait));
+        thread::sleep(rt, left.min(Duration::from_millis(wait)));
         wait = wait.saturating_mul(2).min(LONGEST);
     }
     unreachable!()
 }
 
-fn is_unreached(greeted: &Result<Hello, OpenFault>) -> bool {
-    matches!(greeted, Err(OpenFault::Network))
+/// Whether a later try may give a hello: the broker could not be reached; the topic was not there yet or had no leader (3, 5);
+/// or what gives producer ids was not ready (7, 14, 15, 16, 51).
+fn may_get_better(greeted: &Result<Hello, OpenFault>) -> bool {
+    match greeted {
+        Err(OpenFault::Network) => true,
+        Err(OpenFault::Handshake(HandshakeFault::Refused(code))) => {
+            matches!(*code, 3 | 5 | 7 | 14 | 15 | 16 | 51)
+        }
+        _ => false,
+    }
 }
 
-/// Whether so much time has passed since then; also where the clock can't be read.
-fn has_passed<R: Clock>(rt: &R, begun: Instant, within: Duration) -> bool {
+/// What is left of so much time from then on: nothing where the clock can't be read.
+fn left_of<R: Clock>(rt: &R, begun: Instant, within: Duration) -> Duration {
     match begun.elapsed(rt) {
-        Ok(passed) => passed >= within,
-        Err(_) => true,
+        Ok(passed) => within.saturating_sub(passed),
+        Err(_) => Duration::ZERO,
     }
 }
 
 /// A hello that names another number of partitions than was asked for is none.
 pub(crate) fn expect_partitions(hello: Hello, partitions: Option<u32>) -> Result<(), OpenFault>
     ensures asked { IfOk result (λ _. IfSome partitions (λ n. hello.partitions ≡ n)) }
-    ensures other { IfErr result (λ _. IfSome partitions (λ n. hello.partitions ≢ n)) }
+    ensures other { IfErr result (λ fault. IfSome partitions (λ n. (fault ≡ Partitions n hello.partitions) × (hello.partitions ≢ n))) }
     ensures later { IfErr result IsLater }
 {
     match partitions {
-        Some(expected) if expected != hello.partitions => {
-            Err(OpenFault::Handshake(HandshakeFault::BadAnswer))
-        }
+        Some(expected) if expected != hello.partitions => Err(OpenFault::Partitions {
+            expected,
+            found: hello.partitions,
+        }),
         _ => Ok(()),
     }
 }

@@ -15,7 +15,7 @@ use futures::task::{Context, Poll};
 use kp_connection::Plain;
 use kp_running::Connecting;
 use std::net::Net;
-use std::time::{Clock, Duration};
+use std::time::{Clock, Duration, Instant};
 use tokio::net::{ConnectFuture, TcpStream};
 use tokio::runtime::Handle;
 use tokio::time::{Sleep, Timeout};
@@ -41,6 +41,8 @@ pub(crate) struct Connector<'a, R> {
     shared: &'a Shared,
     /// The first try was begun.
     begun: bool,
+    /// When the last try ended, if one did.
+    tried: Option<Instant>,
     stage: Stage,
 }
 
@@ -61,6 +63,7 @@ impl<'a, R: Net + Clock> Connector<'a, R> {
             again,
             shared,
             begun: false,
+            tried: None,
             stage: Stage::Idle,
         }
     }
@@ -105,15 +108,23 @@ impl<'a, R: Net + Clock> Connector<'a, R> {
         }
     }
 
-    /// A wait of so many milliseconds before the next try.
+    /// A wait of so many milliseconds between the last try and the next, of which some may have passed.
     fn begin_wait(&self, wait: u64) -> Stage {
-        if wait == 0 {
+        let left = Duration::from_millis(wait).saturating_sub(self.since_last_try());
+        if left.is_zero() {
             return self.begin_try();
         }
-        let wait = Duration::from_millis(wait);
-        match self.handle.time().sleep(self.rt, wait) {
+        match self.handle.time().sleep(self.rt, left) {
             Ok(sleep) => Stage::Pausing(sleep),
             Err(_) => Stage::Idle,
+        }
+    }
+
+    /// How long ago the last try ended: nothing, where none did or the clock can't be read.
+    fn since_last_try(&self) -> Duration {
+        match &self.tried {
+            Some(tried) => tried.elapsed(self.rt).unwrap_or(Duration::ZERO),
+            None => Duration::ZERO,
         }
     }
 
@@ -164,6 +175,7 @@ impl<R: Net + Clock> Connecting for Connector<'_, R> {
                 Poll::Pending => Poll::Pending,
                 Poll::Ready(tried) => {
                     self.stage = Stage::Idle;
+                    self.tried = Instant::now(self.rt).ok();
                     let Ok(Ok(inner)) = tried else {
                         return cx.yield_now();
                     };

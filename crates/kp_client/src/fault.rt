@@ -6,34 +6,63 @@ ghost use Rattle.kp_client.specs.declared.fault.OpenFault.TheVariants as opening
 
 use kp_accum::ConfigFault;
 use kp_hello::HandshakeFault;
+use kp_rules::ErrorCode;
 use std::alloc::{AllocError, AllocFailed};
-use std::io;
-use thiserror::Error;
+use std::error::Error;
+use std::{fmt, io};
 
 /// Why a producer is not opened: of these, from the top, the first that applies.
-#[derive(Clone, Copy, Debug, PartialEq, Eq, Error)]
+#[derive(Clone, Copy, Debug, PartialEq, Eq)]
 pub enum OpenFault {
-    #[error("the topic's name has more than 249 bytes")]
+    /// The topic's name has more than 249 bytes.
     Topic,
-    #[error("the client's name has more than 249 bytes")]
+    /// The client's name has more than 249 bytes.
     Client,
-    #[error("{0}")]
     Config(ConfigFault),
     /// No connection could be made, or no hello came, within `request.timeout.ms`.
-    #[error("the broker can't be reached")]
     Network,
-    /// The broker's answers gave no hello, or it named another number of partitions.
-    #[error("{0}")]
+    /// The broker's answers gave no hello.
     Handshake(HandshakeFault),
-    #[error("{0}")]
+    /// The topic has another number of partitions than was expected.
+    Partitions { expected: u32, found: u32 },
     Lanes(kp_lanes::OpenFault),
-    #[error("out of memory")]
     OutOfMemory,
 }
 
+impl fmt::Display for OpenFault {
+    fn fmt<W: fmt::Write>(&self, f: &mut fmt::Formatter<W>) -> fmt::Result {
+        match self {
+            OpenFault::Topic => f.write_str("the topic's name has more than 249 bytes"),
+            OpenFault::Client => f.write_str("the client's name has more than 249 bytes"),
+            OpenFault::Config(fault) => write!(f, "{fault}"),
+            OpenFault::Network => f.write_str("the broker can't be reached"),
+            OpenFault::Handshake(HandshakeFault::Refused(code)) => tell_refusal(f, *code),
+            OpenFault::Handshake(fault) => write!(f, "{fault}"),
+            OpenFault::Partitions { expected, found } => write!(
+                f,
+                "the number of the topic's partitions is {found}, and {expected} was expected"
+            ),
+            OpenFault::Lanes(fault) => write!(f, "{fault}"),
+            OpenFault::OutOfMemory => f.write_str("out of memory"),
+        }
+    }
+}
+
+/// What a broker refused with, by its number, its name and in words.
+fn tell_refusal<W: fmt::Write>(f: &mut fmt::Formatter<W>, code: i16) -> fmt::Result {
+    match ErrorCode::of(code) {
+        Some(ErrorCode { name, words, .. }) => {
+            write!(f, "the broker refused: {code} {name}: {words}")
+        }
+        None => write!(f, "the broker refused: code {code}"),
+    }
+}
+
+impl Error for OpenFault {}
+
 /// Why a service ends without what it held: its thread's event loop has failed. Which of the records that have no report
 /// were stored is not known.
-#[derive(Clone, Copy, Debug, PartialEq, Eq, Error)]
+#[derive(Clone, Copy, Debug, PartialEq, Eq, thiserror::Error)]
 pub enum ServiceFault {
     #[error("the event loop has failed")]
     EventLoop,

@@ -35,8 +35,8 @@ pub struct Opened {
 }
 
 /// Opens a producer over the broker at this address: connects, asks for the topic's partitions and for a producer id, and
-/// opens the lanes. While the broker can't be reached it tries again, for `open_timeout_ms`. Nothing is sent before the
-/// service runs.
+/// opens the lanes. While the broker can't be reached it tries again, for `open_timeout_ms`; so it does where the topic is not
+/// there yet or has no leader, and where what gives producer ids is not ready. Nothing is sent before the service runs.
 pub fn open<R>(rt: &R, address: SocketAddr, settings: Settings) -> Result<Opened, OpenFault>
 where
     R: Wait + Threads + Clock + RandomSource + AllocGlobal + Sync + Net,

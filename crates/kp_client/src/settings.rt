@@ -29,7 +29,8 @@ pub struct Settings {
     pub config: Config,
     /// How many partitions the topic is to have, where its number is known.
     pub partitions: Option<u32>,
-    /// For how long `open` tries again while the broker can't be reached, in milliseconds. 0 is once.
+    /// For how long `open` tries again while the broker can't be reached, or says that it is not ready, in milliseconds. 0 is
+    /// once.
     pub open_timeout_ms: u64,
     /// How often a connection that was lost is made anew.
     pub policy: Policy,

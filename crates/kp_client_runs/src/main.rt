@@ -5,7 +5,8 @@
 //! `latency RECORDS MILLIS` tells how long records took that were sent so far apart, and `idle MILLIS` keeps a producer
 //! that has nothing to send: these are for measuring. `publish IP:PORT RECORDS MILLIS LINGER REQUEST DELIVERY` publishes to
 //! a broker elsewhere, with so many milliseconds between records, and tells what became of each; a further number is how many
-//! milliseconds behind each record a flush is asked for.
+//! milliseconds behind each record a flush is asked for, and `close` has the producer closed behind the last one, before its
+//! reports are heard.
 #![tactic(auto)]
 
 mod both;

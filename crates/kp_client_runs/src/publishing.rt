@@ -25,8 +25,26 @@ pub(crate) struct Publishing {
     pub(crate) linger: u64,
     pub(crate) request_timeout: u64,
     pub(crate) delivery_timeout: u64,
-    /// How long behind each record a flush is asked for, if any is.
-    pub(crate) flush: Option<u64>,
+    pub(crate) behind: Behind,
+}
+
+/// What is done behind records.
+#[derive(Clone, Copy, Debug)]
+pub(crate) enum Behind {
+    Nothing,
+    /// A flush is asked for so many milliseconds behind each.
+    Flush(u64),
+    /// The producer is closed behind the last, before its reports are heard.
+    Close,
+}
+
+impl Behind {
+    fn read(word: &str) -> Option<Behind> {
+        match word {
+            "close" => Some(Behind::Close),
+            millis => Some(Behind::Flush(millis.parse().ok()?)),
+        }
+    }
 }
 
 impl Publishing {
@@ -40,10 +58,10 @@ impl Publishing {
             linger: words.next()?.parse().ok()?,
             request_timeout: words.next()?.parse().ok()?,
             delivery_timeout: words.next()?.parse().ok()?,
-            flush: None,
+            behind: Behind::Nothing,
         };
         if let Some(word) = words.next() {
-            publishing.flush = Some(word.parse().ok()?);
+            publishing.behind = Behind::read(word)?;
         }
         words.next().is_none().then_some(publishing)
     }
@@ -148,7 +166,7 @@ fn send_one<R: Wait + Clock + AllocGlobal + Print>(
     if let Err((fault, _)) = producer.send(rt, Target::Named(0), record) {
         println!(rt; "{number} {fault:?}")?;
     }
-    if let Some(millis) = publishing.flush {
+    if let Behind::Flush(millis) = publishing.behind {
         flush_later(rt, producer, sent, millis)?;
     }
     hear_for(rt, producer, sent, publishing.apart)
@@ -189,12 +207,16 @@ fn hear_rest<R: Wait + Clock + Print>(
 fn send_all<R: Wait + Clock + AllocGlobal + Print>(
     rt: &R,
     producer: &mut Producer,
+    closer: &mut Closer,
     publishing: Publishing,
 ) -> Result<(), Wrong>
     ensures { SameProducer producer.old producer.new }
 {
     let mut sent = Vec::new(rt.alloc());
     send_each(rt, producer, &mut sent, publishing)?;
+    if let Behind::Close = publishing.behind {
+        closer.close();
+    }
     hear_rest(rt, producer, &sent)
 }
 
@@ -215,7 +237,7 @@ fn publish_all<R: Wait + Clock + AllocGlobal + Print>(
     ensures { Finishes producer result.0 }
 {
     let (mut producer, mut closer) = (producer, closer);
-    let mut done = send_all(rt, &mut producer, publishing);
+    let mut done = send_all(rt, &mut producer, &mut closer, publishing);
     if done.is_ok() {
         thread::sleep(rt, Duration::from_millis(100));
         done = tell_counts(rt, monitor);

@@ -20,13 +20,14 @@ abbrev pub of_kind : ErrorKind → RunFault
 of_kind kind.OutOfMemory = OutOfMemory
 of_kind _ = Network
 
--- A broker that names more partitions than a topic may have gave a bad answer.
+-- A broker that names another number of partitions, or more than a topic may have, gave a bad answer.
 abbrev pub of_opening : OpenFault → RunFault
 of_opening opening.Topic = Topic
 of_opening opening.Client = Topic
 of_opening (opening.Config fault) = Config fault
 of_opening opening.Network = Network
 of_opening (opening.Handshake fault) = Handshake fault
+of_opening (opening.Partitions expected found) = Handshake BadAnswer
 of_opening (opening.Lanes fault) = Handshake BadAnswer
 of_opening opening.OutOfMemory = OutOfMemory
 

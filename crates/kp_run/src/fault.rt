@@ -83,7 +83,9 @@ impl From<OpenFault> for RunFault {
             OpenFault::Config(fault) => RunFault::Config(fault),
             OpenFault::Network => RunFault::Network,
             OpenFault::Handshake(fault) => RunFault::Handshake(fault),
-            OpenFault::Lanes(_) => RunFault::Handshake(HandshakeFault::BadAnswer),
+            OpenFault::Partitions { .. } | OpenFault::Lanes(_) => {
+                RunFault::Handshake(HandshakeFault::BadAnswer)
+            }
             OpenFault::OutOfMemory => RunFault::OutOfMemory,
         }
     }
