@@ -112,11 +112,12 @@ fn replay_file<'a, R: Files + AllocGlobal, I: Read, O: Write>(
 }
 
 /// Sends the lines of these bytes.
-fn run_bytes<'a, R, O: Write>(
+fn run_bytes<'a, R, O: Write, E: Write>(
     rt: &R,
     checked: &Checked<'_>,
     bytes: &[u8],
     out: &mut O,
+    err: &mut E,
 ) -> Result<(), Fault<'a>>
 where
     R: Wait + Threads + Clock + RandomSource + AllocGlobal + Sync,
@@ -124,15 +125,16 @@ where
     ensures { OnOk result (PrintsLines checked.now bytes.now (O.contents out.old) (O.contents out.new)) }
 {
     let lines = slices_of(rt.alloc(), bytes)?;
-    run_with(rt, checked, lines.as_slice(), &Open, out)
+    run_with(rt, checked, lines.as_slice(), &Open, out, err)
 }
 
 /// Sends a file's lines.
-fn run_file<'a, R, I: Read, O: Write>(
+fn run_file<'a, R, I: Read, O: Write, E: Write>(
     rt: &R,
     wanted: Wanted<'a>,
     input: &mut I,
     out: &mut O,
+    err: &mut E,
 ) -> Result<(), Fault<'a>>
 where
     R: Files + Wait + Threads + Clock + RandomSource + AllocGlobal + Sync,
@@ -144,15 +146,16 @@ where
 {
     let checked = wanted.options.check(rt.alloc())?;
     let bytes = read_file(rt, wanted.file, input)?;
-    run_bytes(rt, &checked, bytes.as_slice(), out)
+    run_bytes(rt, &checked, bytes.as_slice(), out, err)
 }
 
 /// Does what the command says.
-fn run<'a, R, I: Read, O: Write>(
+fn run<'a, R, I: Read, O: Write, E: Write>(
     rt: &R,
     command: Command<'a>,
     input: &mut I,
     out: &mut O,
+    err: &mut E,
 ) -> Result<(), Fault<'a>>
 where
     R: Files + Wait + Threads + Clock + RandomSource + AllocGlobal + Sync,
@@ -168,7 +171,7 @@ where
     match command {
         Command::Pack(file) => pack_file(rt, file, input, out),
         Command::Replay(file) => replay_file(rt, file, input, out),
-        Command::Run(wanted) => run_file(rt, wanted, input, out),
+        Command::Run(wanted) => run_file(rt, wanted, input, out, err),
     }
 }
 
@@ -192,7 +195,7 @@ where
 {
     match command_of(rt.alloc(), words) {
         Err(error) => refuse(&error, out, err),
-        Ok(command) => match run(rt, command, input, out) {
+        Ok(command) => match run(rt, command, input, out, err) {
             Ok(()) => DONE,
             Err(fault) => fail(fault, err),
         },

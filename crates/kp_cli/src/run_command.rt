@@ -168,7 +168,8 @@ pub fn run_command<'a>(alloc: Global) -> Result<Command<'a>, AllocError>
     ensures local { IfOk result IsLocal }
 {
     let command = Command::new(alloc, "run").about(
-        "Sends lines to a broker, and prints what became of each",
+        "Sends lines to a broker, and prints what became of each. Where ten new connections were made, and the last is lost too, \
+         it is given up, and so are the lines that have no answer",
     );
     let command = with_topic(alloc, command)?;
     let command = with_batching(alloc, command)?;

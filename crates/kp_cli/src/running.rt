@@ -11,7 +11,7 @@ use crate::streams::write_whole;
 use kp_broker::Broker;
 use kp_core::Core;
 use kp_log::LogFault;
-use kp_run::{Came, Checked, Gate, run_lines};
+use kp_run::{Came, Cause, Checked, Gate, run_lines};
 use kp_text::{put_audit, put_own, put_reports, put_totals};
 use std::alloc::{AllocError, AllocGlobal, Global};
 use std::io::Write;
@@ -169,14 +169,31 @@ fn print_run<'a, O: Write>(
     }
 }
 
-/// Sends the lines, and prints what became of them. What came of the run is left in memory: the program ends behind it, and
-/// to free the logs record by record would take as long as a tenth of the run.
-pub fn run_with<'a, R, G, O: Write>(
+/// Tells on `err` that a run was given up, where it was. Nothing is made of an `err` that fails.
+fn tell_given_up<E: Write>(err: &mut E, came: &Came) {
+    let text = match came.given_up {
+        None => return,
+        Some(Cause::Io) =>
+            "kprod: given up: the last connection that a run may make failed or ended\n",
+        Some(Cause::TimedOut) => {
+            "kprod: given up: on the last connection that a run may make no answer came in time\n"
+        }
+        Some(Cause::BadReply(_)) => {
+            "kprod: given up: on the last connection that a run may make an answer can't be used\n"
+        }
+    };
+    let _ = err.write_all(text.as_bytes());
+}
+
+/// Sends the lines, and prints what became of them; on `err` that the run was given up, where it was. What came of the run is
+/// left in memory: the program ends behind it, and to free the logs record by record would take as long as a tenth of the run.
+pub fn run_with<'a, R, G, O: Write, E: Write>(
     rt: &R,
     checked: &Checked<'_>,
     lines: &[&[u8]],
     gate: &G,
     out: &mut O,
+    err: &mut E,
 ) -> Result<(), Fault<'a>>
 where
     R: Wait + Threads + Clock + RandomSource + AllocGlobal + Sync,
@@ -186,6 +203,7 @@ where
 {
     let came = run_lines(rt, checked, lines, gate)?;
     let options = checked.options();
+    tell_given_up(err, &came);
     let printed = print_run(rt.alloc(), &came, options.totals, out);
     let _left = ManuallyDrop::new(came);
     printed

@@ -83,8 +83,9 @@ where
     let Ok(checked) = options().check(rt.alloc()) else {
         return false;
     };
-    let ran = run_with(rt, &checked, LINES.as_slice(), &gate, text);
-    ran.is_ok() && !in_turn.load(Ordering::SeqCst)
+    let mut err = Vec::new(rt.alloc());
+    let ran = run_with(rt, &checked, LINES.as_slice(), &gate, text, &mut err);
+    ran.is_ok() && err.is_empty() && !in_turn.load(Ordering::SeqCst)
 }
 
 /// Tells whether senders run beside one another.

@@ -14,7 +14,7 @@ ghost use Rattle.kp_run.specs.Theirs.{AreTheirs};
 
 use crate::fault::RunFault;
 use crate::sender_thread::Job;
-use kp_client::{Ended, Left};
+use kp_client::{Cause, Ended, Ending, Left};
 use kp_core::{Core, Report};
 use kp_lanes::Finished;
 use std::alloc::{AllocError, Global};
@@ -26,6 +26,8 @@ pub(crate) struct Produced {
     /// By sender, partition and number.
     pub(crate) reports: Vec<Report>,
     pub(crate) core: Core,
+    /// Why the service gave up, where it did.
+    pub(crate) given_up: Option<Cause>,
 }
 
 /// Senders that have finished.
@@ -159,6 +161,14 @@ fn order(reports: &mut Vec<Report>)
     reports.sort_unstable_by_key(|report| (report.sender, report.partition, report.number));
 }
 
+/// Why the service gave up, where it did.
+fn cause_in(ending: Ending) -> Option<Cause> {
+    match ending {
+        Ending::GaveUp(cause) => Some(cause),
+        Ending::Done | Ending::OutOfMemory => None,
+    }
+}
+
 /// What the senders have done, and the service.
 pub(crate) fn gather(
     alloc: Global,
@@ -176,6 +186,7 @@ pub(crate) fn gather(
     ensures core { IfOk result (λ p. p.core ≡ record (parts_in ended).core { reports = p.core.reports }) }
     ensures refused { IfErr result (λ fault. fault ≡ RunFault.OutOfMemory) }
 {
+    let given_up = cause_in(ended.ending());
     let heard = end_all(alloc, jobs)?;
     let Heard {
         finished,
@@ -203,5 +214,6 @@ pub(crate) fn gather(
         accepted,
         reports,
         core,
+        given_up,
     })
 }

@@ -19,3 +19,6 @@ pub use fault::RunFault;
 pub use gate::{Gate, Open};
 pub use options::{Checked, Options, PARTITION_LIMIT, Place, SENDER_LIMIT};
 pub use running::{Came, run_lines};
+
+/// Why the last connection of a run was lost.
+pub use kp_client::Cause;

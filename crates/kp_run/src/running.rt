@@ -13,7 +13,7 @@ use crate::gathering::Produced;
 use crate::options::{Checked, Options, Place};
 use crate::producing::produce;
 use kp_broker::Broker;
-use kp_client::Settings;
+use kp_client::{Cause, Settings};
 use kp_core::{Core, Report};
 use std::alloc::AllocGlobal;
 use std::net::{Ipv4Addr, Net, SocketAddr, TcpListener, TcpStream};
@@ -35,6 +35,8 @@ pub struct Came {
     pub accepted: u64,
     /// What became of them, by sender, partition and number.
     pub reports: Vec<Report>,
+    /// Why the last of the new connections that a run makes was lost, where the run was given up then.
+    pub given_up: Option<Cause>,
 }
 
 /// What came of what was produced.
@@ -48,12 +50,14 @@ fn came_of(broker: Option<Broker>, produced: Produced) -> Came
         accepted,
         reports,
         core,
+        given_up,
     } = produced;
     Came {
         broker,
         core,
         accepted,
         reports,
+        given_up,
     }
 }
 
