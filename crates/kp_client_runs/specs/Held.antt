@@ -1,12 +1,20 @@
 -- A producer that was opened, used and settled.
-use Rattle.std.specs.Prelude.{List}
+use Rattle.std.specs.Prelude.{◌≡◌, ℕ, ◌<◌, List, length, slice_index_or}
 use Rattle.std.specs.declared.net.socket_addr.SocketAddr.{SocketAddr}
 use Rattle.kp_client.specs.Opening.{Begins}
+use Rattle.kp_client.specs.Producer.{Finishes}
 use Rattle.kp_client.specs.declared.left.Left.{Left}
+use Rattle.kp_client.specs.declared.producer.Producer.{Producer}
 use Rattle.kp_client.specs.declared.service.Service.{Service}
 use Rattle.kp_client.specs.declared.settings.Settings.{Settings}
 use Rattle.kp_client_laws.specs.Over.{IsOver}
 use Rattle.kp_lanes.specs.declared.sender.Finished.{Finished}
+
+-- What is left of each of the producers, in their order.
+pub record FinishEach (producers : List Producer) (finished : List Finished) : Type 0 where
+  pub many : length finished ≡ length producers
+  pub each : (i : ℕ) (p : Producer) (f : Finished) → i < length producers
+      → Finishes (slice_index_or producers i p) (slice_index_or finished i f)
 
 -- Its service began so, and is over: the laws of any service speak of it.
 pub record WasHeld (address : SocketAddr) (settings : Settings) : Type 0 where

@@ -1,69 +1,60 @@
-//! Shows over sockets what no clause says of the library's face: that it opens, sends, tells and ends, what it counts, why
-//! it is not opened, and what is left where a connection is lost and not made anew. Of each line of its input it makes a
-//! run, over a broker of its own in a thread: the run's name, and behind it a plan of the broker's faults, or numbers.
+//! Plays producers of the library's service over sockets, by its input. Who gave it the input judges what came.
 //!
-//! `latency RECORDS MILLIS` tells how long records took that were sent so far apart, and `idle MILLIS` keeps a producer
-//! that has nothing to send: these are for measuring. `publish IP:PORT RECORDS MILLIS LINGER REQUEST DELIVERY` publishes to
-//! a broker elsewhere, with so many milliseconds between records, and tells what became of each; a further number is how many
-//! milliseconds behind each record a flush is asked for, and `close` has the producer closed behind the last one, before its
-//! reports are heard.
+//! The input has a block of lines for each producer, with an empty line between two. They are played one after the other.
+//! `IP:PORT [NAME=VALUE..]`, the first line of a block, opens the producer, of the topic `t`, with the library's defaults but for
+//! these settings: `senders`, `capacity`, `partitions`, `linger.ms`, `request.timeout.ms`, `delivery.timeout.ms`,
+//! `retry.backoff.ms`, `open.timeout.ms`, `in.a.row` or `in.all` (new connections), and `late.ms`, after how many milliseconds
+//! the service runs. Each further line is a step of the sender whose number it begins with. Each sender has a thread of its own,
+//! which plays its steps:
+//!
+//!     0 send MILLIS VALUE [PARTITION]     waits for room for so long; where that is 0 it doesn't
+//!     0 hear MILLIS                       hears a report, if one comes in that time
+//!     0 listen MILLIS                     hears all that come in that time
+//!     0 rest MILLIS                       hears those of records that have none yet, if they come in that time
+//!     0 flush
+//!     0 counts                            reads the statistics, by the sender's handle and by a monitor
+//!     0 sleep MILLIS
+//!     0 close                             closes the producer; it is closed anyway once all have played their steps
+//!
+//! What came of a step is told by a line, `SENDER BEGAN ENDED WHAT VALUE`, with its times in microseconds from the opening on.
+//! They are in the order in which the steps ended. Behind them stands how the service ended, and when; or why there is none.
 #![tactic(auto)]
 
-mod both;
-mod broker;
-mod job;
-mod publishing;
-mod run;
+mod playing;
+mod script;
 mod session;
-mod telling;
-mod waiting;
-mod wrong;
+mod stage;
 
-use broker::over_broker;
-use kp_broker::FaultPlan;
-use publishing::publish;
-use run::{Line, Run};
-use std::alloc::{AllocGlobal, Global};
+use anyhow::{Context, Result};
+use script::Script;
+use session::{hold, hold_single};
+use std::alloc::AllocGlobal;
 use std::io;
 use std::net::{Net, TcpListener, TcpStream};
 use std::random::RandomSource;
 use std::sync::Wait;
 use std::thread::Threads;
 use std::time::Clock;
-use wrong::Wrong;
 
-fn plan_of(alloc: Global, text: &str) -> Result<FaultPlan, Wrong> {
-    if text.is_empty() {
-        return Ok(FaultPlan::none(alloc));
-    }
-    Ok(FaultPlan::parse(alloc, text)?)
-}
-
-fn make<R>(rt: &R, line: &str) -> Result<(), Wrong>
+/// Plays a block.
+fn play<R>(rt: &R, block: &str) -> Result<()>
 where
     R: Wait + Threads + Clock + RandomSource + AllocGlobal + Sync + Print,
     R: Net<Listener = TcpListener, Stream = TcpStream>,
 {
-    println!(rt; "== {line}")?;
-    match Line::read(line) {
-        Some(
-            Line {
-                run: Run::Publish(publishing),
-                ..
-            },
-        ) => publish(rt, publishing),
-        Some(line) => over_broker(rt, line.run, &plan_of(rt.alloc(), line.plan)?),
-        None => {
-            println!(rt; "no run")?;
-            Ok(())
-        }
+    let script = Script::read(rt.alloc(), block).context("not understood")?;
+    if script.settings.senders == 1 {
+        hold_single(rt, script)
+    } else {
+        hold(rt, script)
     }
 }
 
-fn main(rt: HostRuntime) -> io::Result<()> {
-    for line in rt.lines(rt.alloc()) {
-        if let Err(wrong) = make(&rt, line?.as_str()) {
-            println!(rt; "{wrong}")?;
+fn main(rt: HostRuntime) -> Result<()> {
+    let input = io::read_to_string(rt.alloc(), rt.reader())?;
+    for block in input.trim().split("\n\n") {
+        if let Err(wrong) = play(&rt, block) {
+            println!(rt; "{wrong:#}")?;
         }
     }
     Ok(())

@@ -1,76 +1,148 @@
-//! A producer with one sender, from its opening to its settling.
+//! A producer, from its opening to its settling.
 
-ghost use Rattle.std.specs.Prelude.{◌∷◌, [], IfOk};
+ghost use Rattle.std.specs.Prelude.{◌≡◌, ◌∷◌, [], All, IfOk};
+ghost use Rattle.kp_lanes.specs.Intake.{lanes_of};
+ghost use Rattle.kp_lanes.specs.Settling.{IsOf};
+ghost use Rattle.kp_client.specs.Ends.{HasEnded};
 ghost use Rattle.kp_client.specs.Left.{parts_in, IsOnly, IsSettled};
+ghost use Rattle.kp_client.specs.Service.{core_of, intake_of};
 ghost use Rattle.kp_client.specs.declared.left.Left.{Left as AllLeft};
-ghost use Rattle.kp_client_runs.specs.Held.{WasHeld};
+ghost use Rattle.kp_client_runs.specs.Held.{FinishEach, WasHeld};
 
-use crate::job::{Heard, Job, work};
-use crate::wrong::Wrong;
-use kp_client::{Ended, Ending, Finished, Left, Monitor, Settings, Statistics, open_single};
-use std::alloc::{AllocGlobal, Global};
-use std::net::{Net, SocketAddr, TcpListener, TcpStream};
+use crate::playing::play_sender;
+use crate::script::Script;
+use crate::stage::Stage;
+use anyhow::{Context, Result};
+use kp_client::{
+    Ended, Finished, Left, Opened, Producer, Service, ServiceFault, open, open_single,
+};
+use std::alloc::{AllocError, AllocGlobal, Global};
+use std::net::{Net, TcpListener, TcpStream};
 use std::random::RandomSource;
 use std::sync::Wait;
 use std::thread::{self, Threads};
-use std::time::Clock;
+use std::time::{Clock, Duration};
 
-/// What came of a producer.
-#[derive(Drop)]
-pub(crate) struct Came {
-    pub(crate) heard: Heard,
-    pub(crate) ending: Ending,
-    /// How many records came back.
-    pub(crate) records: usize,
-    pub(crate) statistics: Statistics,
+/// Plays each sender in a thread of its own, and closes the producer.
+fn play_all<R>(
+    rt: &R,
+    producers: Vec<Producer>,
+    stage: &Stage,
+    steps: &str,
+) -> Result<Vec<Finished>, AllocError>
+where
+    R: Wait + Threads + Clock + AllocGlobal + Sync,
+    ensures { IfOk result (λ finished. FinishEach producers.items finished.items) }
+{
+    let finished = thread::map_vec(
+        rt,
+        producers,
+        &|producer| play_sender(rt, producer, stage, steps),
+    );
+    stage.closer.lock(rt).close();
+    finished
 }
 
-/// Takes back what is left.
-fn settle(
-    alloc: Global,
-    ended: Ended,
-    finished: Finished,
-    heard: Heard,
-    monitor: Monitor,
-) -> Result<Came, Wrong>
+/// Runs the service so many milliseconds later.
+fn serve<R>(rt: &R, service: Service, late: u64) -> Result<Ended, ServiceFault>
+where
+    R: Wait + Threads + Clock + RandomSource + AllocGlobal + Sync + Net,
+    ensures lanes { IfOk result (λ ended. lanes_of (parts_in ended).intake ≡ lanes_of (intake_of service)) }
+    ensures ended { IfOk result (HasEnded (core_of service) (intake_of service)) }
+{
+    thread::sleep(rt, Duration::from_millis(late));
+    service.run(rt)
+}
+
+/// How many records came back.
+fn records_in(left: &Left) -> usize {
+    let mut records = left.held.items.len();
+    for items in &left.items {
+        records = records.saturating_add(items.len());
+    }
+    records
+}
+
+/// Takes back what is left: how many records.
+fn settle(alloc: Global, ended: Ended, finished: Vec<Finished>) -> Result<usize, AllocError>
+    requires { All (IsOf (lanes_of (parts_in ended).intake)) finished.items }
+    ensures { IfOk result (λ _. (left : AllLeft) × IsSettled (parts_in ended) finished.items left) }
+{
+    match ended.settle(alloc, finished) {
+        Ok(left) => Ok(records_in(&left)),
+        Err(_) => Err(AllocError),
+    }
+}
+
+/// The same of a producer with one sender.
+fn settle_only(alloc: Global, ended: Ended, finished: Finished) -> Result<usize, AllocError>
     requires { IsOnly (parts_in ended) finished }
     ensures { IfOk result (λ _. (left : AllLeft) × IsSettled (parts_in ended) (finished ∷ []) left) }
 {
-    let ending = ended.ending();
-    let Ok(left) = ended.settle_single(alloc, finished) else {
-        return Err(Wrong::OutOfMemory);
-    };
-    let Left { items, held, .. } = left;
-    let waiting = match items.first() {
-        Some(items) => items.len(),
-        None => 0,
-    };
-    Ok(Came {
-        heard,
-        ending,
-        records: held.items.len().saturating_add(waiting),
-        statistics: monitor.read(),
-    })
+    match ended.settle_single(alloc, finished) {
+        Ok(left) => Ok(records_in(&left)),
+        Err(_) => Err(AllocError),
+    }
 }
 
-/// Opens a producer, does the job, and takes back what is left.
-pub(crate) fn hold<R>(
-    rt: &R,
-    address: SocketAddr,
-    settings: Settings,
-    job: Job,
-) -> Result<Came, Wrong>
+/// Opens a producer, plays its senders, and takes back what is left.
+pub(crate) fn hold<R>(rt: &R, script: Script<'_>) -> Result<()>
 where
-    R: Wait + Threads + Clock + RandomSource + AllocGlobal + Sync,
+    R: Wait + Threads + Clock + RandomSource + AllocGlobal + Sync + Print,
     R: Net<Listener = TcpListener, Stream = TcpStream>,
-    ensures { IfOk result (λ _. WasHeld address (record settings { senders = 1 })) }
+    ensures { IfOk result (λ _. WasHeld script.entry.address script.entry.settings) }
 {
-    let (producer, closer, service) = open_single(rt, address, settings)?;
-    let monitor = producer.monitor()?.try_clone()?;
-    let ((finished, heard), ended) = thread::join(
+    let Script {
+        address,
+        settings,
+        late,
+        steps,
+    } = script;
+    let Opened {
+        producers,
+        closer,
+        service,
+    } = open(rt, address, settings).context("not opened")?;
+    let stage = &Stage::new(rt, closer, producers.first().context("no sender")?)?;
+    let (finished, ended) = thread::join(
         rt,
-        move || work(rt, producer, closer, job),
-        move || service.run(rt),
+        move || play_all(rt, producers, stage, steps),
+        move || serve(rt, service, late),
     );
-    settle(rt.alloc(), ended?, finished, heard?, monitor)
+    let ended = ended.context("the service")?;
+    let (ending, made) = (ended.ending(), ended.new_connections());
+    let records = settle(rt.alloc(), ended, finished?)?;
+    stage.print(rt, ending, made, records)?;
+    Ok(())
+}
+
+/// The same of a producer with one sender, whatever the settings say of senders.
+pub(crate) fn hold_single<R>(rt: &R, script: Script<'_>) -> Result<()>
+where
+    R: Wait + Threads + Clock + RandomSource + AllocGlobal + Sync + Print,
+    R: Net<Listener = TcpListener, Stream = TcpStream>,
+    ensures { IfOk result (λ _. WasHeld script.entry.address (record script.entry.settings { senders = 1 })) }
+{
+    let Script {
+        address,
+        settings,
+        late,
+        steps,
+    } = script;
+    let (producer, closer, service) = open_single(rt, address, settings).context("not opened")?;
+    let stage = &Stage::new(rt, closer, &producer)?;
+    let (finished, ended) = thread::join(
+        rt,
+        move || {
+            let finished = play_sender(rt, producer, stage, steps);
+            stage.closer.lock(rt).close();
+            finished
+        },
+        move || serve(rt, service, late),
+    );
+    let ended = ended.context("the service")?;
+    let (ending, made) = (ended.ending(), ended.new_connections());
+    let records = settle_only(rt.alloc(), ended, finished)?;
+    stage.print(rt, ending, made, records)?;
+    Ok(())
 }
