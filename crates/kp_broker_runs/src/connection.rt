@@ -2,8 +2,11 @@
 
 use kp_broker::{Broker, BrokerFault, FaultPlan, Plain, Served};
 use kp_cases::{StepFault, Words};
-use std::alloc::Global;
+use std::alloc::{AllocError, Global};
 use std::io::{self, ErrorKind, Read, Write};
+
+/// Room for what is written, in bytes: so much of it takes no memory while a broker serves.
+const ROOM: usize = 4096;
 
 /// How many bytes each call on a stream moves at most, one after the other, and each further one as many as the last; a
 /// call at `None` fails. Where there is none, a call moves all that it can.
@@ -118,7 +121,8 @@ impl Connection {
         node: u16,
         plan: &FaultPlan,
         input: &[u8],
-    ) -> (Result<Served, BrokerFault>, Vec<u8>) {
+    ) -> Result<(Result<Served, BrokerFault>, Vec<u8>), AllocError> {
+        let held = Vec::with_capacity(self.alloc, ROOM)?;
         let mut connection = Plain {
             reader: Source {
                 rest: input,
@@ -126,7 +130,7 @@ impl Connection {
                 calls: 0,
             },
             writer: Sink {
-                held: Vec::new(self.alloc),
+                held,
                 steps: &self.writes,
                 calls: 0,
                 flush_fails: self.flush_fails,
@@ -135,6 +139,6 @@ impl Connection {
         let ended = broker.serve_as(node, &mut connection, plan);
         let Plain { reader, writer } = connection;
         self.read_calls = reader.calls;
-        (ended, writer.held)
+        Ok((ended, writer.held))
     }
 }

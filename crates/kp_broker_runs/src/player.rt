@@ -1,8 +1,8 @@
 //! The steps of the cases.
 
 use crate::connection::Connection;
-use kp_broker::{Broker, BrokerFault, FaultPlan};
-use kp_cases::{Player, StepFault, Words};
+use kp_broker::{Broker, BrokerFault, FaultPlan, PlanFault};
+use kp_cases::{Player, StepFault, Words, refused};
 use kp_frames::FrameFault;
 use std::alloc::{AllocError, AllocFailed, Global};
 use std::mem;
@@ -31,6 +31,8 @@ pub(crate) struct Brokers {
     put: Vec<u8>,
     /// What the broker told last.
     told: Vec<u8>,
+    /// What it told before memory was refused to it, where that was in the last step.
+    begun: Vec<u8>,
 }
 
 /// Writes bytes in hexadecimal, and `-` where there is none.
@@ -71,6 +73,30 @@ fn value_at(broker: &Broker, partition: u32, offset: u64) -> Option<&[u8]> {
     Some(stored.body.value.as_ref()?.as_slice())
 }
 
+fn length_of(broker: &Broker, partition: u32) -> Option<u64> {
+    Some(broker.log(partition)?.len())
+}
+
+/// How many records each of the first three partitions has.
+fn lengths(broker: &Broker) -> [Option<u64>; 3] {
+    [
+        length_of(broker, 0),
+        length_of(broker, 1),
+        length_of(broker, 2),
+    ]
+}
+
+/// What is told of a call that was refused memory: of a request's partitions, the first may have been appended to.
+fn refused_at(broker: &Broker, before: &[Option<u64>]) -> StepFault {
+    let mut is_first = true;
+    let mut is_in_order = true;
+    for (old, new) in before.iter().zip(&lengths(broker)) {
+        is_in_order = is_in_order && (is_first || new == old);
+        is_first = is_first && new != old;
+    }
+    refused(is_in_order)
+}
+
 impl Brokers {
     pub(crate) fn new(alloc: Global) -> Brokers {
         Brokers {
@@ -81,6 +107,7 @@ impl Brokers {
             connection: Connection::new(alloc),
             put: Vec::new(alloc),
             told: Vec::new(alloc),
+            begun: Vec::new(alloc),
         }
     }
 
@@ -116,6 +143,7 @@ impl Brokers {
         let text = text.strip_suffix('"').ok_or(StepFault::NotUnderstood)?;
         match FaultPlan::parse(self.alloc, text) {
             Ok(plan) => self.plan = plan,
+            Err(PlanFault::OutOfMemory) => return Err(StepFault::OutOfMemory),
             Err(fault) => write!(came, "{fault:?}")?,
         }
         Ok(())
@@ -132,11 +160,13 @@ impl Brokers {
     fn answer(&mut self, words: &mut Words<'_>, came: &mut String) -> Result<(), StepFault> {
         let content = self.input(words)?;
         let broker = self.broker.as_mut().ok_or("there is no broker")?;
+        let before = lengths(broker);
         match broker.answer_as(self.node, &content) {
             Ok(frame) => {
                 write!(came, "{} bytes", frame.len())?;
                 self.told = frame;
             }
+            Err(BrokerFault::OutOfMemory) => return Err(refused_at(broker, &before)),
             Err(fault) => write!(came, "{fault:?}")?,
         }
         Ok(())
@@ -151,7 +181,18 @@ impl Brokers {
     fn serve(&mut self, words: &mut Words<'_>, came: &mut String) -> Result<(), StepFault> {
         let input = self.input(words)?;
         let broker = self.broker.as_mut().ok_or("there is no broker")?;
-        let (ended, written) = self.connection.serve(broker, self.node, &self.plan, &input);
+        let before = lengths(broker);
+        let served = self.connection.serve(broker, self.node, &self.plan, &input);
+        let (ended, written) = served?;
+        if ended == Err(BrokerFault::OutOfMemory) {
+            let fault = refused_at(broker, &before);
+            self.begun = written;
+            return Err(fault);
+        }
+        if !written.starts_with(&self.begun) {
+            return Err("it has begun otherwise where memory was refused".into());
+        }
+        self.begun.clear();
         self.told = written;
         match ended {
             Ok(served) => write!(came, "{served:?}")?,

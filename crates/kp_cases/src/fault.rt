@@ -14,8 +14,12 @@ pub enum StepFault {
     /// What it asks for can't be done there.
     #[error("can't be: {0}")]
     CannotBe(&'static str),
+    /// It finds no memory, and has left all as it was: it may be played again.
     #[error("finds no memory")]
     OutOfMemory,
+    /// What it plays with found no memory before, and has stopped for good: it is passed over.
+    #[error("has stopped")]
+    Stopped,
 }
 
 impl From<&'static str> for StepFault {

@@ -5,12 +5,16 @@ use crate::script::{Block, Line, Script};
 use crate::words::Words;
 use std::alloc::{AllocError, Global};
 
+/// Room for what a step comes to, in bytes: so much of it takes no memory behind what the step does.
+const ROOM: usize = 4096;
+
 /// What plays the steps of cases.
 pub trait Player {
     /// Begins a case: nothing is left of the one before.
     fn begin(&mut self);
 
     /// Plays the step with this first word and these behind it, and writes what it came to. Words that are left are too many.
+    /// A step that finds no memory leaves all as it was.
     fn play(
         &mut self,
         step: &str,
@@ -51,9 +55,9 @@ fn times_of(text: &str) -> Result<(u64, &str), StepFault> {
     Ok((count, step))
 }
 
-/// What the words of a step come to.
-fn came_of<P: Player>(player: &mut P, alloc: Global, words: &str) -> Result<String, StepFault> {
-    let mut came = String::new(alloc);
+/// What the words of a step come to, played once.
+fn came_once<P: Player>(player: &mut P, alloc: Global, words: &str) -> Result<String, StepFault> {
+    let mut came = String::with_capacity(alloc, ROOM)?;
     let mut words = Words::of(alloc, words);
     let step = words.word()?;
     player.play(step, &mut words, &mut came)?;
@@ -61,17 +65,38 @@ fn came_of<P: Player>(player: &mut P, alloc: Global, words: &str) -> Result<Stri
     Ok(came)
 }
 
-/// Plays a step once.
+/// What the words of a step come to, played again where it found no memory.
+fn came_of<P: Player>(
+    player: &mut P,
+    alloc: Global,
+    words: &str,
+    is_short: &mut bool,
+) -> Result<String, StepFault> {
+    match came_once(player, alloc, words) {
+        Err(StepFault::OutOfMemory) => {
+            *is_short = true;
+            came_once(player, alloc, words)
+        }
+        came => came,
+    }
+}
+
+/// Plays a step, and says where it was short of memory.
 fn play_once<P: Player>(
     player: &mut P,
     alloc: Global,
     line: usize,
     step: &str,
+    is_short: &mut bool,
 ) -> Result<(), Failure> {
     let (words, wanted) = parts_of(step);
-    let text = match came_of(player, alloc, words) {
+    let text = match came_of(player, alloc, words, is_short) {
         Ok(came) if came.as_str() == wanted => return Ok(()),
         Ok(came) => format!(in alloc; "{words}: wanted \"{wanted}\", came \"{came}\"")?,
+        Err(StepFault::Stopped) => {
+            *is_short = true;
+            return Ok(());
+        }
         Err(fault) => format!(in alloc; "{words}: {fault}")?,
     };
     Err(Failure::At(line, text))
@@ -85,21 +110,33 @@ fn failure_of(alloc: Global, line: Line<'_>, fault: StepFault) -> Failure {
     }
 }
 
+/// The line with each named text in the place of its name, spelled again where there was no memory.
+fn spelled(script: &Script<'_>, line: Line<'_>, is_short: &mut bool) -> Result<String, StepFault> {
+    match script.spelled(line.text) {
+        Err(StepFault::OutOfMemory) => {
+            *is_short = true;
+            script.spelled(line.text)
+        }
+        spelled => spelled,
+    }
+}
+
 /// Plays a line that has a step, as often as it says.
 fn play_step<P: Player>(
     player: &mut P,
     alloc: Global,
     script: &Script<'_>,
     line: Line<'_>,
+    is_short: &mut bool,
 ) -> Result<(), Failure> {
-    let spelled = match script.spelled(line.text) {
+    let spelled = match spelled(script, line, is_short) {
         Ok(spelled) => spelled,
         Err(fault) => return Err(failure_of(alloc, line, fault)),
     };
     match times_of(spelled.as_str()) {
         Ok((count, step)) => {
             for _ in 0..count {
-                play_once(player, alloc, line.number, step)?;
+                play_once(player, alloc, line.number, step, is_short)?;
             }
             Ok(())
         }
@@ -125,13 +162,14 @@ fn play_line<P: Player>(
     alloc: Global,
     script: &Script<'_>,
     line: Line<'_>,
+    is_short: &mut bool,
 ) -> Result<(), Failure> {
     match named_steps(script, line) {
-        Ok(None) => play_step(player, alloc, script, line),
+        Ok(None) => play_step(player, alloc, script, line, is_short),
         Ok(Some((count, steps))) => {
             for _ in 0..count {
                 for step in steps {
-                    play_step(player, alloc, script, *step)?;
+                    play_step(player, alloc, script, *step, is_short)?;
                 }
             }
             Ok(())
@@ -140,16 +178,17 @@ fn play_line<P: Player>(
     }
 }
 
-/// Plays a case from its beginning.
+/// Plays a case from its beginning: whether it was short of memory.
 pub(crate) fn play_case<P: Player>(
     player: &mut P,
     alloc: Global,
     script: &Script<'_>,
     case: &Block<'_>,
-) -> Result<(), Failure> {
+) -> Result<bool, Failure> {
+    let mut is_short = false;
     player.begin();
     for line in &case.steps {
-        play_line(player, alloc, script, *line)?;
+        play_line(player, alloc, script, *line, &mut is_short)?;
     }
-    Ok(())
+    Ok(is_short)
 }

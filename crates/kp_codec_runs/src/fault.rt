@@ -22,6 +22,18 @@ pub enum Fault {
     Memory(#[from(alloc)] AllocError),
 }
 
+impl Fault {
+    /// Whether memory was refused.
+    pub(crate) fn wants_memory(&self) -> bool {
+        matches!(
+            self,
+            Fault::Memory(_)
+                | Fault::Batch(BatchFault::OutOfMemory)
+                | Fault::Frame(FrameFault::OutOfMemory)
+        )
+    }
+}
+
 impl From<ReadError> for Fault {
     fn from(error: ReadError) -> Fault {
         match error {

@@ -7,9 +7,9 @@ use kp_wire::{
     Blob, Seq, Text, end_before, put_array, put_bool, put_i8, put_i16, put_i32, put_i64,
     put_nullable, put_nullable_array, put_nullable_text, put_records, put_string, put_text,
     put_u32, put_varint, put_varlong, read_array, read_bool, read_bytes, read_i8, read_i16,
-    read_i32, read_i64, read_nullable, read_nullable_array, read_nullable_text, read_records,
-    read_string, read_text, read_u32, read_utf8, read_varint, read_varlong, size_of_array,
-    size_of_bool, size_of_i16, size_of_i32, size_of_i64, size_of_nullable_array,
+    read_i32, read_i64, read_many, read_nullable, read_nullable_array, read_nullable_text,
+    read_records, read_string, read_text, read_u32, read_utf8, read_varint, read_varlong,
+    size_of_array, size_of_bool, size_of_i16, size_of_i32, size_of_i64, size_of_nullable_array,
     size_of_nullable_text, size_of_records, size_of_text, take_nullable, take_string, take_varint,
     take_varlong, varint_len, varlong_len,
 };
@@ -169,7 +169,18 @@ fn records<'a>(bytes: &'a [u8], told: &mut Told) -> Left<'a> {
     Ok(rest)
 }
 
-/// Reads a field of so many bytes, or a number before so many that belong to what stands behind it.
+/// So many INT32.
+fn many<'a>(count: usize, bytes: &'a [u8], told: &mut Told) -> Left<'a> {
+    let count = u32::try_from(count).map_err(|_| StepFault::NotUnderstood)?;
+    let (numbers, rest) = read_many::<i32>(told.alloc, count, bytes, 0)?;
+    write!(told.text, "{:?}", numbers.as_slice())?;
+    for n in numbers.as_slice() {
+        put_i32(&mut told.written, *n)?;
+    }
+    Ok(rest)
+}
+
+/// Reads a field of so many bytes or numbers, or a number before so many bytes that belong to what stands behind it.
 fn read_counted<'a>(kind: &str, bytes: &'a [u8], told: &mut Told) -> Left<'a> {
     let (kind, count) = kind.split_once(':').unwrap_or((kind, "0"));
     let count = count.parse().map_err(|_| StepFault::NotUnderstood)?;
@@ -178,6 +189,7 @@ fn read_counted<'a>(kind: &str, bytes: &'a [u8], told: &mut Told) -> Left<'a> {
         "varlong" => varlong(count, bytes, told),
         "bytes" => bytes_of(count, bytes, told),
         "utf8" => utf8(count, bytes, told),
+        "many" => many(count, bytes, told),
         _ => Err(Fault::Step(StepFault::NotUnderstood)),
     }
 }

@@ -152,6 +152,7 @@ pub(crate) fn tell_frame(alloc: Global, words: &mut Words<'_>, came: &mut String
             put_hex(came, frame.get(..4).unwrap_or(&[]))?;
         }
         Err(Fault::Step(fault)) => return Err(fault),
+        Err(fault) if fault.wants_memory() => return Err(StepFault::OutOfMemory),
         Err(fault) => write!(came, "{fault}")?,
     }
     Ok(())

@@ -8,6 +8,7 @@ mod edits;
 mod fault;
 mod fields;
 mod frames;
+mod putting;
 mod records;
 mod splitting;
 mod sweeps;
@@ -17,21 +18,23 @@ use crate::computed::compute;
 use crate::edits::edited;
 use crate::fault::Done;
 use crate::frames::tell_frame;
+use crate::putting::Putting;
 use crate::records::{Held, tell_head};
 use crate::splitting::Splitting;
 use crate::sweeps::tell_words;
-use crate::told::put_hex;
+use crate::told::{put_hex, tell_at_once};
 use kp_cases::{Player, Words, play_files};
 use std::alloc::Global;
 use std::io;
 use std::process::ExitCode;
 
-/// What a case has made: records, and a stream that is split.
+/// What a case has made: records, a stream that is split, and what was written.
 #[derive(Drop)]
 struct Codecs {
     alloc: Global,
     held: Held,
     splitting: Splitting,
+    putting: Putting,
 }
 
 impl Codecs {
@@ -40,6 +43,7 @@ impl Codecs {
             alloc,
             held: Held::new(alloc),
             splitting: Splitting::new(alloc),
+            putting: Putting::new(alloc),
         }
     }
 }
@@ -50,6 +54,7 @@ fn play_bytes(alloc: Global, step: &str, words: &mut Words<'_>, came: &mut Strin
         "frame" => tell_frame(alloc, words, came),
         "edited" => Ok(put_hex(came, &edited(alloc, words)?)?),
         "head" => tell_head(alloc, &edited(alloc, words)?, came),
+        "at_once" => tell_at_once(alloc, words.word()?, &words.bytes()?, came),
         kind => tell_words(alloc, kind, words, came),
     }
 }
@@ -58,11 +63,13 @@ impl Player for Codecs {
     fn begin(&mut self) {
         self.held = Held::new(self.alloc);
         self.splitting = Splitting::new(self.alloc);
+        self.putting = Putting::new(self.alloc);
     }
 
     fn play(&mut self, step: &str, words: &mut Words<'_>, came: &mut String) -> Done {
         if self.held.play(step, words, came)?
             || self.splitting.play(step, words, came)?
+            || self.putting.play(step, words, came)?
             || compute(self.alloc, step, words, came)?
         {
             return Ok(());

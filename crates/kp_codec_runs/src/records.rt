@@ -3,8 +3,8 @@
 use crate::fault::{Done, Left, Played};
 use crate::told::{Told, put_hex};
 use kp_batch::{
-    AsRecord, BatchHead, Header, Record, SIZE_LIMIT, Timestamp, batch_size, charge, read_batch,
-    record_size, write_batch,
+    AsRecord, BatchFault, BatchHead, Header, Record, SIZE_LIMIT, Timestamp, batch_size, charge,
+    read_batch, record_size, write_batch,
 };
 use kp_cases::{StepFault, Words};
 use kp_wire::{Blob, Seq, Text};
@@ -94,7 +94,11 @@ pub(crate) fn read_records<'a>(bytes: &'a [u8], told: &mut Told) -> Left<'a> {
 
 /// Tells what stands before the records of a batch.
 pub(crate) fn tell_head(alloc: Global, bytes: &[u8], came: &mut String) -> Done {
-    let batch = read_batch(alloc, bytes).map_err(|_| "it is no batch")?;
+    let batch = match read_batch(alloc, bytes) {
+        Ok(batch) => batch,
+        Err(BatchFault::OutOfMemory) => return Err(StepFault::OutOfMemory),
+        Err(_) => return Err("it is no batch".into()),
+    };
     let (offset, epoch, head) = (batch.base_offset, batch.leader_epoch, batch.head);
     Ok(write!(came, "base offset {offset}, leader epoch {epoch}, {head:?}")?)
 }

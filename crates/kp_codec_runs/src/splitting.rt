@@ -3,8 +3,8 @@
 use crate::edits::number_of;
 use crate::fault::{Done, Left, Played};
 use crate::told::{Told, put_hex};
-use kp_cases::{StepFault, Words};
-use kp_frames::Splitter;
+use kp_cases::{StepFault, Words, refused};
+use kp_frames::{FrameFault, Splitter};
 use kp_wire::put_i32;
 use std::alloc::Global;
 
@@ -52,10 +52,19 @@ impl Splitting {
 
     /// Feeds a piece, and tells the fault where one comes.
     fn feed(&mut self, piece: &[u8], came: &mut String) -> Done {
-        if let Err(fault) = self.splitter.feed(piece) {
-            write!(came, "{fault:?}")?;
+        let waited = self.splitter.rest_len();
+        match self.splitter.feed(piece) {
+            Ok(()) => Ok(()),
+            Err(fault) => self.tell_fault(fault, waited, came),
         }
-        Ok(())
+    }
+
+    /// Tells a fault, behind which as many bytes have to wait as waited before where memory was refused.
+    fn tell_fault(&self, fault: FrameFault, waited: usize, came: &mut String) -> Done {
+        if fault == FrameFault::OutOfMemory {
+            return Err(refused(self.splitter.rest_len() == waited));
+        }
+        Ok(write!(came, "{fault:?}")?)
     }
 
     /// Feeds each word as a piece.
@@ -92,12 +101,12 @@ impl Splitting {
 
     /// Tells the content of the next frame.
     fn tell_next(&mut self, came: &mut String) -> Done {
+        let waited = self.splitter.rest_len();
         match self.splitter.next_frame() {
-            Ok(Some(content)) => put_hex(came, &content)?,
-            Ok(None) => came.push_str("none")?,
-            Err(fault) => write!(came, "{fault:?}")?,
+            Ok(Some(content)) => Ok(put_hex(came, &content)?),
+            Ok(None) => Ok(came.push_str("none")?),
+            Err(fault) => self.tell_fault(fault, waited, came),
         }
-        Ok(())
     }
 
     /// Takes the next frame, and says where it has not the next number.

@@ -95,9 +95,26 @@ pub(crate) fn tell<'a>(
             Ok(rest)
         }
         Err(Fault::Step(fault)) => Err(fault),
+        Err(fault) if fault.wants_memory() => Err(StepFault::OutOfMemory),
         Err(fault) => {
             write!(came, "{fault}")?;
             Ok(&[])
         }
     }
+}
+
+/// Tells the fault of bytes that are refused before any memory is taken: where memory is refused to their reader, that.
+pub(crate) fn tell_at_once(
+    alloc: Global,
+    kind: &str,
+    bytes: &[u8],
+    came: &mut String,
+) -> Result<(), StepFault> {
+    let mut told = Told::new(alloc)?;
+    match read(kind, bytes, &mut told) {
+        Ok(_) => came.push_str("none")?,
+        Err(Fault::Step(fault)) => return Err(fault),
+        Err(fault) => write!(came, "{fault}")?,
+    }
+    Ok(())
 }

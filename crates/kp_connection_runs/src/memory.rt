@@ -5,7 +5,7 @@ use kp_cases::{StepFault, Words};
 use kp_connection::script::{Script, Step};
 use kp_connection::{Plain, Stream};
 use std::alloc::Global;
-use std::io;
+use std::io::{self, ErrorKind};
 use tokio::io::DuplexStream;
 
 /// A stream over memory, whose calls tell nothing of their bytes.
@@ -34,7 +34,13 @@ impl Stream for Memory {
 
     fn poll_give(&mut self, cx: &mut Context<'_>, buf: &[u8]) -> Poll<io::Result<usize>> {
         match self {
-            Memory::Script(script) => script.poll_give(cx, buf),
+            Memory::Script(script) => match script.poll_give(cx, buf) {
+                // (what keeps the bytes was refused memory, which a stream has no need of)
+                Poll::Ready(Err(e)) if e.kind() == ErrorKind::OutOfMemory => {
+                    script.poll_give(cx, buf)
+                }
+                given => given,
+            },
             Memory::Duplex(end) => end.poll_give(cx, buf),
         }
     }

@@ -54,6 +54,24 @@ impl Shaking {
     }
 }
 
+/// The names of topic and client, which are next.
+fn names_of(alloc: Global, words: &mut Words<'_>) -> Result<Names, StepFault> {
+    Ok(Names {
+        topic: Text::from_str(alloc, words.word()?)?,
+        client: Text::from_str(alloc, words.word()?)?,
+    })
+}
+
+/// Tells what comes of a poll: what is left behind it.
+fn tell_poll(task: &MockTask, shaking: Shaking, came: &mut String) -> Result<Near, StepFault> {
+    let (near, polled) = shaking.poll(task);
+    if matches!(polled, Poll::Ready(Err(HandshakeFault::OutOfMemory))) {
+        return Err(StepFault::OutOfMemory);
+    }
+    put_polled(came, &polled)?;
+    Ok(near)
+}
+
 /// A connection, and the task in which its ends are polled.
 #[derive(Drop)]
 pub(crate) struct Connections {
@@ -114,21 +132,24 @@ impl Connections {
     }
 
     fn handshake(&mut self, words: &mut Words<'_>) -> Result<Near, StepFault> {
-        let names = Names {
-            topic: Text::from_str(self.alloc, words.word()?)?,
-            client: Text::from_str(self.alloc, words.word()?)?,
-        };
+        let names = names_of(self.alloc, words)?;
         let handshake = Handshake::new(self.alloc, self.take_stream()?, names);
         Ok(Near::Handshake(Shaking { handshake }))
     }
 
     fn poll(&mut self, came: &mut String) -> Result<Near, StepFault> {
-        let Near::Handshake(shaking) = mem::replace(&mut self.near, Near::Gone) else {
-            return Err("there is no handshake".into());
-        };
-        let (near, polled) = shaking.poll(&self.task);
-        put_polled(came, &polled)?;
-        Ok(near)
+        match mem::replace(&mut self.near, Near::Gone) {
+            Near::Handshake(shaking) => tell_poll(&self.task, shaking, came),
+            _ => Err("there is no handshake".into()),
+        }
+    }
+
+    /// A handshake over a stream that gives these bytes, polled once. Both are made anew.
+    fn greet(&self, words: &mut Words<'_>, came: &mut String) -> Result<Near, StepFault> {
+        let names = names_of(self.alloc, words)?;
+        let stream = Memory::Script(Script::new(self.alloc, words.rest_bytes()?));
+        let handshake = Handshake::new(self.alloc, stream, names);
+        tell_poll(&self.task, Shaking { handshake }, came)
     }
 
     /// Plays a step of what the near end is.
@@ -171,6 +192,7 @@ impl Player for Connections {
             "into_stream" => Near::Stream(self.take_stream()?),
             "handshake" => self.handshake(words)?,
             "poll" => self.poll(came)?,
+            "greet" => self.greet(words, came)?,
             "drop_near" => Near::Gone,
             "says" | "hears" | "drop_far" => {
                 return play_far(&self.task, &mut self.far, step, words, came);

@@ -66,9 +66,9 @@ fn play_engine(
     came: &mut String,
 ) -> Result<(), StepFault> {
     match step {
-        "poll" => put_stop(came, scene.poll())?,
+        "poll" => put_stop(came, scene.poll_on()?)?,
         "turn" => {
-            let stop = scene.poll();
+            let stop = scene.poll_on()?;
             put_calls(came, scene.engine.last_turn().ok_or("no calls are kept")?)?;
             put_stop(came, stop)?;
         }
@@ -119,6 +119,22 @@ impl<'a, R: RandomSource + AllocGlobal> Engines<'a, R> {
         Ok(came.push_str(if is_same { "the same" } else { "another" })?)
     }
 
+    /// Whether the engine has stopped for good, has kept its calls as it was asked to, and each record is found once. It is gone then.
+    fn account(&mut self, came: &mut String) -> Result<(), StepFault> {
+        let mut scene = self.scene.take().ok_or("no engine")?;
+        scene.polls_alike()?;
+        if scene.engine.last_turn().is_some() != self.setting.keeps_calls {
+            return Err("calls are kept otherwise".into());
+        }
+        let found = scene.has_each_once();
+        Ok(came.push_str(if found { "each once" } else { "not each once" })?)
+    }
+
+    /// Whether the engine has stopped for good, as memory was refused to it.
+    fn is_refused(&self) -> bool {
+        self.scene.as_ref().is_some_and(|scene| scene.is_refused)
+    }
+
     /// What the engine held back, which is gone then.
     fn take_apart(&mut self, came: &mut String) -> Result<(), StepFault> {
         let Scene { engine, .. } = self.scene.take().ok_or("no engine")?;
@@ -141,6 +157,8 @@ impl<R: RandomSource + AllocGlobal> Player for Engines<'_, R> {
     ) -> Result<(), StepFault> {
         match step {
             "engine" => self.open(words),
+            "account" => self.account(came),
+            _ if self.is_refused() => Err(StepFault::Stopped),
             "cut" => cut(self.rt, self.setting, words, came),
             "core" => self.compare_core(came),
             "held" => self.take_apart(came),

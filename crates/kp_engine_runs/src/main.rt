@@ -1,6 +1,7 @@
 //! Plays what the engine does, poll by poll, over streams in memory that move a few bytes at a time, wait, lie, fail and end.
 #![tactic(auto)]
 
+mod account;
 mod calls;
 mod clock;
 mod cutting;
@@ -10,6 +11,7 @@ mod opening;
 mod scene;
 mod setting;
 mod shared;
+mod tally;
 mod texts;
 mod town;
 

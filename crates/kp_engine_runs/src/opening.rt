@@ -1,6 +1,6 @@
 //! An engine with the senders that it serves.
 
-ghost use Rattle.std.specs.Prelude.{IfSome};
+ghost use Rattle.std.specs.Prelude.{IfOk};
 ghost use Rattle.kp_engine.specs.Opening.{MayTurn};
 
 use crate::clock::Ticking;
@@ -9,7 +9,7 @@ use kp_cases::StepFault;
 use kp_connection::Stream;
 use kp_core::{Core, Names};
 use kp_engine::Engine;
-use kp_lanes::{Closer, Intake, Sender, open_lanes};
+use kp_lanes::{Closer, Intake, OpenFault, Sender, open_lanes};
 use kp_wire::Text;
 use std::alloc::{AllocError, Global};
 
@@ -26,13 +26,13 @@ fn names_of(alloc: Global) -> Result<Names, AllocError> {
     })
 }
 
-/// A core of which nothing was asked yet, and lanes that go with it; None where there can be none.
+/// A core of which nothing was asked yet, and lanes that go with it.
 fn ends_of(
     alloc: Global,
     setting: Setting,
     names: Names,
-) -> Option<(Core, Vec<Sender>, Intake, Closer)>
-    ensures { IfSome result (λ ends. MayTurn ends.0 ends.2) }
+) -> Result<(Core, Vec<Sender>, Intake, Closer), StepFault>
+    ensures { IfOk result (λ ends. MayTurn ends.0 ends.2) }
 {
     let Setting {
         config,
@@ -53,7 +53,7 @@ fn ends_of(
         || senders > 64
         || correlation > 2_147_483_647
     {
-        return None;
+        return Err("no core, or no lanes".into());
     }
     let Ok(core) = Core::new(
         alloc,
@@ -65,13 +65,34 @@ fn ends_of(
         correlation,
         true,
     ) else {
-        return None;
+        return Err(StepFault::OutOfMemory);
     };
-    let Ok((ends, intake, closer)) = open_lanes(alloc, senders, capacity, partitions, MAX_RECORD)
-    else {
-        return None;
+    match open_lanes(alloc, senders, capacity, partitions, MAX_RECORD) {
+        Ok((ends, intake, closer)) => Ok((core, ends, intake, closer)),
+        Err(OpenFault::OutOfMemory) => Err(StepFault::OutOfMemory),
+        Err(_) => Err("no core, or no lanes".into()),
+    }
+}
+
+/// The engine, made of the values that come back where memory is refused.
+fn engine_of<S: Stream>(
+    alloc: Global,
+    core: Core,
+    intake: Intake,
+    stream: S,
+    setting: Setting,
+) -> Result<Engine<S, Ticking>, StepFault>
+    requires { MayTurn core intake }
+{
+    let clock = Ticking::new(setting.step);
+    let keeps = setting.keeps_calls;
+    let made = match Engine::new(alloc, core, intake, stream, clock, keeps) {
+        Ok(engine) => return Ok(engine),
+        Err((core, intake, stream, clock)) => {
+            Engine::new(alloc, core, intake, stream, clock, keeps)
+        }
     };
-    Some((core, ends, intake, closer))
+    made.map_err(|_| StepFault::OutOfMemory)
 }
 
 /// An engine over this stream, with the senders that it serves.
@@ -81,12 +102,7 @@ pub(crate) fn open<S: Stream>(
     stream: S,
 ) -> Result<(Engine<S, Ticking>, Vec<Sender>, Closer), StepFault> {
     let names = names_of(alloc)?;
-    let Some((core, senders, intake, closer)) = ends_of(alloc, setting, names) else {
-        return Err("no core, or no lanes".into());
-    };
-    let clock = Ticking::new(setting.step);
-    match Engine::new(alloc, core, intake, stream, clock, setting.keeps_calls) {
-        Ok(engine) => Ok((engine, senders, closer)),
-        Err(_) => Err(StepFault::OutOfMemory),
-    }
+    let (core, senders, intake, closer) = ends_of(alloc, setting, names)?;
+    let engine = engine_of(alloc, core, intake, stream, setting)?;
+    Ok((engine, senders, closer))
 }

@@ -4,6 +4,7 @@ use crate::clock::Ticking;
 use crate::opening::open;
 use crate::setting::Setting;
 use crate::shared::Shared;
+use crate::tally::Tally;
 use crate::texts::put_told;
 use futures::task::Poll;
 use futures::test::MockTask;
@@ -15,6 +16,7 @@ use kp_engine::{Engine, Stop};
 use kp_lanes::{Closer, Sender, Target};
 use kp_wire::{Blob, Seq};
 use std::alloc::{AllocError, Global};
+use std::io::ErrorKind;
 use std::random::RandomSource;
 
 /// An engine over a stream, with the senders that it serves, and the task in which it is polled.
@@ -24,8 +26,11 @@ pub(crate) struct Scene<S> {
     pub(crate) stream: Shared<S>,
     pub(crate) task: MockTask,
     pub(crate) engine: Engine<Shared<S>, Ticking>,
-    senders: Vec<Sender>,
+    pub(crate) senders: Vec<Sender>,
     pub(crate) closer: Closer,
+    pub(crate) tally: Tally,
+    /// Memory was refused to a poll.
+    pub(crate) is_refused: bool,
 }
 
 /// A keyless record with the timestamp 0.
@@ -38,6 +43,15 @@ fn record_of(alloc: Global, value: &str) -> Result<Record, StepFault> {
     })
 }
 
+/// The task in which an engine is polled.
+fn task_of<R: RandomSource + AllocGlobal>(rt: &R) -> Result<MockTask, StepFault> {
+    match MockTask::new(rt) {
+        Ok(task) => Ok(task),
+        Err(e) if e.kind() == ErrorKind::OutOfMemory => Err(StepFault::OutOfMemory),
+        Err(_) => Err("no task".into()),
+    }
+}
+
 impl<S: Stream> Scene<S> {
     /// A new engine over this stream.
     pub(crate) fn open<R: RandomSource + AllocGlobal>(
@@ -46,7 +60,7 @@ impl<S: Stream> Scene<S> {
         stream: S,
     ) -> Result<Scene<S>, StepFault> {
         let alloc = rt.alloc();
-        let task = MockTask::new(rt).map_err(|_| "no task")?;
+        let task = task_of(rt)?;
         let stream = Shared::new(alloc, stream)?;
         let (engine, senders, closer) = open(alloc, setting, stream.share()?)?;
         Ok(Scene {
@@ -56,6 +70,8 @@ impl<S: Stream> Scene<S> {
             engine,
             senders,
             closer,
+            tally: Tally::new(),
+            is_refused: false,
         })
     }
 
@@ -65,6 +81,26 @@ impl<S: Stream> Scene<S> {
             Poll::Pending => None,
             Poll::Ready(stop) => Some(stop),
         }
+    }
+
+    /// The same. Where memory is refused to it, the engine has stopped for good.
+    pub(crate) fn poll_on(&mut self) -> Result<Option<Stop>, StepFault> {
+        let stop = self.poll();
+        if stop != Some(Stop::OutOfMemory) {
+            return Ok(stop);
+        }
+        self.is_refused = true;
+        self.polls_alike()?;
+        Err(StepFault::Stopped)
+    }
+
+    /// Polls twice more, where the engine has stopped: each answers the same.
+    pub(crate) fn polls_alike(&mut self) -> Result<(), StepFault> {
+        let stop = self.engine.stopped();
+        if stop.is_none() || self.poll() != stop || self.poll() != stop {
+            return Err("it has not stopped for good".into());
+        }
+        Ok(())
     }
 
     /// Goes on over another connection, which is the stream as it is now: whether one was needed.
@@ -90,7 +126,7 @@ impl<S: Stream> Scene<S> {
     ) -> Result<(), StepFault> {
         let record = record_of(self.alloc, value)?;
         match self.sender(sender)?.send(Target::Named(0), record, 0) {
-            Ok(_) => Ok(()),
+            Ok(_) => Ok(self.tally.send()),
             Err((fault, _)) => Ok(write!(came, "{fault:?}")?),
         }
     }
@@ -105,11 +141,11 @@ impl<S: Stream> Scene<S> {
 
     /// Fetches this sender's reports: "0/0/0 Delivered(0); 0/0/1 Delivered(1)".
     pub(crate) fn tell(&mut self, sender: usize, came: &mut String) -> Result<(), StepFault> {
-        let sender = self.sender(sender)?;
         for _ in 0..u32::MAX {
-            let Some(report) = sender.poll_report() else {
+            let Some(report) = self.sender(sender)?.poll_report() else {
                 break;
             };
+            self.tally.report(&report);
             put_told(came, &report)?;
         }
         Ok(())

@@ -47,7 +47,13 @@ impl<S: Stream> Stream for Shared<S> {
 
     fn poll_give(&mut self, cx: &mut Context<'_>, buf: &[u8]) -> Poll<io::Result<usize>> {
         match self.lend() {
-            Ok(mut stream) => stream.poll_give(cx, buf),
+            Ok(mut stream) => match stream.poll_give(cx, buf) {
+                // (what keeps the bytes was refused memory, which a stream has no need of)
+                Poll::Ready(Err(e)) if e.kind() == ErrorKind::OutOfMemory => {
+                    stream.poll_give(cx, buf)
+                }
+                given => given,
+            },
             Err(_) => Poll::Ready(Err(ErrorKind::ResourceBusy.into())),
         }
     }

@@ -7,7 +7,7 @@ ghost use Rattle.kp_lanes.specs.Settling.{IsOf};
 
 use crate::steps::{play_intake, play_sender};
 use kp_cases::{StepFault, Words};
-use kp_lanes::{Closer, Finished, Intake, Sender, open_lanes};
+use kp_lanes::{Closer, Finished, Intake, OpenFault, Sender, SettleFault, Settled, open_lanes};
 use std::alloc::Global;
 use std::fmt::Write;
 use std::str::FromStr;
@@ -20,6 +20,7 @@ pub(crate) struct Lanes {
     now: u64,
     /// Those that have not finished. The last of them is the next to do so.
     senders: Vec<Sender>,
+    /// The others, with room for all.
     finished: Vec<Finished>,
     intake: Intake,
     closer: Closer,
@@ -49,14 +50,18 @@ pub(crate) fn open(
     let partitions = named(words, "partitions")?;
     let max_record = named(words, "record.max")?;
     match open_lanes(alloc, senders, capacity, partitions, max_record) {
-        Ok((senders, intake, closer)) => Ok(Some(Lanes {
-            alloc,
-            now: 0,
-            senders,
-            finished: Vec::new(alloc),
-            intake,
-            closer,
-        })),
+        Ok((senders, intake, closer)) => {
+            let finished = Vec::with_capacity(alloc, senders.len())?;
+            Ok(Some(Lanes {
+                alloc,
+                now: 0,
+                senders,
+                finished,
+                intake,
+                closer,
+            }))
+        }
+        Err(OpenFault::OutOfMemory) => Err(StepFault::OutOfMemory),
         Err(fault) => {
             write!(came, "{fault:?}")?;
             Ok(None)
@@ -109,19 +114,26 @@ impl Lanes {
     }
 
     /// Settles with the senders that have finished, and tells what was left. Where that is refused, all ends come back.
-    pub(crate) fn settle(self, came: &mut String) -> Result<Option<Lanes>, StepFault> {
+    pub(crate) fn settle(self, came: &mut String) -> (Option<Lanes>, Result<(), StepFault>) {
         let mut lanes = self;
         match lanes.intake.settle(lanes.alloc, lanes.finished) {
-            Ok(settled) => {
-                write!(came, "{:?} {:?}", settled.left, settled.reports)?;
-                Ok(None)
-            }
+            Ok(settled) => (None, tell_left(&settled, came)),
             Err((fault, intake, finished)) => {
                 lanes.intake = intake;
                 lanes.finished = finished;
-                write!(came, "{fault:?}")?;
-                Ok(Some(lanes))
+                (Some(lanes), tell_refused(fault, came))
             }
         }
+    }
+}
+
+fn tell_left(settled: &Settled, came: &mut String) -> Result<(), StepFault> {
+    Ok(write!(came, "{:?} {:?}", settled.left, settled.reports)?)
+}
+
+fn tell_refused(fault: SettleFault, came: &mut String) -> Result<(), StepFault> {
+    match fault {
+        SettleFault::OutOfMemory => Err(StepFault::OutOfMemory),
+        fault => Ok(write!(came, "{fault:?}")?),
     }
 }

@@ -19,6 +19,15 @@ struct Scene {
     lanes: Option<Lanes>,
 }
 
+impl Scene {
+    fn settle(&mut self, came: &mut String) -> Result<(), StepFault> {
+        let lanes = self.lanes.take().ok_or("no lanes")?;
+        let (back, told) = lanes.settle(came);
+        self.lanes = back;
+        told
+    }
+}
+
 impl Player for Scene {
     fn begin(&mut self) {
         self.lanes = None;
@@ -32,7 +41,7 @@ impl Player for Scene {
     ) -> Result<(), StepFault> {
         match step {
             "lanes" => self.lanes = open(self.alloc, words, came)?,
-            "settle" => self.lanes = self.lanes.take().ok_or("no lanes")?.settle(came)?,
+            "settle" => self.settle(came)?,
             "fault.numbers" => {
                 let (first, last) = (OpenFault::Senders, OpenFault::OutOfMemory);
                 let (first_number, last_number) = (first.number(), last.number());

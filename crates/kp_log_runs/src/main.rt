@@ -5,7 +5,7 @@
 mod batch;
 
 use crate::batch::{bytes_of, records_of};
-use kp_cases::{Player, StepFault, Words, play_files};
+use kp_cases::{Player, StepFault, Words, play_files, refused, seen_of};
 use kp_log::{ErrorCode, LogFault, PartitionLog, Whim};
 use std::alloc::Global;
 use std::io;
@@ -35,11 +35,14 @@ impl LogPlayer {
         came: &mut String,
     ) -> Result<(), StepFault> {
         let bytes = bytes_of(self.alloc, words)?;
+        let before = seen_of(&self.log);
         let answer = match told {
             None => self.log.offer(&bytes),
             Some(whim) => self.log.offer_then(&bytes, whim),
         };
-        let answer = answer.map_err(out_of_memory)?;
+        let Ok(answer) = answer else {
+            return Err(refused(seen_of(&self.log) == before));
+        };
         write!(came, "{}@{}", answer.code(), answer.base_offset())?;
         Ok(())
     }
@@ -50,7 +53,11 @@ impl LogPlayer {
         if self.log.len().saturating_add(records.len() as u64) > i64::MAX.unsigned_abs() {
             return Err("the log is full".into());
         }
-        self.log.append_other(records).map_err(out_of_memory)
+        let before = seen_of(&self.log);
+        match self.log.append_other(records) {
+            Ok(()) => Ok(()),
+            Err(LogFault::OutOfMemory) => Err(refused(seen_of(&self.log) == before)),
+        }
     }
 
     /// Tells the producer id of the record at this offset, and its number.

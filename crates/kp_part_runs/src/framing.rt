@@ -52,7 +52,7 @@ fn sending_of<'q>(queue: &'q Queue, words: &mut Words<'_>) -> Result<Sending<'q>
     })
 }
 
-fn tell_bytes(bytes: &[u8], came: &mut String) -> Played {
+pub(crate) fn tell_bytes(bytes: &[u8], came: &mut String) -> Played {
     for byte in bytes {
         write!(came, "{byte:02x}")?;
     }

@@ -63,6 +63,7 @@ impl Player for PartPlayer {
             "accum" => self.play_accum(words, came)?,
             "queue" => self.play_queue(words, came)?,
             "taken" => self.tell_taken(came)?,
+            "values" => self.tell_values(came)?,
             "into-items" => self.tell_given(came)?,
             "partition" => self.play_partition(words, came)?,
             "budget" => self.play_budget(words, came)?,

@@ -1,20 +1,26 @@
 //! Batches that wait, in an accumulator or in the queue of one partition alone.
 
+use crate::framing::tell_bytes;
 use crate::given::{flags_of, item_of, number_or_zero};
 use crate::{PartPlayer, Played};
-use kp_accum::{Accum, Config, Item, Pending, Queue};
+use kp_accum::{Accum, AppendFault, Config, Item, Pending, Queue};
 use kp_batch::SIZE_LIMIT;
-use kp_cases::{StepFault, Words};
+use kp_cases::{StepFault, Words, refused, seen_of};
 
 /// Puts the item last. Where it comes back, the fault is told, and the number of what comes back.
 fn append(accum: &mut Accum, item: Item, came: &mut String) -> Played {
     if !accum.may_append(&item) {
         return Err("the item may not be appended".into());
     }
-    if let Err((fault, back)) = accum.append(item) {
-        write!(came, "{fault:?} {}", back.number)?;
+    let before = (seen_of(&*accum), seen_of(&item));
+    match accum.append(item) {
+        Ok(()) => Ok(()),
+        Err((AppendFault::OutOfMemory, back)) => {
+            let is_same = (seen_of(&*accum), seen_of(&back)) == before;
+            Err(refused(is_same && accum.may_append(&back)))
+        }
+        Err((fault, back)) => Ok(write!(came, "{fault:?} {}", back.number)?),
     }
-    Ok(())
 }
 
 fn append_to_queue(queue: &mut Queue, config: &Config, item: Item) -> Played {
@@ -125,6 +131,17 @@ impl PartPlayer {
             batch.begun(),
             batch.is_marked()
         )?;
+        Ok(())
+    }
+
+    /// Tells the values of its items.
+    pub(crate) fn tell_values(&self, came: &mut String) -> Played {
+        let batch = self.taken.as_ref().ok_or("no batch was taken")?;
+        for (k, item) in batch.items().iter().enumerate() {
+            came.push_str(if k == 0 { "" } else { " " })?;
+            let value = item.body.value.as_ref().ok_or("an item without a value")?;
+            tell_bytes(value.as_slice(), came)?;
+        }
         Ok(())
     }
 

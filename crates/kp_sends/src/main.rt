@@ -22,7 +22,8 @@
 //! - `counts`, `used`, `untold`, `due`, `flushed`, `closing` and `ended`.
 //! - `produce`, `serve`, `answer` and `in-turn`, for long runs: see `broker.rt`.
 //!
-//! Where no request goes out, or no reply is heard, the core has to be as it was; else the answer says so.
+//! Where no request goes out, or no reply is heard, the core has to be as it was; else the answer says so. Where memory is
+//! refused to a call, the core and the item that comes back have to be as they were, and the call is made once more.
 #![tactic(auto)]
 
 mod answer;

@@ -4,17 +4,18 @@ use crate::request::content_of;
 use crate::text::{number, split};
 use kp_cases::{StepFault, Words};
 use kp_frames::{
-    InitProducerIdResponse, PartitionProduceResponse, ProduceResponse, Response, ResponseBody,
-    TopicProduceResponse, write_response,
+    FrameFault, InitProducerIdResponse, PartitionProduceResponse, ProduceResponse, Response,
+    ResponseBody, TopicProduceResponse, write_response,
 };
 use kp_wire::{Blob, Seq, Text};
 use std::alloc::Global;
 
 fn content(alloc: Global, response: Response) -> Result<Blob, StepFault> {
-    let Ok(frame) = write_response(alloc, &response) else {
-        return Err(StepFault::CannotBe("a reply that is not written"));
-    };
-    Ok(Blob::from_slice(alloc, content_of(&frame)?)?)
+    match write_response(alloc, &response) {
+        Ok(frame) => Ok(Blob::from_slice(alloc, content_of(&frame)?)?),
+        Err(FrameFault::OutOfMemory) => Err(StepFault::OutOfMemory),
+        Err(_) => Err(StepFault::CannotBe("a reply that is not written")),
+    }
 }
 
 /// What a reply says of a partition: `PARTITION:CODE@OFFSET`.

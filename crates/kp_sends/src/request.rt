@@ -2,10 +2,12 @@
 
 use crate::item::put_record;
 use kp_accum::Config;
-use kp_batch::{Batch, BatchHead, read_batch};
+use kp_batch::{BatchFault, BatchHead, read_batch};
 use kp_cases::StepFault;
 use kp_core::Outgoing;
-use kp_frames::{InitProducerIdRequest, ProduceRequest, Request, RequestBody, read_request};
+use kp_frames::{
+    FrameFault, InitProducerIdRequest, ProduceRequest, Request, RequestBody, read_request,
+};
 use std::alloc::Global;
 
 /// The content of a frame whose size fits.
@@ -18,8 +20,10 @@ pub(crate) fn content_of(frame: &[u8]) -> Result<&[u8], StepFault> {
 
 /// The request that goes out, of the client "kp", under the correlation id with which it is answered.
 fn request_of(alloc: Global, outgoing: &Outgoing) -> Result<Request, StepFault> {
-    let Ok(request) = read_request(alloc, content_of(outgoing.bytes.as_slice())?) else {
-        return Err(StepFault::CannotBe("a frame that is no request"));
+    let request = match read_request(alloc, content_of(outgoing.bytes.as_slice())?) {
+        Ok(request) => request,
+        Err(FrameFault::OutOfMemory) => return Err(StepFault::OutOfMemory),
+        Err(_) => return Err(StepFault::CannotBe("a frame that is no request")),
     };
     if u32::try_from(request.correlation) != Ok(outgoing.correlation) {
         return Err(StepFault::CannotBe("a request of another correlation id"));
@@ -75,8 +79,10 @@ fn put_batches(
 
 /// A batch that no broker has put anywhere.
 fn put_batch(alloc: Global, text: &mut String, bytes: &[u8]) -> Result<(), StepFault> {
-    let Ok(batch) = read_batch(alloc, bytes) else {
-        return Err(StepFault::CannotBe("bytes that are no batch"));
+    let batch = match read_batch(alloc, bytes) {
+        Ok(batch) => batch,
+        Err(BatchFault::OutOfMemory) => return Err(StepFault::OutOfMemory),
+        Err(_) => return Err(StepFault::CannotBe("bytes that are no batch")),
     };
     let BatchHead {
         producer_id,

@@ -1,11 +1,13 @@
 //! A core, and what the steps of a case do with it.
 
-use crate::answer::{does_nothing, put_answer, put_report, put_runs};
+use crate::answer::{
+    does_nothing, is_refused, item_back, item_in, put_answer, put_report, put_runs,
+};
 use crate::broker::Broker;
 use crate::item::{item_of, plain_item};
 use crate::reply::{init_reply_of, reply_of};
 use crate::setting::core_of;
-use kp_cases::{StepFault, Words};
+use kp_cases::{StepFault, Words, refused, seen_of};
 use kp_core::{Answered, Asked, Core, Report};
 use kp_wire::Blob;
 use std::alloc::{AllocError, Global};
@@ -17,8 +19,8 @@ pub(crate) struct Scene {
     alloc: Global,
     core: Core,
     now: u64,
-    /// The core as it was.
-    kept: String,
+    /// The core as it was, by what it showed of itself.
+    kept: u64,
     /// The calls that are to be made from a list.
     listed: Vec<Asked>,
     broker: Broker,
@@ -30,7 +32,7 @@ impl Scene {
             alloc,
             core: core_of(alloc, words)?,
             now: 0,
-            kept: String::new(alloc),
+            kept: 0,
             listed: Vec::new(alloc),
             broker: Broker::new(alloc)?,
         })
@@ -50,18 +52,13 @@ impl Scene {
             "fetch" => self.tell_oldest(words.number()?, came)?,
             "list" => self.list(words)?,
             "make-all" => self.make_all(came)?,
-            "keep" => self.kept = self.state()?,
+            "keep" => self.kept = seen_of(&self.core),
             "produce" => self.broker.produce(&mut self.core, words)?,
             "serve" => self.broker.serve(&mut self.core)?,
             "answer" => self.broker.answer(&mut self.core)?,
             _ => self.call_or_look(step, words, came)?,
         }
         Ok(())
-    }
-
-    /// All that there is to be seen of the core.
-    fn state(&self) -> Result<String, AllocError> {
-        format!(in self.alloc; "{:?}", self.core)
     }
 
     /// The call that a step makes, if it makes one.
@@ -103,13 +100,28 @@ impl Scene {
         {
             return Err(StepFault::CannotBe("an item that may not be appended"));
         }
-        let before = self.state()?;
+        let (core, item) = (seen_of(&self.core), item_in(&asked));
         let answer = self.core.make(asked);
-        put_answer(self.alloc, came, self.core.config(), &answer)?;
-        if does_nothing(&answer) && self.state()?.as_str() != before.as_str() {
+        let is_same = seen_of(&self.core) == core;
+        if is_refused(&answer) {
+            return Err(refused(is_same && item_back(&answer) == item));
+        }
+        self.tell_answer(&answer, came)?;
+        if does_nothing(&answer) && !is_same {
             came.push_str(", and the core has changed")?;
         }
         Ok(())
+    }
+
+    /// Tells what a call has answered, and again where memory was refused to that, since the call was made.
+    fn tell_answer(&self, answer: &Answered, came: &mut String) -> Result<(), StepFault> {
+        match put_answer(self.alloc, came, self.core.config(), answer) {
+            Err(StepFault::OutOfMemory) => {
+                came.clear();
+                put_answer(self.alloc, came, self.core.config(), answer)
+            }
+            told => told,
+        }
     }
 
     /// Sender 0's first items for partition 0, with a value of one letter each, are appended.
@@ -194,7 +206,7 @@ impl Scene {
             "flushed" => write!(came, "{}", core.flushed())?,
             "closing" => write!(came, "{}", core.is_closing())?,
             "ended" => write!(came, "{}", core.has_ended())?,
-            "unchanged" => write!(came, "{}", self.state()?.as_str() == self.kept.as_str())?,
+            "unchanged" => write!(came, "{}", seen_of(&self.core) == self.kept)?,
             _ => self.look_at(step, words, came)?,
         }
         Ok(())

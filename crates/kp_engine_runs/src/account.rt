@@ -1,0 +1,83 @@
+//! What is left of an engine that has stopped.
+
+use crate::scene::Scene;
+use crate::tally::Tally;
+use kp_connection::Stream;
+use kp_core::Core;
+use kp_engine::{Held, Parts};
+use kp_lanes::{Intake, Sender};
+
+/// More than the records of any case that accounts for them.
+const ENOUGH: u32 = 32;
+
+/// Counts the reports of which the sender can be told.
+fn count_told(sender: &mut Sender, tally: &mut Tally) {
+    for _ in 0..ENOUGH {
+        match sender.poll_report() {
+            Some(report) => tally.report(&report),
+            None => return,
+        }
+    }
+}
+
+/// Counts what was held back between the core and the lanes.
+fn count_held(held: &Held, tally: &mut Tally) {
+    for item in &held.items {
+        tally.item(item);
+    }
+    for report in &held.reports {
+        tally.report(report);
+    }
+}
+
+/// Counts the reports that are left in the core.
+fn count_core(core: &mut Core, tally: &mut Tally) {
+    for _ in 0..ENOUGH {
+        if core.senders() == 0 {
+            return;
+        }
+        match core.next_report(0) {
+            Some(report) => tally.report(&report),
+            None => return,
+        }
+    }
+}
+
+/// Counts the items that are left in the sender's lane.
+fn count_lane(intake: &mut Intake, tally: &mut Tally) {
+    for _ in 0..ENOUGH {
+        if intake.senders() == 0 {
+            return;
+        }
+        match intake.take(0) {
+            Some(item) => tally.item(&item),
+            None => return,
+        }
+    }
+}
+
+impl<S: Stream> Scene<S> {
+    /// Ends the engine and takes it apart: whether each record that was sent has one report, which was fetched, or is to be, was
+    /// held back or left in the core, or comes back as an item.
+    pub(crate) fn has_each_once(self) -> bool {
+        let Scene {
+            mut engine,
+            mut senders,
+            mut tally,
+            ..
+        } = self;
+        engine.end();
+        for sender in &mut senders {
+            count_told(sender, &mut tally);
+        }
+        let Parts {
+            mut core,
+            mut intake,
+            held,
+        } = engine.into_parts();
+        count_held(&held, &mut tally);
+        count_core(&mut core, &mut tally);
+        count_lane(&mut intake, &mut tally);
+        tally.has_each_once()
+    }
+}
