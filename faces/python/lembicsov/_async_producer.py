@@ -8,9 +8,11 @@ import socket
 import weakref
 from functools import partial
 from ssl import SSLContext
-from typing import TYPE_CHECKING, Any, Callable, Iterable, cast
+from typing import TYPE_CHECKING, Any, Callable, Iterable, Sequence, TypeVar, cast
 
-from ._core import Core, Many, OnReport, as_bytes, tell_unclosed
+from ._core import Core, OnReport, tell_unclosed
+from ._futures import Many, Single
+from ._given import as_bytes
 from ._library import Action, Status
 from ._values import Bytes, Headers, ProducerError, Record, Report, Settings, Statistics
 
@@ -18,6 +20,8 @@ if TYPE_CHECKING:
     from typing_extensions import Self, Unpack
 
 logger = logging.getLogger("lembicsov")
+
+Sending = TypeVar("Sending")
 
 
 class Connection(asyncio.Protocol):
@@ -87,20 +91,23 @@ class AsyncProducer:
     ) -> asyncio.Future[Report]:
         """Waits only until the record is accepted: the future's result is its report, or its exception a `NotDelivered`."""
         report: asyncio.Future[Report] = self._loop.create_future()
-        await self._accept(partial(self._core.send, Record(value, key, partition, headers, timestamp), report))
+        is_more = key is not None or partition is not None or timestamp is not None or headers
+        record = Single(report, Record(value, key, partition, headers, timestamp) if is_more or type(value) is not bytes else value)
+        if self._waiting > 0 or not self._core.queue.put(record):
+            await self._accept(self._core.send, record)
         return report
 
     async def send_many(
         self, values: Iterable[Bytes], *, partition: int | None = None, timestamp: int | None = None
-    ) -> list[Report]:
-        """Sends values without keys by a few calls, and gives their reports, in order, or raises `SomeNotDelivered`."""
+    ) -> Sequence[Report]:
+        """Sends values without keys by a few calls, and gives the sequence of their reports, or raises `SomeNotDelivered`."""
         many = Many(self._loop.create_future(), values, partition, timestamp)
         while many.at < len(many.values):
             try:
-                await self._accept(partial(self._core.send_next, many))
+                await self._accept(self._core.send_next, many)
             except (ProducerError, MemoryError) as error:
                 many.refuse(error)
-        return cast("list[Report]", await many.future)  # type: ignore[misc]
+        return cast("Sequence[Report]", await many.future)  # type: ignore[misc]
 
     async def flush(self, timeout: float | None = None) -> bool:
         """Sends without lingering what was accepted, and waits until all of it has its report: whether it has."""
@@ -146,27 +153,28 @@ class AsyncProducer:
 
     # ---- what is sent
 
-    async def _accept(self, attempt: Callable[[], int]) -> None:
-        """Attempts to send, behind those that wait, until that is accepted or has been refused for `max_block` seconds."""
+    async def _accept(self, attempt: Callable[[Sending], int], what: Sending) -> None:
+        """Attempts to send it, behind those that wait, until that is accepted or has been refused for `max_block` seconds."""
         self._core.check()
-        if self._waiting == 0 and self._is_accepted(attempt):
+        if self._waiting == 0 and self._is_accepted(attempt, what):
             return
         self._waiting += 1
         try:
-            await asyncio.wait_for(self._accept_in_turn(attempt), self._max_block)
+            await asyncio.wait_for(self._accept_in_turn(attempt, what), self._max_block)
         except asyncio.TimeoutError:
             raise self._refusal from None
         finally:
             self._waiting -= 1
 
-    async def _accept_in_turn(self, attempt: Callable[[], int]) -> None:
+    async def _accept_in_turn(self, attempt: Callable[[Sending], int], what: Sending) -> None:
         async with self._gate:
-            while not self._is_accepted(attempt):
+            while not self._is_accepted(attempt, what):
                 self._changed.clear()
                 await self._changed.wait()
 
-    def _is_accepted(self, attempt: Callable[[], int]) -> bool:
-        status = attempt()
+    def _is_accepted(self, attempt: Callable[[Sending], int], what: Sending) -> bool:
+        self._core.is_attended = self._is_soon
+        status = attempt(what)
         self._soon()
         if status == Status.OK:
             return True
@@ -190,6 +198,7 @@ class AsyncProducer:
         if self._done.is_set():
             return
         try:
+            self._core.hand_over()
             self._core.tick()
             self._act()
             self._core.settle(self._core.fetch())
@@ -219,10 +228,7 @@ class AsyncProducer:
         self._done.set()
         for node in [*self._connections, *self._dials]:
             self._lose(node, "the producer has ended")
-        self._core.end()
-        told = self._core.fetch()
-        self._core.free()
-        self._core.settle(told)
+        self._core.settle(self._core.end())
         self._changed.set()
 
     # ---- connections

@@ -1,176 +1,43 @@
-"""The library's producer, and who awaits the reports of its records. It has no thread, no socket and no lock: its owner has."""
+"""The library's producer, and the futures of its records. It has no thread and no socket, and its owner sees to it that one at a
+time calls."""
 
 from __future__ import annotations
 
-import asyncio
-import concurrent.futures
 import ctypes
 import logging
-import operator
 import os
-import struct
-import threading
 import time
 import weakref
 from array import array
-from typing import Any, Callable, Iterable, List, Optional, Sequence, Tuple, Union, cast
+from functools import partial
+from typing import Any, Callable, Iterable, NamedTuple, Sequence
 
-from ._library import DEFAULTS, Action, Config, Handle, Span, State, Status, Ticket, kp, words_of
-from ._values import ADVICE, NOT_DELIVERED, BufferFull, Bytes, Closed, Forked, Headers, NotDelivered, NotReady, OpenFailed, Outcome
-from ._values import ProducerError, Record, RecordRefused, RecordTooLarge, Report, Settings, SomeNotDelivered, Statistics
+from ._futures import AnyFuture, Many
+from ._given import as_addresses, as_blob, as_config, as_headers, as_partition, as_timestamp
+from ._library import INT32, INT64, UINT64, Action, Handle, State, Status, Ticket, kp, words_of
+from ._open import REPORT, One, Open, Telling
+from ._queue import SIZE, Queue
+from ._values import ADVICE, BufferFull, Closed, Forked, NotReady, OpenFailed, Outcome
+from ._values import ProducerError, Record, RecordRefused, RecordTooLarge, Report, Settings, Statistics
 
 logger = logging.getLogger("lembicsov")
 
-REPORT = struct.Struct("=QqII")  # kp_report: the number, the detail, the partition and the outcome.
 REPORTS = 1024  # How many reports a call fetches.
 PIECE = 1 << 18  # How many bytes a call takes.
 VALUES, VALUES_SIZE = 1024, 1 << 20  # How many values a call sends, and how many bytes of them.
+CHARGE = SIZE + 128  # What a value in the queue takes of buffer_memory, at most.
+ANY = INT32(-1)  # The partition of a record that names none.
 NEVER = 2**64 - 1
 SHORT, LONG = 0.001, 3600.0  # How many seconds to wait where memory was refused, and at most.
-OUTCOMES = tuple(Outcome)
-DELIVERED = Outcome.DELIVERED
-NO_SPANS = (Span * 1)()
 
-AnyFuture = Union["concurrent.futures.Future[Any]", "asyncio.Future[Any]"]
 OnReport = Callable[[Report, Record], object]
 
-# ---- who awaits reports
 
+class Told(NamedTuple):
+    """What is to be told: reports, and flushes that are done with them."""
 
-def fault_of(report: Report) -> type[NotDelivered] | None:
-    return None if report.outcome is DELIVERED else NOT_DELIVERED.get(report.outcome)
-
-
-class Single:
-    """A record, whose report is a future's result."""
-
-    __slots__ = ("_future", "_record")
-
-    def __init__(self, future: AnyFuture, record: Record) -> None:
-        self._future = future
-        self._record = record
-
-    def record(self, number: int) -> Record:
-        return self._record
-
-    def tell(self, number: int, report: Report) -> None:
-        if self._future.done():
-            return  # The task that awaited it was cancelled.
-        fault = fault_of(report)
-        if fault is None:
-            self._future.set_result(report)
-        else:
-            self._future.set_exception(fault(report, self._record))
-
-
-class Many:
-    """Values that are sent together, whose reports are a future's result once all are told."""
-
-    def __init__(self, future: AnyFuture, values: Iterable[Bytes], partition: int | None, timestamp: int | None) -> None:
-        self.future = future
-        self.values = [as_bytes(value) for value in values]
-        self.partition, self.timestamp = as_partition(partition), as_timestamp(timestamp)
-        self.at = 0  # So many were accepted or refused.
-        self._asked = partition, timestamp
-        self._lock = threading.Lock()  # Reports come from one thread, refusals from another.
-        self._untold = len(self.values)
-        self._reports: list[Report | None] = [None] * self._untold
-        self._errors: dict[int, Exception] = {}
-        if self._untold == 0:
-            future.set_result([])
-
-    def record(self, place: int) -> Record:
-        return Record(self.values[place], None, self._asked[0], (), self._asked[1])
-
-    def tell(self, place: int, report: Report) -> None:
-        self._reports[place] = report
-        fault = fault_of(report)
-        self._count(1, {} if fault is None else {place: fault(report, self.record(place))})
-
-    def refuse(self, error: Exception) -> None:
-        """The next value is refused, and so are all behind it, where it is not for its size."""
-        places = range(self.at, self.at + 1 if isinstance(error, RecordTooLarge) else len(self.values))
-        self.at = places.stop
-        self._count(len(places), dict.fromkeys(places, error))
-
-    def _count(self, told: int, errors: dict[int, Exception]) -> None:
-        with self._lock:
-            self._untold -= told
-            self._errors.update(errors)
-            if self._untold > 0 or self.future.done():
-                return
-        if self._errors:
-            self.future.set_exception(SomeNotDelivered(self._reports, dict(sorted(self._errors.items()))))
-        else:
-            self.future.set_result(self._reports)
-
-
-class Part:
-    """Those of many values that one call accepted."""
-
-    __slots__ = ("_many", "_shift")
-
-    def __init__(self, many: Many, shift: int) -> None:
-        self._many = many
-        self._shift = shift  # From a number in the partition to the place among the many.
-
-    def record(self, number: int) -> Record:
-        return self._many.record(number + self._shift)
-
-    def tell(self, number: int, report: Report) -> None:
-        self._many.tell(number + self._shift, report)
-
-
-Owner = Union[Single, Part]
-Told = Tuple[List[Tuple[Owner, int, Report]], List[AnyFuture]]  # Reports, and flushes that are done with them.
-
-# ---- what is given
-
-
-def as_bytes(value: Bytes) -> bytes:
-    return value if isinstance(value, bytes) else bytes(memoryview(value))
-
-
-def as_partition(partition: int | None) -> int:
-    if partition is not None and not 0 <= operator.index(partition) < 2**31:
-        raise RecordRefused(words_of(Status.NO_PARTITION))
-    return -1 if partition is None else partition
-
-
-def as_timestamp(timestamp: int | None) -> int:
-    if timestamp is not None and not 0 <= operator.index(timestamp) < 2**63:
-        raise RecordRefused(words_of(Status.BAD_TIMESTAMP))
-    return time.time_ns() // 1_000_000 if timestamp is None else timestamp
-
-
-def as_spans(headers: Headers) -> tuple[ctypes.Array[Span], bytes]:
-    """The lengths of the names and values, and these one after the other."""
-    spans = (Span * len(headers))()
-    parts: list[bytes] = []
-    for span, (name, value) in zip(spans, headers):
-        parts += name.encode(), b"" if value is None else as_bytes(value)
-        span.name_len, span.value_len, span.has_value = len(parts[-2]), len(parts[-1]), value is not None
-    return spans, b"".join(parts)
-
-
-def as_addresses(bootstrap: str | Iterable[str]) -> bytes:
-    """As the library takes them: Kafka has an IPv6 address in brackets."""
-    text = bootstrap if isinstance(bootstrap, str) else ",".join(bootstrap)
-    return text.translate({ord(mark): None for mark in "[] "}).encode()
-
-
-def as_config(settings: Settings) -> Config:
-    config = Config(**DEFAULTS)
-    for name, value in cast("dict[str, int]", settings).items():
-        if name not in DEFAULTS:
-            raise TypeError(f"a producer has no setting {name}")
-        if not 0 <= operator.index(value) < 2**64:
-            raise ValueError(f"{name} is out of range")
-        setattr(config, name, value)
-    return config
-
-
-# ---- the core
+    reports: list[Telling]
+    flushes: list[AnyFuture]
 
 
 def clock() -> int:
@@ -186,14 +53,19 @@ class Core:
         self.is_forked = False
         self.failure: OpenFailed | None = None
         self.room = bytearray(PIECE)  # For what is taken, and what is read.
+        self.queue = Queue()
+        self.is_attended = False  # Somebody calls `hand_over` soon: what is sent may be queued.
         self._on_report = on_report
         self._is_opening = True
         self._is_short = False  # Memory was refused, and the call is to be made again.
         self._ticked = 0  # When the last tick was.
-        self._turn = 0  # The partition of the next values that name none.
-        self._counts: dict[int, int] = {}  # By partition, how many records were accepted.
-        self._owners: dict[int, dict[int, Owner]] = {}  # By partition and number, in the order of these.
+        self._turn = 0  # The partition of the next of many values that name none.
+        self._next = 0  # One more than that of the last record that named none and had no key; 0 before there is one.
+        self._open = Open()
         self._flushes: list[tuple[dict[int, int], AnyFuture]] = []  # With the counts of when they were asked for.
+        self._behind: list[Callable[[], object]] = []  # What is called once the queue is empty.
+        self._unseen = 0  # How many bytes were accepted since `wait`. With enough of them a batch may be full, and go out at once.
+        self._is_closing = False
         # What the library writes to.
         self._producer, self._action, self._ticket, self._state = Handle(), Action(), Ticket(), State()
         self._size, self._port = ctypes.c_size_t(), ctypes.c_uint16()
@@ -204,7 +76,9 @@ class Core:
         names = topic.encode(), client_id.encode(), as_addresses(bootstrap)
         slices = [argument for name in names for argument in (name, len(name))]
         seed = int.from_bytes(os.urandom(8), "little")
-        status = kp.kp_producer_new(self._handle, as_config(settings), *slices, seed, clock())
+        self._config = as_config(settings)
+        self._enough: int = self._config.batch_size if self._config.linger_ms > 0 else 0
+        status = kp.kp_producer_new(self._handle, self._config, *slices, seed, clock())
         if status != Status.OK:
             raise (MemoryError if status == Status.OUT_OF_MEMORY else ValueError)(words_of(status))
         _cores.add(self)
@@ -214,19 +88,19 @@ class Core:
         if self.is_forked:
             raise Forked("the producer is the parent process's: open one after the fork")
 
-    def free(self) -> None:
-        kp.kp_producer_free(self._handle)
-        self._state = State()
-
     def statistics(self) -> Statistics:
-        state = self._state
-        kp.kp_producer_state(self._handle, state)
+        self.hand_over()
+        state = self._see()
         seen = state.buffer_used, state.requests_in_flight, state.nodes, state.partitions, state.refused
         return Statistics(self.open_records, *seen)
 
     @property
     def open_records(self) -> int:
-        return sum(map(len, list(self._owners.values())))
+        return len(self.queue) + self._open.records
+
+    def _see(self) -> State:
+        kp.kp_producer_state(self._handle, self._state)
+        return self._state
 
     # ---- connections
 
@@ -256,7 +130,7 @@ class Core:
         status = kp.kp_producer_take(self._handle, node, clock(), self._room_at, PIECE, self._size_at)
         if status == Status.OUT_OF_MEMORY:
             self._is_short = True
-        elif status not in (Status.OK, Status.NO_CONNECTION):
+        elif status != Status.OK and status != Status.NO_CONNECTION:
             raise ProducerError(words_of(status))
         return self._taken[: self._size.value]
 
@@ -272,14 +146,20 @@ class Core:
         kp.kp_producer_tick(self._handle, self._ticked)
         if not self._is_opening:
             return False
-        kp.kp_producer_state(self._handle, self._state)
-        self._is_opening = self._state.phase == State.OPENING
-        if self._state.phase == State.FAILED:
-            self.failure = OpenFailed(self._state.refused)
+        state = self._see()
+        self._is_opening = state.phase == State.OPENING
+        if state.phase == State.FAILED:
+            self.failure = OpenFailed(state.refused)
         return not self._is_opening
+
+    @property
+    def may_be_due(self) -> bool:
+        """Whether so much was accepted since `wait` was asked that something may be due before it has told."""
+        return self._unseen >= self._enough
 
     def wait(self) -> float:
         """For how many seconds there is nothing to do, if no connection is ready before."""
+        self._unseen = 0
         if self._is_short:
             self._is_short = False
             return SHORT
@@ -289,44 +169,83 @@ class Core:
 
     # ---- records
 
-    def send(self, record: Record, future: AnyFuture) -> int:
+    def send(self, record: One) -> int:
         """Has a record accepted: the status of that."""
-        value, key, partition, headers, timestamp = record
-        value_bytes, key_bytes = b"" if value is None else as_bytes(value), b"" if key is None else as_bytes(key)
-        spans, text = as_spans(headers) if headers else (NO_SPANS, b"")
-        status: int = kp.kp_producer_send(
-            self._handle, as_partition(partition), key is not None, key_bytes, len(key_bytes), value is not None, value_bytes,
-            len(value_bytes), spans, len(headers), text, len(text), as_timestamp(timestamp), clock(), self._ticket_at,
-        )
-        if status == Status.OK:
-            place, number = self._ticket.partition, self._ticket.number
-            self._counts[place] = number + 1
-            self._owners.setdefault(place, {})[number] = Single(future, record)
+        status = self.hand_over()
+        if status == Status.OK and not self._queues(record):
+            status = self._send(record)
         return status
+
+    def _queues(self, record: One) -> bool:
+        """Begins to queue values with this one, as many as there surely is room for, where that may be: whether it has."""
+        may_queue = self.is_attended and self._next > 0 and not self._is_closing and self._config.max_request_size >= CHARGE
+        if may_queue and isinstance(record.sent, bytes):
+            self.queue.open((self._config.buffer_memory - self._see().buffer_used) // CHARGE)
+        return self.queue.put(record)
+
+    def hand_over(self) -> int:
+        """Has all in the queue accepted: the status of the first that is refused."""
+        queue = self.queue.close()
+        if queue:
+            values: list[Any] = [record.sent for record in queue]
+            status, accepted = self._send_values(values, -1, self.queue.stamp)
+            partitions = self._see().partitions
+            for turn in range(min(partitions, accepted)):
+                self._open.put((self._next + turn) % partitions, queue[turn:accepted:partitions])
+            if accepted > 0:
+                self._next = (self._next + accepted - 1) % partitions + 1
+            del queue[:accepted]
+            if status != Status.OK:
+                self._is_short = self._is_short or status == Status.OUT_OF_MEMORY
+                return status
+        while self._behind:
+            self._behind.pop(0)()
+        return Status.OK
 
     def send_next(self, many: Many) -> int:
         """Has the next of many values accepted, as many as one call takes: the status of the first that is refused.
 
         Where they name no partition all of the call go to one, and those of the next call to the next.
         """
+        status = self.hand_over()
+        if status != Status.OK:
+            return status
         values: Sequence[bytes] = many.values[many.at : many.at + VALUES]
         while len(values) > 1 and sum(map(len, values)) > VALUES_SIZE:
             values = values[: len(values) // 2]
-        text, lengths = b"".join(values), array("Q", map(len, values))
         place = self._turn if many.partition < 0 else many.partition
-        status: int = kp.kp_producer_send_batch(
-            self._handle, place, text, len(text), lengths.buffer_info()[0], len(lengths), many.timestamp, clock(), self._size_at,
-        )
-        accepted = self._size.value
+        status, accepted = self._send_values(values, place, many.timestamp)
         if accepted > 0:
-            first = self._counts.get(place, 0)
-            part = Part(many, many.at - first)
-            self._counts[place] = first + accepted
-            self._owners.setdefault(place, {}).update(dict.fromkeys(range(first, first + accepted), part))
+            self._open.put_part(place, many, accepted)
             many.at += accepted
         if status == Status.OK and many.partition < 0:
-            self._turn = (place + 1) % self.statistics().partitions
+            self._turn = (place + 1) % self._see().partitions
         return status
+
+    def _send(self, record: One) -> int:
+        sent = record.sent
+        value, key, partition, headers, timestamp = sent if isinstance(sent, Record) else (sent, None, None, (), None)
+        key_blob, value_blob, asked = as_blob(key), as_blob(value), ANY if partition is None else INT32(as_partition(partition))
+        status: int = kp.kp_producer_send(
+            self._handle, asked, *key_blob, *value_blob, *as_headers(headers), INT64(as_timestamp(timestamp)), UINT64(clock()),
+            self._ticket_at,
+        )
+        if status == Status.OK:
+            self._unseen += len(key_blob[1]) + len(value_blob[1])
+            place = self._ticket.partition
+            self._open.put(place, [record])
+            if key is None and partition is None:
+                self._next = place + 1
+        return status
+
+    def _send_values(self, values: Sequence[bytes], place: int, stamp: int) -> tuple[int, int]:
+        """Has values accepted: the status of the first that is refused, and how many were before it."""
+        text, lengths = b"".join(values), array("Q", map(len, values))
+        self._unseen += len(text)
+        status = kp.kp_producer_send_batch(
+            self._handle, place, text, len(text), lengths.buffer_info()[0], len(lengths), stamp, clock(), self._size_at,
+        )
+        return status, self._size.value
 
     def refusal(self, status: int) -> tuple[Exception, bool]:
         """What a send is told that is refused, and whether it may be accepted in a while."""
@@ -344,51 +263,58 @@ class Core:
 
     def flush(self, future: AnyFuture) -> None:
         """What was accepted goes out without lingering. The future is done once all of it is told."""
+        self._behind.append(partial(self._flush, future))
+        self.hand_over()
+
+    def _flush(self, future: AnyFuture) -> None:
         kp.kp_producer_flush(self._handle)
-        self._flushes.append((dict(self._counts), future))
+        self._flushes.append((self._open.counts(), future))
 
     def close(self) -> None:
         """No record is accepted any more, and all that were go out."""
-        kp.kp_producer_close(self._handle)
+        self._is_closing = True
+        self._behind.append(partial(kp.kp_producer_close, self._handle))
+        self.hand_over()
 
-    def end(self) -> None:
-        """Gives up what is left: each record that is open has its report then."""
+    def end(self) -> Told:
+        """Gives up what is left, so that each record that is open has its report, and frees the producer."""
+        self._is_closing = True
+        left: list[Telling] = []
+        if self.hand_over() != Status.OK:  # Memory was refused.
+            queue, self.queue, partitions = self.queue.close(), Queue(), self._see().partitions
+            for turn, record in enumerate(queue, self._next):
+                left.append((record, 0, Report(turn % partitions, None, Outcome.ENDED, ADVICE[Outcome.ENDED])))
+            self.hand_over()
         kp.kp_producer_end(self._handle)
+        told = self.fetch()
+        told.reports.extend(left)
+        kp.kp_producer_free(self._handle)
+        self._state = State()
+        return told
 
     # ---- reports
 
     def fetch(self) -> Told:
         """What has come to be told, by `settle`, once the core's owner holds no lock."""
-        reports: list[tuple[Owner, int, Report]] = []
+        telling: list[Telling] = []
         count = REPORTS
         while count == REPORTS:
             count = kp.kp_producer_reports(self._handle, self._reports_at, REPORTS)
-            for number, detail, place, code in REPORT.iter_unpack(self._reports[: REPORT.size * count]):
-                outcome = OUTCOMES[code]
-                if outcome is DELIVERED:
-                    report = Report(place, detail, outcome, "")
-                else:
-                    report = Report(place, None, outcome, ADVICE[outcome], detail)
-                reports.append((self._owners[place].pop(number), number, report))
-        done = [future for marks, future in self._flushes if self._is_past(marks)]
+            telling += self._open.take(self._reports[: REPORT.size * count], keeps=self._on_report is None)
+        done = [future for counts, future in self._flushes if self._open.is_past(counts)]
         if done:
             self._flushes = [flush for flush in self._flushes if flush[1] not in done]
-        return reports, done
-
-    def _is_past(self, marks: dict[int, int]) -> bool:
-        """Whether no record is open that was accepted before these counts."""
-        return all(next(iter(owners)) >= marks.get(place, 0) for place, owners in self._owners.items() if owners)
+        return Told(telling, done)
 
     def settle(self, told: Told) -> None:
-        reports, done = told
-        for owner, number, report in reports:
+        for owner, number, report in told.reports:
             if self._on_report is not None:
                 try:
                     self._on_report(report, owner.record(number))
                 except Exception:
                     logger.exception("on_report failed")
             owner.tell(number, report)
-        for future in done:
+        for future in told.flushes:
             if not future.done():
                 future.set_result(None)
 
@@ -398,7 +324,7 @@ _cores: weakref.WeakSet[Core] = weakref.WeakSet()
 
 def _tell_forked() -> None:
     for core in _cores:
-        core.is_forked = True
+        core.is_forked, core.queue = True, Queue()
 
 
 os.register_at_fork(after_in_child=_tell_forked)

@@ -2,7 +2,6 @@
 
 from __future__ import annotations
 
-import concurrent.futures
 import errno
 import logging
 import selectors
@@ -10,9 +9,10 @@ import socket
 import threading
 import time
 from ssl import SSLContext, SSLSocket, SSLWantReadError, SSLWantWriteError
-from typing import Any, Callable
+from typing import Any, Callable, TypeVar
 
-from ._core import SHORT, Core, tell_unclosed
+from ._core import SHORT, Core, Told, tell_unclosed
+from ._futures import Pending
 from ._library import Action, Status
 from ._values import Statistics
 
@@ -20,14 +20,9 @@ logger = logging.getLogger("lembicsov")
 
 READ, WRITE = selectors.EVENT_READ, selectors.EVENT_WRITE
 WAITS = BlockingIOError, InterruptedError, SSLWantReadError, SSLWantWriteError
+Sending = TypeVar("Sending")
+MOMENT = 0.001  # For how many seconds the thread leaves what is not urgent.
 NAP = 1.0  # How many seconds the thread sleeps at most: nearly nothing is due before it wakes by itself.
-
-
-class Pending(concurrent.futures.Future):  # type: ignore[type-arg]
-    """What comes of what was accepted, which nobody can call back."""
-
-    def cancel(self) -> bool:
-        return False
 
 
 class Connection:
@@ -69,11 +64,11 @@ class Host:
 
     # ---- for other threads
 
-    def accept(self, attempt: Callable[[], int], max_block: float) -> None:
-        """Attempts to send until that is accepted, or has been refused for so many seconds."""
+    def accept(self, attempt: Callable[[Sending], int], what: Sending, max_block: float) -> None:
+        """Attempts to send it until that is accepted, or has been refused for so many seconds."""
         until = 0.0
         with self._lock:
-            while (status := attempt()) != Status.OK:
+            while (status := attempt(what)) != Status.OK:
                 error, may_wait = self.core.refusal(status)
                 self._wake()
                 now = time.monotonic()
@@ -81,16 +76,17 @@ class Host:
                 if not may_wait or now >= until or threading.current_thread() is self.thread:
                     raise error
                 self._changed.wait(SHORT if status == Status.OUT_OF_MEMORY else until - now)
-            self._send_off()
+            if self._is_asleep:
+                self._send_off()
 
     def flush(self) -> Pending:
         flushed = Pending()
         with self._lock:
-            if self._has_ended:
-                flushed.set_result(None)
-            else:
+            if not self._has_ended:
                 self.core.flush(flushed)
                 self._wake()
+                return flushed
+        flushed.set_result(None)
         return flushed
 
     def statistics(self) -> Statistics:
@@ -123,19 +119,22 @@ class Host:
 
     def _wake(self) -> None:
         if self._is_asleep:
-            self._is_asleep = False
+            self._is_asleep, self.core.is_attended = False, True
             self._waker.send(b"\0")
 
     def _send_off(self) -> None:
         """What was accepted goes out. The first since the thread fell asleep does so without waking it, which is faster."""
-        if self._is_asleep and not self._is_helped:
-            self._is_helped = True
-            try:
+        is_first, self._is_helped = not self._is_helped, True
+        try:
+            if is_first:
                 self._write_all()
-                if time.monotonic() + self._wait() >= self._until:
-                    return
-            except Exception:
-                pass  # The thread meets it too, and tells it.
+            elif not self.core.may_be_due:
+                return
+            sleep = self._until - time.monotonic()
+            if (is_first and sleep <= MOMENT) or sleep <= self._wait():
+                return  # It wakes in time.
+        except Exception:
+            pass  # The thread meets it too, and tells it.
         self._wake()
 
     def _look_up(self, connection: Connection) -> None:
@@ -158,9 +157,7 @@ class Host:
         with self._lock:
             for connection in list(self._connections.values()):
                 self._lose(connection, "the producer has ended")
-            self.core.end()
-            told = self.core.fetch()
-            self.core.free()
+            told = self.core.end()
             self._has_ended, self._is_asleep = True, False
             self._changed.notify_all()
         self.core.settle(told)
@@ -173,21 +170,40 @@ class Host:
         has_ended = False
         while not has_ended:
             with self._lock:
-                self._is_asleep = self._is_helped = False
-                for key, events in ready:
-                    self._hear(key.data, events)
-                has_changed = self.core.tick()
-                self._act()
-                told = self.core.fetch()
-                if has_changed or told[0]:
-                    self._changed.notify_all()
-                is_done = self._is_closing and self.core.open_records == 0
-                has_ended = self._is_ending or is_done or self.core.failure is not None
-                self._until = time.monotonic() + self._wait()
-                self._is_asleep = not has_ended
+                told = self._come_by(ready)
+                has_ended = not self._is_asleep
             self.core.settle(told)
             if not has_ended:
                 ready = self._selector.select(max(0.0, self._until - time.monotonic()))
+
+    def _come_by(self, ready: list[tuple[selectors.SelectorKey, int]]) -> Told:
+        """Does all that there is to do now, and is asleep where more may come."""
+        self._is_asleep = self._is_helped = self.core.is_attended = False
+        self.core.hand_over()
+        for key, events in ready:
+            self._hear(key.data, events)
+        told, now = self._fetch(), time.monotonic()
+        if told.reports and self.core.open_records == 0 and now < self._until and not self._is_closing:
+            # All is told, and whoever waits for that goes on at once. What else there may be to do is done in a moment.
+            self._until = min(self._until, now + MOMENT)
+            self._is_asleep = True
+            return told
+        if self.core.tick():
+            self._changed.notify_all()
+        self._act()
+        more = self._fetch()
+        is_done = self._is_closing and self.core.open_records == 0
+        has_ended = self._is_ending or is_done or self.core.failure is not None
+        self._until = time.monotonic() + self._wait()
+        self._is_asleep = not has_ended
+        return Told(told.reports + more.reports, told.flushes + more.flushes)
+
+    def _fetch(self) -> Told:
+        before = self.core.open_records
+        told = self.core.fetch()
+        if self.core.open_records < before:
+            self._changed.notify_all()  # There may be room.
+        return told
 
     def _act(self) -> None:
         """Connects and closes as the library asks, and writes what it gives."""
@@ -209,14 +225,16 @@ class Host:
 
     def _write_all(self) -> None:
         for connection in list(self._connections.values()):
-            if connection.is_open:
-                self._guard(self._write, connection)
+            if connection.is_open and (out := connection.out or self.core.take(connection.node)):
+                self._guard(self._write, connection, out)
 
     def _wait(self) -> float:
         """For how many seconds there is nothing to do, if no socket is ready before."""
-        until = min((it.until for it in self._connections.values() if not it.is_open), default=None)
         wait = min(self.core.wait(), NAP)
-        return wait if until is None else min(wait, max(0.0, until - time.monotonic()))
+        for connection in self._connections.values():
+            if not connection.is_open:
+                wait = min(wait, max(0.0, connection.until - time.monotonic()))
+        return wait
 
     def _hear(self, connection: Connection | None, events: int) -> None:
         """A socket is ready."""
@@ -234,9 +252,9 @@ class Host:
     def _is_current(self, connection: Connection) -> bool:
         return self._connections.get(connection.node) is connection
 
-    def _guard(self, act: Callable[[Connection], None], connection: Connection) -> None:
+    def _guard(self, act: Callable[..., None], connection: Connection, *words: object) -> None:
         try:
-            act(connection)
+            act(connection, *words)
         except (OSError, ValueError) as error:
             self._lose(connection, error)
 
@@ -330,15 +348,15 @@ class Host:
                 raise ConnectionError("the broker has ended it")
             self.core.feed(connection.node, None, size)
 
-    def _write(self, connection: Connection) -> None:
+    def _write(self, connection: Connection, out: bytes | memoryview) -> None:
         end = connection.socket
         assert end is not None
-        while out := connection.out or self.core.take(connection.node):
+        sent = 1
+        while out and sent > 0:
             try:
                 sent = end.send(out)
             except WAITS:
                 sent = 0
             connection.out = bytes(out[sent:])
-            if sent == 0:
-                break
+            out = connection.out or self.core.take(connection.node)
         self._await(connection, READ | WRITE if connection.out else READ)

@@ -70,8 +70,12 @@ BYTES = c_char_p, c_size_t
 ROOM = c_void_p, c_size_t  # What ctypes made, `bytes`, or an address.
 NOW = c_uint64
 
+# What ctypes makes of an argument. A call is faster that is given these, of which those that stay the same are made once for all.
+INT32, SIZE, INT64, UINT64 = (kind.from_param for kind in (c_int32, c_size_t, c_int64, c_uint64))
+FALSE, TRUE = c_bool.from_param(False), c_bool.from_param(True)
+
 # By call its result and its arguments.
-CALLS: dict[str, tuple[Any, list[Any]]] = {
+CALLS: dict[str, tuple[Any, list[Any] | None]] = {
     "kp_producer_new": (c_int32, [HANDLE, POINTER(Config), *BYTES, *BYTES, *BYTES, c_uint64, NOW]),
     "kp_producer_free": (None, [HANDLE]),
     "kp_producer_state": (c_int32, [HANDLE, POINTER(State)]),
@@ -83,10 +87,7 @@ CALLS: dict[str, tuple[Any, list[Any]]] = {
     "kp_producer_feed": (c_int32, [HANDLE, c_uint32, *ROOM, NOW]),
     "kp_producer_tick": (c_int32, [HANDLE, NOW]),
     "kp_producer_next_due": (c_uint64, [HANDLE, NOW]),
-    "kp_producer_send": (
-        c_int32,
-        [HANDLE, c_int32, c_bool, *BYTES, c_bool, *BYTES, *ROOM, *BYTES, c_int64, NOW, POINTER(Ticket)],
-    ),
+    "kp_producer_send": (c_int32, None),  # It is given what the functions above make.
     "kp_producer_send_batch": (c_int32, [HANDLE, c_int32, *BYTES, *ROOM, c_int64, NOW, POINTER(c_size_t)]),
     "kp_producer_reports": (c_size_t, [HANDLE, *ROOM]),
     "kp_producer_flush": (c_int32, [HANDLE]),

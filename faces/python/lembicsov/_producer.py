@@ -5,12 +5,12 @@ from __future__ import annotations
 import concurrent.futures
 import threading
 import weakref
-from functools import partial
 from ssl import SSLContext
-from typing import TYPE_CHECKING, Iterable
+from typing import TYPE_CHECKING, Iterable, Sequence
 
-from ._core import Core, Many, OnReport
-from ._host import Host, Pending
+from ._core import Core, OnReport
+from ._futures import Many, Pending
+from ._host import Host
 from ._values import Bytes, Headers, ProducerError, Record, Report, Settings, Statistics
 
 if TYPE_CHECKING:
@@ -44,21 +44,23 @@ class Producer:
         Without a partition it goes to that of its key, and without a key to each in turn. The timestamp is in milliseconds since
         1970, or now. A record that is not accepted, after `max_block` seconds at most, is told by an exception at once.
         """
-        self._core.check()
-        report = Pending()
-        self._host.accept(partial(self._core.send, Record(value, key, partition, headers, timestamp), report), self._max_block)
+        is_more = key is not None or partition is not None or timestamp is not None or headers
+        report = Pending(Record(value, key, partition, headers, timestamp) if is_more or type(value) is not bytes else value)
+        if not self._core.queue.put(report):
+            self._core.check()
+            self._host.accept(self._core.send, report, self._max_block)
         return report
 
     def send_many(
         self, values: Iterable[Bytes], *, partition: int | None = None, timestamp: int | None = None
-    ) -> concurrent.futures.Future[list[Report]]:
-        """Sends values without keys by a few calls: the future's result has their reports, in order, or its exception is
+    ) -> concurrent.futures.Future[Sequence[Report]]:
+        """Sends values without keys by a few calls: the future's result is the sequence of their reports, or its exception
         `SomeNotDelivered`, also where not all are accepted. Without a partition some go to one, and others to the next."""
         self._core.check()
         many = Many(Pending(), values, partition, timestamp)
         while many.at < len(many.values):
             try:
-                self._host.accept(partial(self._core.send_next, many), self._max_block)
+                self._host.accept(self._core.send_next, many, self._max_block)
             except (ProducerError, MemoryError) as error:
                 many.refuse(error)
         return many.future  # type: ignore[return-value]

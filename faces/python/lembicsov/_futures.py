@@ -1,0 +1,261 @@
+"""Who awaits the reports of records: futures, of one record each or of many."""
+
+from __future__ import annotations
+
+import asyncio
+import os
+import threading
+from bisect import bisect
+from concurrent.futures import Future
+from concurrent.futures._base import FINISHED, PENDING
+from typing import Any, Iterable, Iterator, Sequence, Tuple, Union, overload
+
+from ._given import as_bytes, as_partition, as_timestamp
+from ._values import NOT_DELIVERED, Bytes, Headers, NotDelivered, Outcome, Record, RecordTooLarge, Report, SomeNotDelivered
+
+Sent = Union[bytes, Record]  # A value alone, or a record that is more than that.
+# Reports of values one after the other, to one partition and with offsets that go up by one: the first place, how many, the first.
+Run = Tuple[int, int, Report]
+AnyFuture = Union["Future[Any]", "asyncio.Future[Any]"]
+
+DELIVERED = Outcome.DELIVERED
+ALONE, WATCHED = -1, -2  # In place of a partition: no report was kept, and nobody has begun to wait for it, or somebody has.
+
+# Who keeps reports has it, and so has whoever begins to wait for a future, and who refuses some of many values.
+keeping = threading.RLock()
+os.register_at_fork(before=keeping.acquire, after_in_parent=keeping.release, after_in_child=keeping.release)
+
+
+def fault_of(report: Report) -> type[NotDelivered] | None:
+    return None if report.outcome is DELIVERED else NOT_DELIVERED.get(report.outcome)
+
+
+def delivered(partition: int, offset: int) -> Report:
+    return tuple.__new__(Report, (partition, offset, DELIVERED, "", 0))  # In half the time of its own way.
+
+
+def behind(first: Report, k: int) -> Report:
+    """The report that is so many behind the first of a run, with k above 0."""
+    return delivered(first.partition, (first.offset or 0) + k)
+
+
+def record_of(sent: Sent) -> Record:
+    return sent if isinstance(sent, Record) else Record(sent)
+
+
+def tell(future: AnyFuture, report: Report, sent: Sent) -> None:
+    """Has the future of a record done."""
+    if future.done():
+        return  # The task that awaited it was cancelled.
+    fault = fault_of(report)
+    if fault is None:
+        future.set_result(report)
+    else:
+        future.set_exception(fault(report, record_of(sent)))
+
+
+class Watched:
+    """An attribute of a future that is made, with the others of this kind, once it is looked at."""
+
+    def __set_name__(self, kind: type, name: str) -> None:
+        self._name = name
+
+    def __get__(self, future: Pending | None, kind: type) -> Any:
+        if future is None:
+            return self
+        future.watch()
+        return future.__dict__[self._name]
+
+
+class Pending(Future):  # type: ignore[type-arg]
+    """What comes of what was accepted, which nobody can call back; of a record that is its report.
+
+    Most are done before anybody waits for them. So what it takes to wait is made only where somebody begins to, under `keeping`.
+    Before that a report is kept by assignments alone, and is made from them where it is asked for.
+    """
+
+    _exception: BaseException | None = None
+    _given: Any = None  # The result, where no report was kept.
+    _condition: Any = Watched()
+    _waiters: Any = Watched()
+    _done_callbacks: Any = Watched()
+
+    def __init__(self, sent: Sent = b"") -> None:
+        self.sent = sent  # Until it is told.
+        self._state: str = PENDING
+        self._partition = ALONE  # That of a report that was kept, with its offset.
+
+    def watch(self) -> None:
+        with keeping:
+            if "_condition" not in self.__dict__:
+                self._condition, self._waiters, self._done_callbacks = threading.Condition(), [], []
+                if self._partition == ALONE:
+                    self._partition = WATCHED
+
+    @property
+    def _result(self) -> Any:
+        return self._given if self._partition < 0 else delivered(self._partition, self._offset)
+
+    @_result.setter
+    def _result(self, result: Any) -> None:
+        self._given = result
+
+    def cancel(self) -> bool:
+        return False
+
+    def done(self) -> bool:
+        return self._state == FINISHED
+
+    def result(self, timeout: float | None = None) -> Any:
+        return super().result(timeout) if self._partition < 0 else delivered(self._partition, self._offset)
+
+    def exception(self, timeout: float | None = None) -> BaseException | None:
+        return self._exception if self._state == FINISHED else super().exception(timeout)
+
+    # ---- as the owner of a record
+
+    def record(self, number: int) -> Record:
+        return record_of(self.sent)
+
+    def keep(self, number: int, partition: int, offset: int) -> bool:
+        """Has the report of a record that was delivered, where nobody is to be told: whether it has. The caller has `keeping`."""
+        if self._partition == WATCHED:
+            return False
+        self.sent = b""
+        self._offset = offset
+        self._state = FINISHED
+        self._partition = partition
+        return True
+
+    def tell(self, number: int, report: Report) -> None:
+        sent, self.sent = self.sent, b""
+        tell(self, report, sent)
+
+
+class Single:
+    """A record, whose report is the result of a future of asyncio."""
+
+    __slots__ = ("_future", "sent")
+
+    def __init__(self, future: asyncio.Future[Report], sent: Sent) -> None:
+        self._future = future
+        self.sent = sent
+
+    def record(self, number: int) -> Record:
+        return record_of(self.sent)
+
+    def keep(self, number: int, partition: int, offset: int) -> bool:
+        return False
+
+    def tell(self, number: int, report: Report) -> None:
+        tell(self._future, report, self.sent)
+
+
+class Reports(Sequence[Report]):
+    """Reports in order, each of which is made when it is looked at, so that a million of them take hardly any memory."""
+
+    def __init__(self, runs: list[Run]) -> None:
+        self._runs = sorted(runs)
+        self._places = [run[0] for run in self._runs]
+
+    def __len__(self) -> int:
+        return sum(self._runs[-1][:2]) if self._runs else 0
+
+    @overload
+    def __getitem__(self, place: int) -> Report: ...
+
+    @overload
+    def __getitem__(self, place: slice) -> list[Report]: ...
+
+    def __getitem__(self, place: int | slice) -> Report | list[Report]:
+        places = range(len(self))[place]
+        if isinstance(places, range):
+            return [self[it] for it in places]
+        at, _, first = self._runs[bisect(self._places, places) - 1]
+        return behind(first, places - at) if places > at else first
+
+    def __iter__(self) -> Iterator[Report]:
+        for _, count, first in self._runs:
+            yield first
+            for k in range(1, count):
+                yield behind(first, k)
+
+    def __eq__(self, other: object) -> bool:
+        return isinstance(other, Sequence) and list(self) == list(other)
+
+    def __repr__(self) -> str:
+        return repr(list(self))
+
+
+class Many:
+    """Values that are sent together, whose reports are a future's result once all are told."""
+
+    def __init__(self, future: AnyFuture, values: Iterable[Bytes], partition: int | None, timestamp: int | None) -> None:
+        self.future = future
+        self.values = [value if type(value) is bytes else as_bytes(value) for value in values]
+        self.partition, self.timestamp = as_partition(partition), as_timestamp(timestamp)
+        self.at = 0  # So many were accepted or refused.
+        self._asked = partition, timestamp
+        self._untold = len(self.values)
+        self._runs: list[Run] = []  # The reports that have come.
+        self._errors: dict[int, Exception] = {}  # By place.
+        if self._untold == 0:
+            future.set_result(Reports([]))
+
+    def record(self, place: int) -> Record:
+        return Record(self.values[place], None, self._asked[0], (), self._asked[1])
+
+    def keep(self, place: int, count: int, first: Report) -> int:
+        """Has the reports of so many values one after the other, but not the last report of all: how many. The caller has
+        `keeping`."""
+        kept = min(count, self._untold - 1)
+        if kept > 0:
+            self._untold -= kept
+            self._runs.append((place, kept, first))
+        return kept
+
+    def tell(self, place: int, report: Report) -> None:
+        fault = fault_of(report)
+        self._count(1, {} if fault is None else {place: fault(report, self.record(place))}, [(place, 1, report)])
+
+    def refuse(self, error: Exception) -> None:
+        """The next value is refused, and so are all behind it, where it is not for its size."""
+        places = range(self.at, self.at + 1 if isinstance(error, RecordTooLarge) else len(self.values))
+        self.at = places.stop
+        self._count(len(places), dict.fromkeys(places, error), [])
+
+    def _count(self, told: int, errors: dict[int, Exception], runs: list[Run]) -> None:
+        with keeping:
+            self._untold -= told
+            self._errors.update(errors)
+            self._runs += runs
+            if self._untold > 0 or self.future.done():
+                return
+        if not self._errors:
+            return self.future.set_result(Reports(self._runs))
+        reports: list[Report | None] = [None] * len(self.values)
+        for at, count, first in self._runs:
+            reports[at : at + count] = [first, *(behind(first, k) for k in range(1, count))]
+        self.future.set_exception(SomeNotDelivered(reports, dict(sorted(self._errors.items()))))
+
+
+class Part:
+    """Those of many values that one call accepted, for a partition."""
+
+    def __init__(self, many: Many, first: int, count: int) -> None:
+        self.numbers = range(first, first + count)
+        self.untold = count
+        self._many = many
+        self._shift = many.at - first  # From a number to the place among the many.
+
+    def record(self, number: int) -> Record:
+        return self._many.record(number + self._shift)
+
+    def keep(self, number: int, partition: int, offset: int) -> bool:
+        return self.keep_run(number, partition, offset, 1) == 1
+
+    def keep_run(self, number: int, partition: int, offset: int, count: int) -> int:
+        return self._many.keep(number + self._shift, count, delivered(partition, offset))
+
+    def tell(self, number: int, report: Report) -> None:
+        self._many.tell(number + self._shift, report)
