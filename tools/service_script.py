@@ -51,12 +51,17 @@ class Told:
 
 @dataclass
 class Report:
-    """What a sender was told of a record, and how many milliseconds after its send."""
+    """What a sender was told of a record, and when that record's send began and the report was heard, in milliseconds."""
 
     sender: int
     number: int
     outcome: str
-    millis: float
+    sent: float
+    heard: float
+
+    @property
+    def millis(self):
+        return self.heard - self.sent
 
 
 @dataclass
@@ -84,7 +89,7 @@ class Played:
                 begun[it.sender, int(sent[1])] = it.began
             if it.what == "heard" and heard:
                 sender, number = int(heard[1]), int(heard[2])
-                reports.append(Report(sender, number, heard[3], it.ended - begun[sender, number]))
+                reports.append(Report(sender, number, heard[3], begun[sender, number], it.ended))
         return reports
 
 
