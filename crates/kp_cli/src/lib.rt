@@ -13,4 +13,3 @@ mod running;
 mod streams;
 
 pub use program::{DONE, FAULT, USAGE, kprod_with, refuse_words};
-pub use running::run_with;

@@ -12,12 +12,12 @@ ghost use Rattle.kp_cli.specs.Runs.{Looks, LooksFirst, PrintsLines, PrintsRun};
 use crate::command_line::{Command, command_of};
 use crate::fault::{Fault, memory_or, put_fault};
 use crate::run_words::Wanted;
-use crate::running::run_with;
+use crate::running::run;
 use crate::streams::{read_file, write_whole};
 use clap::Error;
 use clap::error::ErrorKind;
 use kp_offline::{pack, replay_text, slices_of};
-use kp_run::{Checked, Open};
+use kp_run::Checked;
 use std::convert::AsStr;
 use std::io::{self, Read, Write};
 use std::net::{Net, TcpListener, TcpStream};
@@ -125,7 +125,7 @@ where
     ensures { OnOk result (PrintsLines checked.now bytes.now (O.contents out.old) (O.contents out.new)) }
 {
     let lines = slices_of(rt.alloc(), bytes)?;
-    run_with(rt, checked, lines.as_slice(), &Open, out, err)
+    run(rt, checked, lines.as_slice(), out, err)
 }
 
 /// Sends a file's lines.

@@ -11,7 +11,7 @@ use crate::streams::write_whole;
 use kp_broker::Broker;
 use kp_core::Core;
 use kp_log::LogFault;
-use kp_run::{Came, Cause, Checked, Gate, run_lines};
+use kp_run::{Came, Cause, Checked, run_lines};
 use kp_text::{put_audit, put_own, put_reports, put_totals};
 use std::alloc::{AllocError, AllocGlobal, Global};
 use std::io::Write;
@@ -187,21 +187,19 @@ fn tell_given_up<E: Write>(err: &mut E, came: &Came) {
 
 /// Sends the lines, and prints what became of them; on `err` that the run was given up, where it was. What came of the run is
 /// left in memory: the program ends behind it, and to free the logs record by record would take as long as a tenth of the run.
-pub fn run_with<'a, R, G, O: Write, E: Write>(
+pub(crate) fn run<'a, R, O: Write, E: Write>(
     rt: &R,
     checked: &Checked<'_>,
     lines: &[&[u8]],
-    gate: &G,
     out: &mut O,
     err: &mut E,
 ) -> Result<(), Fault<'a>>
 where
     R: Wait + Threads + Clock + RandomSource + AllocGlobal + Sync,
     R: Net<Listener = TcpListener, Stream = TcpStream>,
-    G: Gate + Sync,
     ensures { OnOk result (Prints checked.now lines.now (O.contents out.old) (O.contents out.new)) }
 {
-    let came = run_lines(rt, checked, lines, gate)?;
+    let came = run_lines(rt, checked, lines)?;
     let options = checked.options();
     tell_given_up(err, &came);
     let printed = print_run(rt.alloc(), &came, options.totals, out);

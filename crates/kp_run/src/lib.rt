@@ -5,7 +5,6 @@
 mod broker_thread;
 mod dealing;
 mod fault;
-mod gate;
 mod gathering;
 mod options;
 mod place;
@@ -16,7 +15,6 @@ mod stamps;
 mod topic;
 
 pub use fault::RunFault;
-pub use gate::{Gate, Open};
 pub use options::{Checked, Options, PARTITION_LIMIT, Place, SENDER_LIMIT};
 pub use running::{Came, run_lines};
 

@@ -14,7 +14,6 @@ ghost use Rattle.kp_run.specs.Theirs.{AreOfService};
 ghost use Rattle.kp_run.specs.Settings.{largest};
 
 use crate::fault::RunFault;
-use crate::gate::Gate;
 use crate::gathering::{Produced, gather};
 use crate::sender_thread::{Job, Task};
 use crate::stamps::Stamps;
@@ -50,32 +49,29 @@ fn push<T: Drop>(all: &mut Vec<T>, x: T) -> Result<(), AllocError>
 }
 
 /// Runs the senders to their ends, each in a thread of its own.
-fn run_senders<R, G>(rt: &R, jobs: &mut [Job], task: Task<'_>, gate: &G)
+fn run_senders<R>(rt: &R, jobs: &mut [Job], task: Task<'_>)
 where
     R: Wait + Threads + Clock + AllocGlobal + Sync,
-    G: Gate + Sync,
     requires { All (HasTried (deal_of task) 0) jobs.old }
     ensures same { SameJobs jobs.old jobs.new }
     ensures ran { All (HasRun (deal_of task.entry)) jobs.new }
 {
     let threads = jobs.len().max(1);
-    thread::for_each_mut(rt, jobs, threads, &|_, job| job.run(rt, task, gate));
+    thread::for_each_mut(rt, jobs, threads, &|_, job| job.run(rt, task));
 }
 
 /// Runs the senders over these lines, and closes the producer. The senders as they are then.
-fn send_all<R, G>(
+fn send_all<R>(
     rt: &R,
     jobs: Vec<Job>,
     lines: &[&[u8]],
     senders: u32,
     keyed: bool,
     flush_every: Option<u64>,
-    gate: &G,
     closer: Closer,
 ) -> Vec<Job>
 where
     R: Wait + Threads + Clock + AllocGlobal + Sync,
-    G: Gate + Sync,
     requires { All (HasTried (dealt lines.now senders keyed) 0) jobs.items }
     ensures { HaveRun (dealt lines.now senders keyed) jobs.items result.items }
 {
@@ -87,7 +83,7 @@ where
         keyed,
         flush_every,
     };
-    run_senders(rt, jobs.as_mut_slice(), task, gate);
+    run_senders(rt, jobs.as_mut_slice(), task);
     closer.close();
     jobs
 }
@@ -121,18 +117,16 @@ impl<'a> Promise<Vec<Job>> for Sending<'a> {
 
 /// Runs the senders and the service to their ends: the senders in a thread of their own, since the service stays where its
 /// event loop is. Where no thread can be made, nothing is sent.
-fn run_all<R, G>(
+fn run_all<R>(
     rt: &R,
     jobs: Vec<Job>,
     task: Task<'_>,
-    gate: &G,
     closer: Closer,
     service: Service,
 ) -> Result<(Vec<Job>, Ended), RunFault>
 where
     R: Wait + Threads + Clock + RandomSource + AllocGlobal + Sync,
     R: Net<Listener = TcpListener, Stream = TcpStream>,
-    G: Gate + Sync,
     requires { All (HasTried (deal_of task) 0) jobs.items }
     ensures ran { IfOk result (λ out. HaveRun (deal_of task.entry) jobs.items out.0.items) }
     ensures lanes { IfOk result (λ out. lanes_of (parts_in out.1).intake ≡ lanes_of (intake_of service)) }
@@ -163,7 +157,7 @@ where
                 promise,
                 move ||
                     requires { All (HasTried (dealt lines.now senders keyed) 0) jobs.items }
-                { send_all(rt, jobs, lines, senders, keyed, flush_every, gate, closer) },
+                { send_all(rt, jobs, lines, senders, keyed, flush_every, closer) },
             );
             let Ok(sending) = sending else {
                 return Err(RunFault::OutOfMemory);
@@ -176,7 +170,7 @@ where
 
 /// Opens a producer over the broker at this address, and sends the lines. Timestamps are by the clock on the wall, or
 /// count from now.
-pub(crate) fn produce<R, G>(
+pub(crate) fn produce<R>(
     rt: &R,
     settings: Settings,
     wall: bool,
@@ -184,12 +178,10 @@ pub(crate) fn produce<R, G>(
     flush_every: Option<u64>,
     address: SocketAddr,
     lines: &[&[u8]],
-    gate: &G,
 ) -> Result<Produced, RunFault>
 where
     R: Wait + Threads + Clock + RandomSource + AllocGlobal + Sync,
     R: Net<Listener = TcpListener, Stream = TcpStream>,
-    G: Gate + Sync,
     ensures lines { IfOk result (λ produced. Comes (dealt lines.now settings.senders keyed) (largest settings.config) produced.accepted produced.reports.items) }
     ensures in_order { IfOk result (λ produced. IsSorted by_place produced.reports.items) }
 
@@ -212,6 +204,6 @@ where
         keyed,
         flush_every,
     };
-    let (ran, ended) = run_all(rt, jobs, task, gate, closer, service)?;
+    let (ran, ended) = run_all(rt, jobs, task, closer, service)?;
     gather(alloc, ran, ended, senders)
 }

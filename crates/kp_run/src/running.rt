@@ -8,7 +8,6 @@ ghost use Rattle.kp_run.specs.Served.{ServesAll};
 
 use crate::broker_thread::{Serving, end, serve_all};
 use crate::fault::RunFault;
-use crate::gate::Gate;
 use crate::gathering::Produced;
 use crate::options::{Checked, Options, Place};
 use crate::producing::produce;
@@ -62,58 +61,44 @@ fn came_of(broker: Option<Broker>, produced: Produced) -> Came
 }
 
 /// Sends the lines, dealt out to the senders one by one.
-pub fn run_lines<R, G>(
-    rt: &R,
-    checked: &Checked<'_>,
-    lines: &[&[u8]],
-    gate: &G,
-) -> Result<Came, RunFault>
+pub fn run_lines<R>(rt: &R, checked: &Checked<'_>, lines: &[&[u8]]) -> Result<Came, RunFault>
 where
     R: Wait + Threads + Clock + RandomSource + AllocGlobal + Sync,
     R: Net<Listener = TcpListener, Stream = TcpStream>,
-    G: Gate + Sync,
     ensures { IfOk result (CameOf checked.now lines.now) }
 {
     match checked.options.place {
         Place::At(address) => {
-            let produced = produce_at(rt, &checked.options, address, lines, gate)?;
+            let produced = produce_at(rt, &checked.options, address, lines)?;
             Ok(came_of(None, produced))
         }
-        Place::Here(_) => run_here(rt, checked, lines, gate),
+        Place::Here(_) => run_here(rt, checked, lines),
     }
 }
 
 /// Sends them to the broker at this address.
-fn produce_at<R, G>(
+fn produce_at<R>(
     rt: &R,
     options: &Options<'_>,
     address: SocketAddr,
     lines: &[&[u8]],
-    gate: &G,
 ) -> Result<Produced, RunFault>
 where
     R: Wait + Threads + Clock + RandomSource + AllocGlobal + Sync,
     R: Net<Listener = TcpListener, Stream = TcpStream>,
-    G: Gate + Sync,
     requires { IsAt options.now.place address }
     ensures { IfOk result (λ p. IsProducedBy options.now lines.now p.accepted p.reports.items) }
 {
     let settings = options.settings(rt.alloc())?;
     let (keyed, flush_every) = (options.keyed, options.flush_every);
-    produce(rt, settings, true, keyed, flush_every, address, lines, gate)
+    produce(rt, settings, true, keyed, flush_every, address, lines)
 }
 
 /// Sends them to a broker that is served at a free port in a thread of this process.
-fn run_here<R, G>(
-    rt: &R,
-    checked: &Checked<'_>,
-    lines: &[&[u8]],
-    gate: &G,
-) -> Result<Came, RunFault>
+fn run_here<R>(rt: &R, checked: &Checked<'_>, lines: &[&[u8]]) -> Result<Came, RunFault>
 where
     R: Wait + Threads + Clock + RandomSource + AllocGlobal + Sync,
     R: Net<Listener = TcpListener, Stream = TcpStream>,
-    G: Gate + Sync,
     requires { IsHere checked.now.options.place }
     ensures { IfOk result (CameOf checked.now lines.now) }
 {
@@ -122,17 +107,16 @@ where
     let options = &checked.options;
     let partitions = options.own_partitions();
     let broker = Broker::new(rt.alloc(), options.topic, partitions, address.port())?;
-    let both = serve_and_produce(rt, checked, lines, gate, listener, address, broker)?;
+    let both = serve_and_produce(rt, checked, lines, listener, address, broker)?;
     let (broker, produced) = both;
     Ok(came_of(Some(broker), produced))
 }
 
 /// Serves the broker in a thread, and sends the lines to it from this one. Where no thread can be made, nothing is sent.
-fn serve_and_produce<R, G>(
+fn serve_and_produce<R>(
     rt: &R,
     checked: &Checked<'_>,
     lines: &[&[u8]],
-    gate: &G,
     listener: TcpListener,
     address: SocketAddr,
     broker: Broker,
@@ -140,7 +124,6 @@ fn serve_and_produce<R, G>(
 where
     R: Wait + Threads + Clock + RandomSource + AllocGlobal + Sync,
     R: Net<Listener = TcpListener, Stream = TcpStream>,
-    G: Gate + Sync,
     requires { IsHere checked.now.options.place }
     ensures served { IfOk result (λ both. ServesAll checked.now.plan broker both.0) }
     ensures produced { IfOk result (λ both. IsProducedBy checked.now.options lines.now both.1.accepted both.1.reports.items) }
@@ -176,7 +159,6 @@ where
                 flush_every,
                 address,
                 lines,
-                gate,
                 shared,
             );
             Ok((serving.join(rt), produced))
@@ -186,32 +168,21 @@ where
 }
 
 /// Sends them, with timestamps that count from now, and ends the broker's thread.
-fn produce_and_end<R, G>(
+fn produce_and_end<R>(
     rt: &R,
     settings: Settings,
     keyed: bool,
     flush_every: Option<u64>,
     address: SocketAddr,
     lines: &[&[u8]],
-    gate: &G,
     over: &AtomicBool,
 ) -> Result<Produced, RunFault>
 where
     R: Wait + Threads + Clock + RandomSource + AllocGlobal + Sync,
     R: Net<Listener = TcpListener, Stream = TcpStream>,
-    G: Gate + Sync,
     ensures { IfOk result (λ p. IsProduced address settings (dealt lines.now settings.senders keyed) (largest settings.config) p.accepted p.reports.items) }
 {
-    let produced = produce(
-        rt,
-        settings,
-        false,
-        keyed,
-        flush_every,
-        address,
-        lines,
-        gate,
-    );
+    let produced = produce(rt, settings, false, keyed, flush_every, address, lines);
     end(rt, address, over);
     produced
 }

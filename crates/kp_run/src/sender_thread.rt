@@ -8,7 +8,6 @@ ghost use Rattle.kp_run.specs.Dealing.{deal_of};
 ghost use Rattle.kp_run.specs.Jobs.{accepted_by, limits_in, HasRun, HasSent, HasTried, IsIdle, Keeps, SameJob, SentNothing};
 
 use crate::dealing::{dealt, record_of};
-use crate::gate::Gate;
 use crate::stamps::Stamps;
 use kp_batch::Record;
 use kp_client::Producer;
@@ -68,39 +67,36 @@ impl Job {
     }
 
     /// Sends the sender's lines, and hears what became of them, until each has its report or the service has ended.
-    pub(crate) fn run<R, G>(&mut self, rt: &R, task: Task<'_>, gate: &G)
+    pub(crate) fn run<R>(&mut self, rt: &R, task: Task<'_>)
     where
         R: Wait + Clock + AllocGlobal,
-        G: Gate,
         requires { HasTried (deal_of task) 0 self.old }
         ensures same { SameJob self.old self.new }
         ensures ran { HasRun (deal_of task.entry) self.new }
     {
-        self.send_all(rt, task, gate);
+        self.send_all(rt, task);
         self.hear_rest(rt);
     }
 
     /// Sends the sender's lines, as long as the service takes them.
-    fn send_all<R, G>(&mut self, rt: &R, task: Task<'_>, gate: &G)
+    fn send_all<R>(&mut self, rt: &R, task: Task<'_>)
     where
         R: Wait + Clock + AllocGlobal,
-        G: Gate,
         requires { HasTried (deal_of task) 0 self.old }
         ensures same { SameJob self.old self.new }
         ensures ran { HasRun (deal_of task.entry) self.new }
     {
         for k in 0..u64::MAX {
-            if !self.send_line(rt, task, gate, k) {
+            if !self.send_line(rt, task, k) {
                 return;
             }
         }
     }
 
-    /// Sends line `k` of the sender, once the gate lets it. False where there is none, or the sender is to stop.
-    fn send_line<R, G>(&mut self, rt: &R, task: Task<'_>, gate: &G, k: u64) -> bool
+    /// Sends line `k` of the sender. False where there is none, or the sender is to stop.
+    fn send_line<R>(&mut self, rt: &R, task: Task<'_>, k: u64) -> bool
     where
         R: Wait + Clock + AllocGlobal,
-        G: Gate,
         requires { HasTried (deal_of task) k self.old }
         ensures same { SameJob self.old self.new }
         ensures goes_on { OnTrue result (HasTried (deal_of task.entry) (k + 1) self.new) }
@@ -110,7 +106,6 @@ impl Job {
         let Some(line) = dealt(task.lines, task.senders, sender, k) else {
             return false;
         };
-        gate.pass(sender, k);
         let timestamp = self.stamps.next(rt);
         let Ok(record) = record_of(rt.alloc(), task.keyed, timestamp, line) else {
             self.has_lost = true;

@@ -5,10 +5,10 @@ use Rattle.kp_cli.proofs.program.run_bytes.Goals as goal
 
 pub returns : goal.returns
 returns g c =
-    on_ok_weaker c.run_with.result
+    on_ok_weaker c.run.result
     (λ prints. record {
       sent = c.as_slice.result.now;
       are = ap (λ (sent : List (Bor (List ℕ))). map (λ line. line.now) sent) c.as_slice.ensures.value ∙ c.in_ok-lines.ensures;
       prints = prints;
     })
-    c.run_with.ensures
+    c.run.ensures
