@@ -12,7 +12,7 @@ ghost use Rattle.kp_cli.specs.Runs.{Looks, LooksFirst, PrintsLines, PrintsRun};
 use crate::command_line::{Command, command_of};
 use crate::fault::{Fault, memory_or, put_fault};
 use crate::run_words::Wanted;
-use crate::running::run;
+use crate::running::send_and_print;
 use crate::streams::{read_file, write_whole};
 use clap::Error;
 use clap::error::ErrorKind;
@@ -125,7 +125,7 @@ where
     ensures { OnOk result (PrintsLines checked.now bytes.now (O.contents out.old) (O.contents out.new)) }
 {
     let lines = slices_of(rt.alloc(), bytes)?;
-    run(rt, checked, lines.as_slice(), out, err)
+    send_and_print(rt, checked, lines.as_slice(), out, err)
 }
 
 /// Sends a file's lines.

@@ -187,7 +187,7 @@ fn tell_given_up<E: Write>(err: &mut E, came: &Came) {
 
 /// Sends the lines, and prints what became of them; on `err` that the run was given up, where it was. What came of the run is
 /// left in memory: the program ends behind it, and to free the logs record by record would take as long as a tenth of the run.
-pub(crate) fn run<'a, R, O: Write, E: Write>(
+pub(crate) fn send_and_print<'a, R, O: Write, E: Write>(
     rt: &R,
     checked: &Checked<'_>,
     lines: &[&[u8]],

@@ -3,7 +3,7 @@ use Rattle.std.proofs.lemmas.Result.{on_ok_weaker}
 use Rattle.std.specs.Io.KnownBytes.{Appends}
 use Rattle.kp_run.specs.declared.options.Options.{Options}
 use Rattle.kp_cli.specs.RunText.{run_text}
-use Rattle.kp_cli.proofs.running.run.Goals as goal
+use Rattle.kp_cli.proofs.running.send_and_print.Goals as goal
 
 pub returns : goal.returns
 returns g c =
