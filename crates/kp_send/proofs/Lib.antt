@@ -1,1 +1,2 @@
 mod FormLemmas
+mod LedgerLemmas
