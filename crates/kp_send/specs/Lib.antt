@@ -1,2 +1,4 @@
 pub mod Form
 pub mod Ledger
+pub mod Telling
+pub mod Words

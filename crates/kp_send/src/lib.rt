@@ -1,13 +1,17 @@
-//! Lines sent as records, and what became of each: a line's record, and the ledger of the lines that were sent.
+//! Lines sent as records, and what became of each: a line's record, the ledger of the lines that were sent, and what is
+//! told of them.
 #![tactic(auto)]
 
 mod fault;
 mod form;
 pub mod laws;
 mod ledger;
+mod telling;
 mod told;
+mod words;
 
 pub use fault::LedgerFault;
 pub use form::Form;
 pub use ledger::Ledger;
+pub use telling::{Keep, SAID_LIMIT, Tellings, keep_of};
 pub use told::{Fate, Sent, Told};
