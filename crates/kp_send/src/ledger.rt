@@ -1,6 +1,6 @@
 //! The lines that were sent, until it is told what became of them.
 
-ghost use Rattle.std.specs.Prelude.{◌≡◌, ◌<◌, [], ◌∷◌, length, map, IfErr, IfOk, OnErr, OnOk};
+ghost use Rattle.std.specs.Prelude.{◌≡◌, ◌<◌, ◌≤◌, [], ◌∷◌, length, map, IfErr, IfOk, OnErr, OnOk};
 ghost use Rattle.std.specs.List.Sorted.{IsPermutation, IsSorted};
 ghost use Rattle.kp_send.specs.Ledger.{by_line, entry_of, Lacks, Leaves, left_with, Moves, RefusedFor, Tells};
 
@@ -66,7 +66,8 @@ impl Ledger {
 
     /// The line of which this report tells, which waits no more. None where no line waits for it.
     pub fn told(&mut self, report: &Report) -> Option<Told>
-        ensures { Tells self.old report.now result self.new }
+        ensures told { Tells self.old report.now result self.new }
+        ensures room { self.old.room ≤ self.new.room }
     {
         let sent = self.waiting.remove(&(report.partition, report.number))?;
         Some(Told::reported(sent, report.partition, report.outcome))

@@ -3,8 +3,8 @@ use Rattle.kp_send.specs.Ledger.{Book}
 use Rattle.kp_send.proofs.LedgerLemmas.{lacks, leaves}
 use Rattle.kp_send.proofs.ledger.Ledger.told.Goals as goal
 
-pub returns-in_err-sent : goal.returns-in_err-sent
-returns-in_err-sent c =
+pub returns-in_err-sent-clause-told : goal.returns-in_err-sent-clause-told
+returns-in_err-sent-clause-told c =
     let report = c.args.report.now in
     let same = ap (λ (book : Book). book.waiting) c.self.view_is in
     rw c.from_residual.ensures (
@@ -12,8 +12,8 @@ returns-in_err-sent c =
       c.in_err-sent.ensures.unchanged ∙ same,
     )
 
-pub returns : goal.returns
-returns c =
+pub returns-clause-told : goal.returns-clause-told
+returns-clause-told c =
     let report = c.args.report.now in
     let same = ap (λ (book : Book). book.waiting) c.self.view_is in (
       c.in_ok-sent.sent,
