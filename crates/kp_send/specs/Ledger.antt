@@ -4,12 +4,13 @@ use Rattle.std.specs.List.{flat_map}
 use Rattle.std.specs.List.Sorted.{IsPermutation}
 use Rattle.std.specs.Ordering.{nat_cmp}
 use Rattle.std.specs.declared.cmp.Ordering.{Ordering}
+use Rattle.kp_embed.specs.declared.fault.SendFault.{SendFault}
 use Rattle.kp_embed.specs.declared.target.Ticket.{Ticket}
 use Rattle.kp_rules.specs.declared.outcome.Outcome.{Outcome}
 use Rattle.kp_rules.specs.declared.outcome.Report.{Report}
 use Rattle.kp_send.specs.declared.fault.LedgerFault.{LedgerFault}
 use Rattle.kp_send.specs.declared.fault.LedgerFault.TheVariants.{Waits, OutOfMemory}
-use Rattle.kp_send.specs.declared.told.Fate.TheVariants.{Reported}
+use Rattle.kp_send.specs.declared.told.Fate.TheVariants.{Refused, Reported}
 use Rattle.kp_send.specs.declared.told.Sent.{Sent}
 use Rattle.kp_send.specs.declared.told.Told.{Told}
 
@@ -51,6 +52,10 @@ RefusedFor old ticket OutOfMemory = old.room ≡ 0
 -- what becomes known of a line whose record was accepted
 abbrev pub reported : Sent → (partition : ℕ) → Outcome → Told
 reported sent partition outcome = record { line = sent.line; fate = Reported partition outcome; bytes = sent.bytes }
+
+-- what is known of a line whose record was never accepted
+abbrev pub refused : (line : ℕ) → SendFault → Option (List ℕ) → Told
+refused line fault bytes = record { line = line; fate = Refused fault; bytes = bytes }
 
 -- The line that waited for this report has left with it, or none did.
 abbrev pub Tells : Book → Report → Option Told → Book → Type 0

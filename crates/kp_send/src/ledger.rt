@@ -14,7 +14,7 @@ use std::marker::Model;
 
 /// The lines that were sent and wait for their reports, by ticket: seen as their list, in no order, and how many more have
 /// a place that is kept for them.
-#[derive(Drop)]
+#[derive(Debug, Drop)]
 pub struct Ledger {
     waiting: HashMap<(u32, u64), Sent>,
 }

@@ -34,7 +34,7 @@ pub struct Told {
 
 impl Told {
     ghost use Rattle.std.specs.Prelude.{◌≡◌};
-    ghost use Rattle.kp_send.specs.Ledger.{reported};
+    ghost use Rattle.kp_send.specs.Ledger.{refused, reported};
 
     /// The record of this line was accepted for this partition, and this became of it.
     pub fn reported(sent: Sent, partition: u32, outcome: Outcome) -> Told
@@ -44,6 +44,17 @@ impl Told {
         Told {
             line,
             fate: Fate::Reported(partition, outcome),
+            bytes,
+        }
+    }
+
+    /// The record of this line was never accepted.
+    pub fn refused(line: u64, fault: SendFault, bytes: Option<Blob>) -> Told
+        ensures { result ≡ refused line fault bytes }
+    {
+        Told {
+            line,
+            fate: Fate::Refused(fault),
             bytes,
         }
     }
