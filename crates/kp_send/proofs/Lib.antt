@@ -1,0 +1,4 @@
+mod FormLemmas
+mod LatencyLemmas
+mod LedgerLemmas
+mod NearLemmas

@@ -1,0 +1,5 @@
+pub mod Form
+pub mod Latency
+pub mod Ledger
+pub mod Telling
+pub mod Words
