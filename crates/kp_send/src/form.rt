@@ -43,7 +43,8 @@ impl Form {
 
     /// A line's key and its value.
     fn cut<'a>(&self, line: &'a [u8]) -> (Option<&'a [u8]>, &'a [u8])
-        ensures { IsCut self.now.key_delimiter line.now (option_map (λ key. key.now) result.0) result.1.now }
+        ensures { IsCut self.now.key_delimiter line.now
+            (option_map (λ key. key.now) result.0) result.1.now }
     {
         let Some(delimiter) = &self.key_delimiter else {
             return (None, line);

@@ -25,7 +25,10 @@ impl Model for Ledger {
 
     ghost Value = { Book };
 
-    ghost view = { λ ledger. record { waiting = ledger.waiting.entries; room = spare ledger.waiting } };
+    ghost view = { λ ledger. record {
+      waiting = ledger.waiting.entries;
+      room = spare ledger.waiting;
+    } };
 }
 
 impl Ledger {

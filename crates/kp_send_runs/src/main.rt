@@ -1,18 +1,21 @@
-//! Plays lines that are sent as records: how a stream is cut into lines, which record a line is, what becomes of it, and what is
-//! told of that.
+//! Plays lines that are sent as records: how a stream is cut into lines, which record a line is, what becomes of it, and
+//! what is told of that.
 //!
-//! - `chunk BYTES` takes a chunk of the stream, and tells the lines that end there, as `NUMBER:BYTES`. `finish` ends the stream, and tells its
-//!   last line, or `none`. The delimiter is 0a, and `delimiter N` begins a stream with another byte.
-//! - `form some BYTES|none nulls|values COUNT NAME BYTES ..` says how lines are made into records: the key delimiter, whether a value
-//!   without a byte is null, and so many headers. `record MOMENT BYTES` tells a line's record, as `MOMENT KEY VALUE NAME=VALUE ..`.
-//! - `reserve` keeps a place; `send PARTITION NUMBER LINE some BYTES|none` enters a line, `report PARTITION NUMBER OUTCOME` tells the line of a
-//!   report, as `LINE FATE BYTES`, and `leave OUTCOME` all that wait. `waiting` is how many wait.
-//! - `tell LINE PARTITION OUTCOME` and `refuse LINE FAULT` tell what is put out and said of a line, and which file keeps its bytes; `end`
-//!   what is said at the end, and the exit status.
-//! - `latencies N ..` adds latencies; `percentile P` tells the one of so many hundredths, and `summary` their count, mean and greatest.
+//! - `chunk BYTES` takes a chunk of the stream, and tells the lines that end there, as `NUMBER:BYTES`. `finish` ends the
+//!   stream, and tells its last line, or `none`. The delimiter is 0a, and `delimiter N` begins a stream with another byte.
+//! - `form some BYTES|none nulls|values COUNT NAME BYTES ..` says how lines are made into records: the key delimiter, whether
+//!   a value without a byte is null, and so many headers. `record MOMENT BYTES` tells a line's record, as
+//!   `MOMENT KEY VALUE NAME=VALUE ..`.
+//! - `reserve` keeps a place; `send PARTITION NUMBER LINE some BYTES|none` enters a line, `report PARTITION NUMBER OUTCOME`
+//!   tells the line of a report, as `LINE FATE BYTES`, and `leave OUTCOME` all that wait. `waiting` is how many wait.
+//! - `tell LINE PARTITION OUTCOME` and `refuse LINE FAULT` tell what is put out and said of a line, and which file keeps its
+//!   bytes; `end` what is said at the end, and the exit status.
+//! - `latencies N ..` adds latencies; `percentile P` tells the one of so many hundredths, and `summary` their count, mean
+//!   and greatest.
 //!
-//! Bytes are hexadecimal, `-` where there are none. OUTCOME is `delivered OFFSET`, `stored`, `unknown`, `rejected CODE`, `expired`, `fenced` or
-//! `ended`; FAULT `closed`, `not-ready`, `no-partition`, `too-large`, `buffer-full`, `spent` or `memory`.
+//! Bytes are hexadecimal, `-` where there are none. OUTCOME is `delivered OFFSET`, `stored`, `unknown`, `rejected CODE`,
+//! `expired`, `fenced` or `ended`; FAULT `closed`, `not-ready`, `no-partition`, `too-large`, `buffer-full`, `spent` or
+//! `memory`.
 #![tactic(auto)]
 
 mod ends;
