@@ -81,6 +81,7 @@ impl Ledger {
         ensures all { IfOk result (λ left.
             IsPermutation (map (left_with outcome) self.old.waiting) left.items) }
         ensures in_order { IfOk result (λ left. IsSorted by_line left.items) }
+        ensures moved { OnOk result (Moves self.old [] self.old.waiting self.new) }
         ensures none { OnOk result (self.new.waiting ≡ []) }
         ensures unchanged { OnErr result (self.new ≡ self.old) }
     {
