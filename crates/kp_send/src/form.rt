@@ -13,6 +13,7 @@ use std::alloc::{AllocError, Global};
 /// How lines are made into records.
 #[derive(Debug, Drop)]
 pub struct Form {
+    /// Where each record goes.
     pub target: Target,
     /// What stands between a line's key and its value; a line without it has no key. None: no line has one.
     pub key_delimiter: Option<Blob>,
