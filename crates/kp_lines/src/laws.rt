@@ -13,6 +13,7 @@ pub fn bytes_are_split_in_one_way()
 /// However a stream is cut into chunks, its lines are told, each once and in order, numbered from 1, and what is left is
 /// the beginning of the line behind them.
 pub fn any_chunks_are_told_as_their_stream()
-    ensures { (delimiter : ℕ) (calls : List Call) (after : Cutting) → Follow (beginning delimiter) calls after
+    ensures { (delimiter : ℕ) (calls : List Call) (after : Cutting)
+        → Follow (beginning delimiter) calls after
         → Tells (beginning delimiter) (taken_by calls) (told_by calls) after }
 {}

@@ -53,7 +53,8 @@ impl Lines {
     pub fn next_line<'a>(&mut self, chunk: &'a [u8]) -> Result<Option<(Line, &'a [u8])>, LineFault>
         ensures told { IfOk result (λ told.
             Takes self.old chunk.now (option_map (λ x. (x.0, x.1.now)) told) self.new) }
-        ensures shorter { IfOk result (λ told. IfSome told (λ x. length x.1.now < length chunk.now)) }
+        ensures shorter { IfOk result (λ told.
+            IfSome told (λ x. length x.1.now < length chunk.now)) }
 
         // It may be asked again with the same chunk.
         ensures refused { IfErr result (Refuses self.old) }

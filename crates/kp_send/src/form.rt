@@ -13,6 +13,7 @@ use std::alloc::{AllocError, Global};
 /// How lines are made into records.
 #[derive(Debug, Drop)]
 pub struct Form {
+    /// Where each record goes.
     pub target: Target,
     /// What stands between a line's key and its value; a line without it has no key. None: no line has one.
     pub key_delimiter: Option<Blob>,
@@ -43,7 +44,8 @@ impl Form {
 
     /// A line's key and its value.
     fn cut<'a>(&self, line: &'a [u8]) -> (Option<&'a [u8]>, &'a [u8])
-        ensures { IsCut self.now.key_delimiter line.now (option_map (λ key. key.now) result.0) result.1.now }
+        ensures { IsCut self.now.key_delimiter line.now
+            (option_map (λ key. key.now) result.0) result.1.now }
     {
         let Some(delimiter) = &self.key_delimiter else {
             return (None, line);

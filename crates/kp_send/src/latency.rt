@@ -34,7 +34,12 @@ impl Model for Latencies {
 
     ghost Value = { Table };
 
-    ghost view = { λ l. record { places = l.places.items; count = l.count; sum = l.sum; greatest = l.greatest } };
+    ghost view = { λ l. record {
+      places = l.places.items;
+      count = l.count;
+      sum = l.sum;
+      greatest = l.greatest;
+    } };
 
     ghost invariant = { λ l. IsWhole l.places.items l.count };
 }

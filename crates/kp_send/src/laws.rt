@@ -13,13 +13,13 @@ pub fn each_line_leaves_once_or_waits()
 
 /// Where a table is that of some latencies, and one is added, it is that of these and this one.
 pub fn a_latency_more_is_counted()
-    ensures { (latencies : List ℕ) (old new : Table) (latency : ℕ) → IsTableOf latencies old → Adds old latency new
-        → IsTableOf (latencies ++ latency ∷ []) new }
+    ensures { (latencies : List ℕ) (old new : Table) (latency : ℕ)
+        → IsTableOf latencies old → Adds old latency new → IsTableOf (latencies ++ latency ∷ []) new }
 {}
 
 /// Of the latencies that were added so many as the rank are at most what is told of it, and fewer are below what this is
 /// at most a 32nd above.
 pub fn a_percentile_is_near()
-    ensures { (latencies : List ℕ) (table : Table) (rank told : ℕ) → IsTableOf latencies table → IsRanked table rank told
-        → IsNear latencies rank told }
+    ensures { (latencies : List ℕ) (table : Table) (rank told : ℕ)
+        → IsTableOf latencies table → IsRanked table rank told → IsNear latencies rank told }
 {}

@@ -25,7 +25,10 @@ impl Model for Ledger {
 
     ghost Value = { Book };
 
-    ghost view = { λ ledger. record { waiting = ledger.waiting.entries; room = spare ledger.waiting } };
+    ghost view = { λ ledger. record {
+      waiting = ledger.waiting.entries;
+      room = spare ledger.waiting;
+    } };
 }
 
 impl Ledger {
@@ -78,6 +81,7 @@ impl Ledger {
         ensures all { IfOk result (λ left.
             IsPermutation (map (left_with outcome) self.old.waiting) left.items) }
         ensures in_order { IfOk result (λ left. IsSorted by_line left.items) }
+        ensures moved { OnOk result (Moves self.old [] self.old.waiting self.new) }
         ensures none { OnOk result (self.new.waiting ≡ []) }
         ensures unchanged { OnErr result (self.new ≡ self.old) }
     {

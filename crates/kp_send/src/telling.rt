@@ -61,7 +61,8 @@ impl Tellings {
         said: &mut Vec<u8>,
     ) -> Result<(), AllocError>
         ensures out { OnOk result (out.new.items ≡ out.old.items ++ out_text told.now) }
-        ensures said { OnOk result (said.new.items ≡ said.old.items ++ said_text self.old told.now) }
+        ensures said { OnOk result
+            (said.new.items ≡ said.old.items ++ said_text self.old told.now) }
         ensures counted { OnOk result (self.new ≡ counted self.old told.now.fate) }
         ensures refused { OnErr result (self.new ≡ self.old) }
     {
