@@ -4,8 +4,8 @@ use Rattle.std.specs.Prelude.{Option, Some, None, Result, Err, IfSome, IsErrAnd}
 use Rattle.std.proofs.lemmas.Result.{err_from_is_err_and}
 use Rattle.kp_run.specs.Options.{AreFine, RefusedFor}
 use Rattle.kp_run.specs.declared.fault.RunFault.{RunFault}
-use Rattle.kp_run.specs.declared.options.Checked.{Checked}
-use Rattle.kp_run.specs.declared.options.Options.{Options}
+use Rattle.kp_run.specs.declared.checked.Checked.{Checked}
+use Rattle.kp_options.specs.declared.options.Options.{Options}
 use Rattle.kp_cli.specs.Faults.{of_run}
 use Rattle.kp_cli.specs.Runs.{LooksFirst, PrintsLines, PrintsRun}
 use Rattle.kp_cli.specs.declared.fault.Fault.{Fault}

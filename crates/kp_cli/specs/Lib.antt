@@ -1,9 +1,4 @@
-pub mod BrokerWords
-pub mod CommandLine
-pub mod Commands
 pub mod Faults
 pub mod Replays
-pub mod RunCommand
 pub mod RunText
-pub mod RunWords
 pub mod Runs

@@ -5,14 +5,14 @@ use denote.Ref.{Bor}
 use Rattle.kp_run.specs.Options.{AreFine, RefusedFor}
 use Rattle.kp_run.specs.Runs.{CameOf}
 use Rattle.kp_run.specs.declared.fault.RunFault.{RunFault}
-use Rattle.kp_run.specs.declared.options.Checked.{Checked}
-use Rattle.kp_run.specs.declared.options.Options.{Options}
+use Rattle.kp_run.specs.declared.checked.Checked.{Checked}
+use Rattle.kp_options.specs.declared.options.Options.{Options}
 use Rattle.kp_run.specs.declared.running.Came.{Came}
 use Rattle.kp_cli.specs.Faults.{of_run}
 use Rattle.kp_offline.specs.Lines.{lines}
 use Rattle.kp_cli.specs.RunText.{run_text}
-use Rattle.kp_cli.specs.declared.command_line.Command.{Command}
-use Rattle.kp_cli.specs.declared.command_line.Command.TheVariants.{Pack, Replay, Run}
+use Rattle.kp_command_line.specs.declared.command_line.Command.{Command}
+use Rattle.kp_command_line.specs.declared.command_line.Command.TheVariants.{Pack, Replay, Run}
 use Rattle.kp_cli.specs.declared.fault.Fault.{Fault}
 
 -- ---- what is printed

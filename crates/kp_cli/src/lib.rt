@@ -2,13 +2,8 @@
 //! and prints the log; or it sends the lines to a broker from many threads, and prints what became of them.
 #![tactic(auto)]
 
-mod broker_words;
-mod command_line;
-mod commands;
 mod fault;
 mod program;
-mod run_command;
-mod run_words;
 mod running;
 mod streams;
 

@@ -3,19 +3,18 @@
 ghost use Rattle.std.specs.Prelude.{◌≡◌, ◌≢◌, IfSome, OnOk, codes, map};
 ghost use Rattle.std.specs.Io.KnownBytes.{Appends};
 ghost use Rattle.clap.specs.Words.{kind_of};
-ghost use Rattle.kp_cli.specs.CommandLine.{AskToPackInput, AskToReplayInput, Packs, Replays};
+ghost use Rattle.kp_command_line.specs.CommandLine.{AskToPackInput, AskToReplayInput, Packs, Replays};
 ghost use Rattle.kp_offline.specs.Lines.{lines};
 ghost use Rattle.kp_offline.specs.Packed.{packed_text};
 ghost use Rattle.kp_cli.specs.Replays.{PrintsReplay};
 ghost use Rattle.kp_cli.specs.Runs.{Looks, LooksFirst, PrintsLines, PrintsRun};
 
-use crate::command_line::{Command, command_of};
 use crate::fault::{Fault, memory_or, put_fault};
-use crate::run_words::Wanted;
 use crate::running::send_and_print;
 use crate::streams::{read_file, write_whole};
 use clap::Error;
 use clap::error::ErrorKind;
+use kp_command_line::{Command, Wanted, command_of};
 use kp_offline::{pack, replay_text, slices_of};
 use kp_run::Checked;
 use std::convert::AsStr;
@@ -144,7 +143,7 @@ where
         → OnOk result (IfSome (I.remaining input.old) (λ bytes.
         PrintsRun wanted.entry.options bytes (O.contents out.old) (O.contents out.new))) }
 {
-    let checked = wanted.options.check(rt.alloc())?;
+    let checked = Checked::of(rt.alloc(), wanted.options)?;
     let bytes = read_file(rt, wanted.file, input)?;
     run_bytes(rt, &checked, bytes.as_slice(), out, err)
 }

@@ -7,11 +7,12 @@ use Rattle.kp_broker.specs.declared.plan.fault.PlanFault.{PlanFault}
 use Rattle.kp_broker.specs.declared.plan.fault.PlanFault.TheVariants.{BadPlan, OutOfMemory}
 use Rattle.kp_run.specs.Faults.{of_plan}
 use Rattle.kp_run.specs.Options.{Checks, RefusedFor}
-use Rattle.kp_run.specs.Plans.{plan_text, Plans}
+use Rattle.kp_options.specs.Places.{plan_text}
+use Rattle.kp_run.specs.Plans.{Plans}
 use Rattle.kp_run.specs.Topics.{IsTopic}
 use Rattle.kp_run.specs.declared.fault.RunFault.{RunFault}
-use Rattle.kp_run.specs.declared.options.Checked.{Checked}
-use Rattle.kp_run.specs.declared.options.Options.{Options}
+use Rattle.kp_run.specs.declared.checked.Checked.{Checked}
+use Rattle.kp_options.specs.declared.options.Options.{Options}
 
 pub plans_of_parsed : (text : List ℕ) (r : Result Plan PlanFault) → ParsesPlan text r → Plans (Some text) r
 plans_of_parsed text (Ok plan) parses = parses

@@ -20,10 +20,10 @@ use Rattle.kp_run.specs.Settings.{largest, AreSettingsOf}
 use Rattle.kp_run.specs.Theirs.{AreOfService}
 use Rattle.kp_run.specs.declared.fault.RunFault.{RunFault}
 use Rattle.kp_run.specs.declared.gathering.Produced.{Produced}
-use Rattle.kp_run.specs.declared.options.Checked.{Checked}
-use Rattle.kp_run.specs.declared.options.Options.{Options}
-use Rattle.kp_run.specs.declared.place.Place.{Place}
-use Rattle.kp_run.specs.declared.place.Place.TheVariants.{Here, At}
+use Rattle.kp_run.specs.declared.checked.Checked.{Checked}
+use Rattle.kp_options.specs.declared.options.Options.{Options}
+use Rattle.kp_options.specs.declared.place.Place.{Place}
+use Rattle.kp_options.specs.declared.place.Place.TheVariants.{Here, At}
 use Rattle.kp_run.specs.declared.running.Came.{Came}
 
 pub serves_here : (o : Options) (plan : Plan) (place : Place) (partitions port : ℕ) (first after : Broker) → IsHere place

@@ -2,7 +2,7 @@
 use Rattle.std.specs.Prelude.{◌≡◌, ◌≢◌, ℕ, ◌+◌, ◌*◌, List, [], ◌∷◌, ◌++◌, map, slice_get, Option, Some, None, All, Bool, true, false}
 use denote.Ref.{Bor}
 use Rattle.kp_batch.specs.declared.record.Record.{Record}
-use Rattle.kp_run.specs.declared.options.Options.{Options}
+use Rattle.kp_options.specs.declared.options.Options.{Options}
 use Rattle.kp_run.specs.declared.sender_thread.Task.{Task}
 
 -- line k of a sender, where the lines are dealt out one by one

@@ -1,23 +1,13 @@
 -- What a run is to be, and the first fault of it.
-use Rattle.std.specs.Prelude.{◌≡◌, ℕ, Option, Some, Result, Ok, Err, unwrap_or}
+use Rattle.std.specs.Prelude.{◌≡◌, Result, Ok, Err}
 use Rattle.kp_accum.specs.Config.{checked}
 use Rattle.kp_run.specs.declared.fault.RunFault.{RunFault}
 use Rattle.kp_run.specs.declared.fault.RunFault.TheVariants as fault
-use Rattle.kp_run.specs.declared.options.Checked.{Checked}
-use Rattle.kp_run.specs.declared.options.Options.{Options}
-use Rattle.kp_run.specs.declared.place.Place.{Place}
-use Rattle.kp_run.specs.declared.place.Place.TheVariants.{Here, At}
-use Rattle.kp_run.specs.Plans.{plan_text, HasPlan, IsPlanOf, TakesMemory}
+use Rattle.kp_run.specs.declared.checked.Checked.{Checked}
+use Rattle.kp_options.specs.declared.options.Options.{Options}
+use Rattle.kp_options.specs.Places.{plan_text}
+use Rattle.kp_run.specs.Plans.{HasPlan, IsPlanOf, TakesMemory}
 use Rattle.kp_run.specs.Topics.{IsTopic}
-
--- ---- the partitions
-
--- how many the topic is to have, where that is known: a broker of the process has one where none is said
-abbrev pub expected_partitions : Place → Option ℕ → Option ℕ
-expected_partitions (Here text) said = Some (unwrap_or said 1)
-expected_partitions (At address) said = said
-
--- ---- all of it
 
 -- The options have no fault.
 pub record AreFine (options : Options) (looked_at : Checked) : Type 0 where

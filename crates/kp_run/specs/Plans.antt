@@ -1,15 +1,8 @@
 -- What the process's broker does in place of an answer, by a text.
-use Rattle.std.specs.Prelude.{◌≡◌, ℕ, List, [], Option, Some, None, option_map, Result, Ok, Err}
+use Rattle.std.specs.Prelude.{◌≡◌, ℕ, List, [], Option, Some, None, Result, Ok, Err}
 use Rattle.kp_broker.specs.Plan.{Plan, Spells, HasEntry}
 use Rattle.kp_broker.specs.declared.plan.fault.PlanFault.{PlanFault}
 use Rattle.kp_broker.specs.declared.plan.fault.PlanFault.TheVariants as fault
-use Rattle.kp_run.specs.declared.place.Place.{Place}
-use Rattle.kp_run.specs.declared.place.Place.TheVariants.{Here, At}
-
--- the text of what the process's broker does in place of an answer, where there is one
-abbrev pub plan_text : Place → Option (List ℕ)
-plan_text (Here text) = option_map (λ t. t.now) text
-plan_text (At address) = None
 
 abbrev pub IsPlanOf : Option (List ℕ) → Plan → Type 0
 IsPlanOf (Some text) plan = Spells text plan

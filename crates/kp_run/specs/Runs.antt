@@ -13,10 +13,10 @@ use Rattle.kp_run.specs.Portions.{Comes}
 use Rattle.kp_run.specs.Served.{ServesAll}
 use Rattle.kp_run.specs.Settings.{largest, AreSettingsOf}
 use Rattle.kp_run.specs.Theirs.{AreOfService}
-use Rattle.kp_run.specs.declared.options.Checked.{Checked}
-use Rattle.kp_run.specs.declared.options.Options.{Options}
-use Rattle.kp_run.specs.declared.place.Place.{Place}
-use Rattle.kp_run.specs.declared.place.Place.TheVariants.{Here, At}
+use Rattle.kp_run.specs.declared.checked.Checked.{Checked}
+use Rattle.kp_options.specs.declared.options.Options.{Options}
+use Rattle.kp_options.specs.declared.place.Place.{Place}
+use Rattle.kp_options.specs.declared.place.Place.TheVariants.{Here, At}
 use Rattle.kp_run.specs.declared.running.Came.{Came}
 
 -- the broker is one of the process

@@ -3,9 +3,9 @@ use Rattle.std.specs.Prelude.{◌≡◌, ℕ, min}
 use Rattle.kp_accum.specs.declared.config.Config.{Config}
 use Rattle.kp_client.specs.declared.settings.Settings.{Settings}
 use Rattle.kp_client.specs.declared.policy.Policy.TheVariants.{InAll}
-use Rattle.kp_run.specs.Options.{expected_partitions}
-use Rattle.kp_run.specs.declared.options.Options.{Options}
-use Rattle.kp_run.specs.declared.options.TheConstants.{CAPACITY, CLIENT, NEW_CONNECTIONS}
+use Rattle.kp_options.specs.Places.{expected_partitions}
+use Rattle.kp_options.specs.declared.options.Options.{Options}
+use Rattle.kp_run.specs.declared.settings.TheConstants.{CAPACITY, CLIENT, NEW_CONNECTIONS}
 
 -- the most that a record may take
 abbrev pub largest : Config → ℕ

@@ -3,19 +3,21 @@
 #![tactic(auto)]
 
 mod broker_thread;
+mod checked;
+mod checks;
 mod dealing;
 mod fault;
 mod gathering;
-mod options;
-mod place;
+mod plan;
 mod producing;
 mod running;
 mod sender_thread;
+mod settings;
 mod stamps;
 mod topic;
 
+pub use checked::Checked;
 pub use fault::RunFault;
-pub use options::{Checked, Options, PARTITION_LIMIT, Place, SENDER_LIMIT};
 pub use running::{Came, run_lines};
 
 /// Why the last connection of a run was lost.

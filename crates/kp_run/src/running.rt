@@ -7,13 +7,15 @@ ghost use Rattle.kp_run.specs.Settings.{largest};
 ghost use Rattle.kp_run.specs.Served.{ServesAll};
 
 use crate::broker_thread::{Serving, end, serve_all};
+use crate::checked::Checked;
 use crate::fault::RunFault;
 use crate::gathering::Produced;
-use crate::options::{Checked, Options, Place};
 use crate::producing::produce;
+use crate::settings::settings_of;
 use kp_broker::Broker;
 use kp_client::{Cause, Settings};
 use kp_core::{Core, Report};
+use kp_options::{Options, Place};
 use std::alloc::AllocGlobal;
 use std::net::{Ipv4Addr, Net, SocketAddr, TcpListener, TcpStream};
 use std::random::RandomSource;
@@ -89,7 +91,7 @@ where
     requires { IsAt options.now.place address }
     ensures { IfOk result (λ p. IsProducedBy options.now lines.now p.accepted p.reports.items) }
 {
-    let settings = options.settings(rt.alloc())?;
+    let settings = settings_of(rt.alloc(), options)?;
     let (keyed, flush_every) = (options.keyed, options.flush_every);
     produce(rt, settings, true, keyed, flush_every, address, lines)
 }
@@ -129,7 +131,7 @@ where
     ensures produced { IfOk result (λ both. IsProducedBy checked.now.options lines.now both.1.accepted both.1.reports.items) }
 {
     let options = &checked.options;
-    let settings = options.settings(rt.alloc())?;
+    let settings = settings_of(rt.alloc(), options)?;
     let (keyed, flush_every) = (options.keyed, options.flush_every);
     let plan = &checked.plan;
     let over = AtomicBool::new(false);

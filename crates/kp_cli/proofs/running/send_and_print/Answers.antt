@@ -1,7 +1,7 @@
 use Rattle.std.proofs.Common.{subst}
 use Rattle.std.proofs.lemmas.Result.{on_ok_weaker}
 use Rattle.std.specs.Io.KnownBytes.{Appends}
-use Rattle.kp_run.specs.declared.options.Options.{Options}
+use Rattle.kp_options.specs.declared.options.Options.{Options}
 use Rattle.kp_cli.specs.RunText.{run_text}
 use Rattle.kp_cli.proofs.running.send_and_print.Goals as goal
 

@@ -1,0 +1,4 @@
+mod BrokerWordsLemmas
+mod CommandLineLemmas
+mod RunCommandLemmas
+mod RunWordsLemmas

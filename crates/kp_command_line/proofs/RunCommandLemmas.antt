@@ -1,0 +1,23 @@
+-- Arguments that are added one by one.
+use Rattle.std.proofs.Common.{◌≡◌, ◌∙◌, ap, ap₂, refl, Bool, true, false}
+use Rattle.std.specs.Prelude.{◌||◌}
+use Rattle.clap.specs.Words.{AddsArg, App, Rule, rule_of, with_rule}
+use Rattle.clap.specs.declared.builder.arg.Arg.{Arg}
+use Rattle.clap.specs.declared.builder.command.Command.{Command}
+use Rattle.clap.specs.declared.builder.command.Command.TheViews.{out-Command as fields_of}
+use Rattle.kp_command_line.specs.RunCommand.{TakesAlso}
+
+or_false : (b : Bool) → (b || false) ≡ b
+or_false true = refl
+or_false false = refl
+
+pub as_it_was : {command : Command} → TakesAlso (λ app. app) command command
+as_it_was = record { shape = refl; local = refl }
+
+-- one more argument, of this command alone
+pub then : {more : App → App} {r : Rule} {old mid new : Command} {a : Arg} → TakesAlso more old mid → AddsArg mid a new
+    → rule_of a ≡ r → a.global ≡ false → TakesAlso (λ app. with_rule (more app) r) old new
+then {mid = mid} before adds is local = record {
+  shape = adds.shape local ∙ ap₂ with_rule before.shape is;
+  local = adds.globals ∙ ap (λ (g : Bool). (fields_of mid).has_globals || g) local ∙ or_false _ ∙ before.local;
+}

@@ -1,0 +1,21 @@
+-- The program's commands, as clap sees them.
+use Rattle.std.specs.Prelude.{true, codes}
+use Rattle.clap.specs.Words.{App, Rule, new_app, new_rule, with_rule, with_subcommand}
+use Rattle.kp_command_line.specs.RunCommand.{run_app}
+
+abbrev pub named_rule : Rule
+named_rule = record (new_rule (codes "file")) { value_names = 1; required = true }
+
+abbrev pub pack_app : App
+pack_app = with_rule (new_app (codes "pack")) named_rule
+
+abbrev pub replay_app : App
+replay_app = with_rule (new_app (codes "replay")) named_rule
+
+abbrev pub bare_app : App
+bare_app =
+    let new = new_app (codes "kprod") in
+    record new { top = record new.top { subcommand_required = true; disable_help_subcommand = true } }
+
+abbrev pub kprod_app : App
+kprod_app = with_subcommand (with_subcommand (with_subcommand bare_app pack_app.top) replay_app.top) run_app.top

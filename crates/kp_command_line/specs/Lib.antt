@@ -1,0 +1,5 @@
+pub mod BrokerWords
+pub mod CommandLine
+pub mod Commands
+pub mod RunCommand
+pub mod RunWords

@@ -1,0 +1,56 @@
+//! The program's commands, as clap sees them.
+
+ghost use Rattle.std.specs.Prelude.{◌≡◌, IfOk};
+ghost use Rattle.clap.specs.Words.{app_of};
+ghost use Rattle.kp_command_line.specs.Commands.{kprod_app, pack_app, replay_app};
+ghost use Rattle.kp_command_line.specs.RunCommand.{IsLocal};
+
+use crate::run_command::run_command;
+use clap::{Arg, Command};
+use std::alloc::{AllocError, Global};
+
+/// What packs.
+fn pack_command<'a>(alloc: Global) -> Result<Command<'a>, AllocError>
+    ensures app { IfOk result (λ command. app_of command ≡ pack_app) }
+    ensures local { IfOk result IsLocal }
+{
+    let file = Arg::new(alloc, "file")
+        .value_name("FILE")
+        .help("The file whose lines are packed; - is the standard input")
+        .required(true);
+    Command::new(alloc, "pack")
+        .about("Packs lines into one record batch and offers it twice to a partition log")
+        .arg(file)
+}
+
+/// What replays.
+fn replay_command<'a>(alloc: Global) -> Result<Command<'a>, AllocError>
+    ensures app { IfOk result (λ command. app_of command ≡ replay_app) }
+    ensures local { IfOk result IsLocal }
+{
+    let file = Arg::new(alloc, "file")
+        .value_name("FILE")
+        .help("The file with the schedule; - is the standard input")
+        .required(true);
+    Command::new(alloc, "replay")
+        .about(
+            "Replays a schedule of sends, losses, repeats and replies, and prints what comes of it",
+        )
+        .arg(file)
+}
+
+/// The program's commands and what they take.
+pub(crate) fn kprod<'a>(alloc: Global) -> Result<Command<'a>, AllocError>
+    ensures { IfOk result (λ command. app_of command ≡ kprod_app) }
+{
+    let pack = pack_command(alloc)?;
+    let replay = replay_command(alloc)?;
+    let run = run_command(alloc)?;
+    let program = Command::new(alloc, "kprod")
+        .about("Publishes lines to a Kafka broker, each once and in order")
+        .subcommand_required(true)
+        .disable_help_subcommand(true);
+    let program = program.subcommand(pack)?;
+    let program = program.subcommand(replay)?;
+    program.subcommand(run)
+}
