@@ -64,7 +64,6 @@ class Core:
         self._open = Open()
         self._flushes: list[tuple[dict[int, int], AnyFuture]] = []  # With the counts of when they were asked for.
         self._behind: list[Callable[[], object]] = []  # What is called once the queue is empty.
-        self._unseen = 0  # How many bytes were accepted since `wait`. With enough of them a batch may be full, and go out at once.
         self._is_closing = False
         # What the library writes to.
         self._producer, self._action, self._ticket, self._state = Handle(), Action(), Ticket(), State()
@@ -77,7 +76,6 @@ class Core:
         slices = [argument for name in names for argument in (name, len(name))]
         seed = int.from_bytes(os.urandom(8), "little")
         self._config = as_config(settings)
-        self._enough: int = self._config.batch_size if self._config.linger_ms > 0 else 0
         status = kp.kp_producer_new(self._handle, self._config, *slices, seed, clock())
         if status != Status.OK:
             raise (MemoryError if status == Status.OUT_OF_MEMORY else ValueError)(words_of(status))
@@ -152,14 +150,8 @@ class Core:
             self.failure = OpenFailed(state.refused)
         return not self._is_opening
 
-    @property
-    def may_be_due(self) -> bool:
-        """Whether so much was accepted since `wait` was asked that something may be due before it has told."""
-        return self._unseen >= self._enough
-
     def wait(self) -> float:
         """For how many seconds there is nothing to do, if no connection is ready before."""
-        self._unseen = 0
         if self._is_short:
             self._is_short = False
             return SHORT
@@ -231,7 +223,6 @@ class Core:
             self._ticket_at,
         )
         if status == Status.OK:
-            self._unseen += len(key_blob[1]) + len(value_blob[1])
             place = self._ticket.partition
             self._open.put(place, [record])
             if key is None and partition is None:
@@ -241,7 +232,6 @@ class Core:
     def _send_values(self, values: Sequence[bytes], place: int, stamp: int) -> tuple[int, int]:
         """Has values accepted: the status of the first that is refused, and how many were before it."""
         text, lengths = b"".join(values), array("Q", map(len, values))
-        self._unseen += len(text)
         status = kp.kp_producer_send_batch(
             self._handle, place, text, len(text), lengths.buffer_info()[0], len(lengths), stamp, clock(), self._size_at,
         )

@@ -71,19 +71,19 @@ class Pending(Future):  # type: ignore[type-arg]
     """What comes of what was accepted, which nobody can call back; of a record that is its report.
 
     Most are done before anybody waits for them. So what it takes to wait is made only where somebody begins to, under `keeping`.
-    Before that a report is kept by assignments alone, and is made from them where it is asked for.
+    Before that a report is kept by two assignments (`_open.keep`), and is made from them where it is asked for.
     """
 
+    _stage: str = PENDING  # The state, where no report was kept.
     _exception: BaseException | None = None
     _given: Any = None  # The result, where no report was kept.
+    _partition = ALONE  # That of a report that was kept.
     _condition: Any = Watched()
     _waiters: Any = Watched()
     _done_callbacks: Any = Watched()
 
     def __init__(self, sent: Sent = b"") -> None:
-        self.sent = sent  # Until it is told.
-        self._state: str = PENDING
-        self._partition = ALONE  # That of a report that was kept, with its offset.
+        self.sent: Any = sent  # Until it is told; behind a report that was kept its offset.
 
     def watch(self) -> None:
         with keeping:
@@ -93,8 +93,16 @@ class Pending(Future):  # type: ignore[type-arg]
                     self._partition = WATCHED
 
     @property
+    def _state(self) -> str:
+        return self._stage if self._partition < 0 else FINISHED
+
+    @_state.setter
+    def _state(self, state: str) -> None:
+        self._stage = state
+
+    @property
     def _result(self) -> Any:
-        return self._given if self._partition < 0 else delivered(self._partition, self._offset)
+        return self._given if self._partition < 0 else delivered(self._partition, self.sent)
 
     @_result.setter
     def _result(self, result: Any) -> None:
@@ -107,7 +115,7 @@ class Pending(Future):  # type: ignore[type-arg]
         return self._state == FINISHED
 
     def result(self, timeout: float | None = None) -> Any:
-        return super().result(timeout) if self._partition < 0 else delivered(self._partition, self._offset)
+        return super().result(timeout) if self._partition < 0 else delivered(self._partition, self.sent)
 
     def exception(self, timeout: float | None = None) -> BaseException | None:
         return self._exception if self._state == FINISHED else super().exception(timeout)
@@ -116,16 +124,6 @@ class Pending(Future):  # type: ignore[type-arg]
 
     def record(self, number: int) -> Record:
         return record_of(self.sent)
-
-    def keep(self, number: int, partition: int, offset: int) -> bool:
-        """Has the report of a record that was delivered, where nobody is to be told: whether it has. The caller has `keeping`."""
-        if self._partition == WATCHED:
-            return False
-        self.sent = b""
-        self._offset = offset
-        self._state = FINISHED
-        self._partition = partition
-        return True
 
     def tell(self, number: int, report: Report) -> None:
         sent, self.sent = self.sent, b""
@@ -143,9 +141,6 @@ class Single:
 
     def record(self, number: int) -> Record:
         return record_of(self.sent)
-
-    def keep(self, number: int, partition: int, offset: int) -> bool:
-        return False
 
     def tell(self, number: int, report: Report) -> None:
         tell(self._future, report, self.sent)
@@ -240,21 +235,16 @@ class Many:
 
 
 class Part:
-    """Those of many values that one call accepted, for a partition."""
+    """Those of many values that one call accepted, for a partition, from this number on."""
 
-    def __init__(self, many: Many, first: int, count: int) -> None:
-        self.numbers = range(first, first + count)
-        self.untold = count
+    def __init__(self, many: Many, first: int) -> None:
         self._many = many
         self._shift = many.at - first  # From a number to the place among the many.
 
     def record(self, number: int) -> Record:
         return self._many.record(number + self._shift)
 
-    def keep(self, number: int, partition: int, offset: int) -> bool:
-        return self.keep_run(number, partition, offset, 1) == 1
-
-    def keep_run(self, number: int, partition: int, offset: int, count: int) -> int:
+    def keep(self, number: int, partition: int, offset: int, count: int) -> int:
         return self._many.keep(number + self._shift, count, delivered(partition, offset))
 
     def tell(self, number: int, report: Report) -> None:

@@ -123,18 +123,17 @@ class Host:
             self._waker.send(b"\0")
 
     def _send_off(self) -> None:
-        """What was accepted goes out. The first since the thread fell asleep does so without waking it, which is faster."""
+        """What was accepted goes out. The first since the thread fell asleep does so without waking it, which is faster; for more the
+        thread is woken, so that they are accepted together."""
         is_first, self._is_helped = not self._is_helped, True
-        try:
-            if is_first:
+        if is_first:
+            try:
                 self._write_all()
-            elif not self.core.may_be_due:
-                return
-            sleep = self._until - time.monotonic()
-            if (is_first and sleep <= MOMENT) or sleep <= self._wait():
-                return  # It wakes in time.
-        except Exception:
-            pass  # The thread meets it too, and tells it.
+                sleep = self._until - time.monotonic()
+                if sleep <= MOMENT or sleep <= self._wait():
+                    return  # It wakes in time.
+            except Exception:
+                pass  # The thread meets it too, and tells it.
         self._wake()
 
     def _look_up(self, connection: Connection) -> None:

@@ -5,13 +5,15 @@ from __future__ import annotations
 import struct
 from collections import defaultdict
 from itertools import groupby
-from typing import Any, Iterator, Sequence, Tuple, Union
+from typing import Any, Iterable, Iterator, List, Optional, Sequence, Tuple, Union
 
-from ._futures import DELIVERED, Many, Part, Pending, Single, delivered, keeping
+from ._futures import ALONE, Many, Part, Pending, Single, delivered, keeping
 from ._values import ADVICE, Outcome, Report
 
 REPORT = struct.Struct("=QqII")  # kp_report: the number, the detail, the partition and the outcome.
+KIND, BOTH = struct.Struct("=Q"), struct.Struct("=II")  # Of a report its partition and its outcome.
 OUTCOMES = tuple(Outcome)
+TOLD = 1024  # So many places of records that were told of a line has at least, and more than others, before it lets go of them.
 
 One = Union[Pending, Single]
 Owner = Union[One, Part]
@@ -23,93 +25,124 @@ def goes_up(values: list[int]) -> bool:
     return values == list(range(values[0], values[0] + len(values)))
 
 
+class Line:
+    """A partition's records in the order of their numbers: who owns each, and nobody once it has its report."""
+
+    __slots__ = ("owners", "_first", "_told")
+
+    def __init__(self) -> None:
+        self.owners: List[Optional[Owner]] = []
+        self._first = 0  # The number of the first.
+        self._told = 0  # So many in front have their report, and then comes one that has not.
+
+    @property
+    def count(self) -> int:
+        """How many there ever were."""
+        return self._first + len(self.owners)
+
+    @property
+    def oldest(self) -> int:
+        """The number of the oldest that is open, or of the next."""
+        return self._first + self._told
+
+    def take(self, number: int, count: int) -> List[Any]:
+        """Who owned so many records from this number on."""
+        owners, place = self.owners, number - self._first
+        taken = owners[place : place + count]
+        owners[place : place + count] = [None] * count
+        if place == self._told:
+            told, length = place + count, len(owners)
+            while told < length and owners[told] is None:
+                told += 1
+            if told > TOLD and 2 * told > length:
+                del owners[:told]
+                self._first += told
+                told = 0
+            self._told = told
+        return taken
+
+
 class Open:
     """By partition and number, who owns each record that was accepted and has no report."""
 
     def __init__(self) -> None:
         self.records = 0  # How many there are.
-        self._counts: defaultdict[int, int] = defaultdict(int)  # By partition, how many were accepted.
-        self._ones: defaultdict[int, dict[int, One]] = defaultdict(dict)  # In the order of their numbers.
-        self._parts: dict[int, list[Part]] = {}
+        self._lines: defaultdict[int, Line] = defaultdict(Line)
 
     def put(self, partition: int, ones: Sequence[One]) -> None:
         """The next records of the partition are theirs."""
-        owners = self._ones[partition]
-        for number, one in enumerate(ones, self._add(partition, len(ones))):
-            owners[number] = one
+        self._lines[partition].owners += ones
+        self.records += len(ones)
 
     def put_part(self, partition: int, many: Many, count: int) -> None:
         """So many of the next records of the partition are those of many values."""
-        self._parts.setdefault(partition, []).append(Part(many, self._add(partition, count), count))
-
-    def _add(self, partition: int, count: int) -> int:
-        first = self._counts[partition]
-        self._counts[partition] += count
+        line = self._lines[partition]
+        line.owners += [Part(many, line.count)] * count
         self.records += count
-        return first
 
     def counts(self) -> dict[int, int]:
         """By partition, how many were accepted up to now."""
-        return dict(self._counts)
+        return {partition: line.count for partition, line in self._lines.items()}
 
     def is_past(self, counts: dict[int, int]) -> bool:
         """Whether none is open that was accepted before these counts."""
-        return all(first >= counts.get(partition, 0) for partition, first in self._firsts())
-
-    def _firsts(self) -> Iterator[tuple[int, int]]:
-        for partition, ones in self._ones.items():
-            if ones:
-                yield partition, next(iter(ones))
-        for partition, parts in self._parts.items():
-            yield partition, parts[0].numbers.start
+        return all(line.oldest >= counts.get(partition, 0) for partition, line in self._lines.items())
 
     def take(self, reports: memoryview, keeps: bool) -> list[Telling]:
         """Takes out the records that these reports are of. Owners keep their reports, where they may; the others are to be told."""
         left: list[Telling] = []
-        ones = self._ones
         self.records -= len(reports) // REPORT.size
+        numbers, offsets, kinds = (reports.cast(kind)[at::3].tolist() for at, kind in enumerate("QqQ"))
+        start = 0
         with keeping:
-            several = self._take_runs(reports) if keeps and self._parts else REPORT.iter_unpack(reports)
-            for number, detail, partition, code in several:
-                owner: Owner | None = ones[partition].pop(number, None)
-                if owner is None:
-                    owner = self._take_from(self._part_of(partition, number), partition, 1)
-                if code != 0:
-                    outcome = OUTCOMES[code]
-                    left.append((owner, number, Report(partition, None, outcome, ADVICE[outcome], detail)))
-                elif not (keeps and owner.keep(number, partition, detail)):
-                    left.append((owner, number, delivered(partition, detail)))
+            for kind, same in groupby(kinds):
+                stop = start + len(list(same))
+                partition, code = BOTH.unpack(KIND.pack(kind))
+                outcome = OUTCOMES[code]
+                for first, count in runs(numbers, offsets, start, stop):
+                    number, offset = numbers[first], offsets[first]
+                    owners = self._lines[partition].take(number, count)
+                    if outcome is not Outcome.DELIVERED:
+                        left += failed(owners, number, partition, outcome, offsets[first : first + count])
+                    elif keeps:
+                        left += keep(owners, number, partition, offset)
+                    else:
+                        left += told(owners, number, partition, offset, range(count))
+                start = stop
         return left
 
-    # ---- many values
 
-    def _part_of(self, partition: int, number: int) -> Part | None:
-        return next((part for part in self._parts.get(partition, ()) if number in part.numbers), None)
+def runs(numbers: list[int], offsets: list[int], start: int, stop: int) -> Iterator[tuple[int, int]]:
+    """The reports of these places, many at a time where their numbers and offsets go up by one: places, and how many."""
+    if stop == start + 1 or goes_up(numbers[start:stop]) and goes_up(offsets[start:stop]):
+        yield start, stop - start
+    else:
+        yield from ((place, 1) for place in range(start, stop))
 
-    def _take_from(self, part: Part | None, partition: int, count: int) -> Part:
-        """Takes so many values out of the part."""
-        assert part is not None
-        part.untold -= count
-        if part.untold == 0:
-            self._parts[partition].remove(part)
-            if not self._parts[partition]:
-                del self._parts[partition]
-        return part
 
-    def _take_runs(self, reports: memoryview) -> Iterator[tuple[Any, ...]]:
-        """Takes out values that were delivered one after the other, whose reports a part keeps at once, and gives the others."""
-        numbers, offsets, kinds = (reports.cast(kind)[at::3].tolist() for at, kind in enumerate("QqQ"))
-        start = end = 0
-        for _, same in groupby(kinds):
-            end += len(list(same))
-            while start < end:
-                number, offset, partition, code = REPORT.unpack_from(reports, REPORT.size * start)
-                part, stop = self._part_of(partition, number), end
-                if part is not None:
-                    stop = min(end, start + part.numbers.stop - number)
-                    if OUTCOMES[code] is DELIVERED and goes_up(numbers[start:stop]) and goes_up(offsets[start:stop]):
-                        kept = part.keep_run(number, partition, offset, stop - start)
-                        self._take_from(part, partition, kept)
-                        start += kept
-                yield from REPORT.iter_unpack(reports[REPORT.size * start : REPORT.size * stop])
-                start = stop
+def failed(owners: list[Owner], number: int, partition: int, outcome: Outcome, details: list[int]) -> list[Telling]:
+    """What is to be told of records that were not delivered."""
+    reports = [Report(partition, None, outcome, ADVICE[outcome], detail) for detail in details]
+    return [(owner, number + k, report) for k, (owner, report) in enumerate(zip(owners, reports))]
+
+
+def told(owners: list[Owner], number: int, partition: int, offset: int, places: Iterable[int]) -> list[Telling]:
+    """What is to be told of those records at these places that were delivered to offsets that go up by one."""
+    return [(owners[place], number + place, delivered(partition, offset + place)) for place in places]
+
+
+def keep(owners: list[Any], number: int, partition: int, offset: int) -> list[Telling]:
+    """Has owners keep the reports of records that were delivered to offsets that go up by one. What is to be told of the others. The
+    caller has `keeping`."""
+    places: Iterable[int]
+    if type(owners[0]) is Part and owners[-1] is owners[0]:
+        places = range(owners[0].keep(number, partition, offset, len(owners)), len(owners))
+    else:
+        places = others = []
+        for place, owner in enumerate(owners):
+            if type(owner) is Pending and owner._partition == ALONE:
+                owner.sent = offset + place
+                owner._partition = partition
+            elif not (type(owner) is Part and owner.keep(number + place, partition, offset + place, 1)):
+                others.append(place)
+    return told(owners, number, partition, offset, places)

@@ -32,6 +32,7 @@ class Producer:
         self._core = Core(bootstrap, topic, client_id, on_report, settings)
         self._host = Host(self._core, ssl, connect_timeout)
         self._max_block = max_block
+        self._put = self._core.queue.put
         self._unclosed = weakref.finalize(self, self._host.abandon)
         self._host.thread.start()
 
@@ -46,7 +47,7 @@ class Producer:
         """
         is_more = key is not None or partition is not None or timestamp is not None or headers
         report = Pending(Record(value, key, partition, headers, timestamp) if is_more or type(value) is not bytes else value)
-        if not self._core.queue.put(report):
+        if not self._put(report):
             self._core.check()
             self._host.accept(self._core.send, report, self._max_block)
         return report

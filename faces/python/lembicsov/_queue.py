@@ -3,12 +3,12 @@
 from __future__ import annotations
 
 import threading
-import time
+from time import time
 
 from ._given import moment
 from ._open import One
 
-LENGTH, SIZE = 256, 1024  # How many values there are at most, and how many bytes one of them has.
+LENGTH, SIZE = 1024, 1024  # How many values there are at most, and how many bytes one of them has.
 
 
 class Queue:
@@ -20,6 +20,7 @@ class Queue:
         self._room = 0  # How many there may be: none where it is closed.
         self._records: list[One] = []
         self._lock = threading.Lock()
+        self._acquire, self._release = self._lock.acquire, self._lock.release  # They take half the time of `with`.
 
     def __len__(self) -> int:
         return len(self._records)
@@ -27,16 +28,16 @@ class Queue:
     def put(self, record: One) -> bool:
         """Puts in a record that is a small value alone, while the moment lasts and there is room: whether it has."""
         sent = record.sent
-        if self._room == 0 or type(sent) is not bytes or len(sent) > SIZE:
+        if type(sent) is not bytes or len(sent) > SIZE:
             return False
-        self._lock.acquire()  # This takes half the time of `with`.
+        self._acquire()
         try:
-            is_put = len(self._records) < self._room and time.time() < self._until
-            if is_put:
-                self._records.append(record)
+            if len(self._records) >= self._room or time() >= self._until:
+                return False
+            self._records.append(record)
+            return True
         finally:
-            self._lock.release()
-        return is_put
+            self._release()
 
     def open(self, room: int) -> None:
         """Takes values of this moment, so many at most. It is empty."""
