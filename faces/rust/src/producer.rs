@@ -90,15 +90,18 @@ impl Producer {
         }
         let mut inner = shared.lock();
         inner.core.flush();
-        shared.ring(&mut inner);
         inner.flushing += 1;
+        shared.look(inner);
         let is_flushed = |it: &mut Inner| !it.is_telling && it.core.state().is_flushed;
-        let mut inner = shared.wait_until(inner, millis(timeout), |it| it.has_ended || is_flushed(it));
+        let mut inner = shared.wait_until(shared.lock(), shared.until(millis(timeout)), is_flushed);
         inner.flushing -= 1;
-        if is_flushed(&mut inner) {
-            return Ok(());
+        let flushed = if is_flushed(&mut inner) { Ok(()) } else { inner.all_told() };
+        if inner.flushing == 0 && inner.held_back > 0 {
+            // Those that are held back have flushed nothing meanwhile.
+            inner.news += 1;
+            shared.stir(inner);
         }
-        inner.all_told()
+        flushed
     }
 
     /// Accepts nothing more, and waits until all that was accepted has its report, for so long at most: what is left then is given
@@ -115,14 +118,15 @@ impl Producer {
         let mut inner = shared.lock();
         inner.core.close();
         inner.is_closed = true;
-        shared.ring(&mut inner);
-        shared.notify();
-        let mut inner = shared.wait_until(inner, millis(timeout), |it| it.has_ended);
+        inner.news += 1;
+        shared.ring(inner);
+        shared.stir(shared.lock());
+        let mut inner = shared.wait_until(shared.lock(), shared.until(millis(timeout)), |_| false);
         let closed = inner.all_told();
-        if !shared.is_host() {
+        if !shared.is_within() {
             inner.gives_up = true;
-            shared.ring(&mut inner);
-            drop(shared.wait_until(inner, u64::MAX, |it| it.has_ended));
+            shared.ring(inner);
+            drop(shared.wait_until(shared.lock(), u64::MAX, |_| false));
             self.owner.join();
         }
         closed
@@ -152,7 +156,7 @@ impl Drop for Owner {
             mem::forget(self.host.get_mut().map(Option::take));
         } else {
             self.shared.abandon();
-            if !self.shared.is_host() {
+            if !self.shared.is_within() {
                 self.join();
             }
         }
