@@ -30,9 +30,9 @@ impl Host {
         while let Some(inner) = self.call_back(&shared) {
             let is_quiet = seen.replace(inner.moves) == Some(inner.moves);
             if inner.seat == Seat::Vacant && (is_quiet || inner.needs_host()) {
-                shared.serve(inner, u64::MAX, |it| {
+                drop(shared.serve(inner, u64::MAX, |it| {
                     !it.warnings.is_empty() || if it.has_callback { !it.told.is_empty() } else { it.waiting > 0 }
-                });
+                }));
                 seen = None; // Those that wait have a moment to take the seat.
             } else {
                 shared.stand_by(inner, is_quiet);

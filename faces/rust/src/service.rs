@@ -46,6 +46,7 @@ pub(crate) struct Service {
 }
 
 /// What the library's calls of a turn came to.
+#[derive(Default)]
 pub(crate) struct Called {
     /// Somebody had rung, and nothing could be sent.
     pub(crate) was_in_vain: bool,
@@ -126,7 +127,7 @@ impl Service {
         };
     }
 
-    /// Writes what was taken, as far as sockets take it.
+    /// Closes what is to be closed, and writes what was taken, as far as sockets take it.
     pub(crate) fn write(&mut self) {
         self.closing.clear();
         for line in &mut self.lines {
@@ -155,9 +156,14 @@ impl Service {
         self.opened().any(Open::is_busy) || self.lines.iter().any(|it| matches!(it, Line::Failed))
     }
 
-    /// Whether a socket takes no more for now.
+    /// Whether there is something to write, which after [`Service::write`] waits until its socket takes more.
     pub(crate) fn wants_to_write(&self) -> bool {
         self.opened().any(Open::wants_to_write)
+    }
+
+    /// Whether there are connections to close, which [`Service::write`] does.
+    pub(crate) fn is_closing(&self) -> bool {
+        !self.closing.is_empty()
     }
 
     /// Whether the library may have more to send, which could be written at once.

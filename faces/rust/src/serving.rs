@@ -1,11 +1,11 @@
 //! Who serves the sockets of a producer, and how threads wait and wake each other.
 //!
-//! One thread serves at a time: it has the *seat*. It makes one turn after the other, in which it reads what has come, makes the
-//! library's calls and writes, and between two turns it sleeps in `poll`. Threads that wait, in `reports`, `flush`, `close` or a
-//! `send` that is held back, serve themselves where the seat is vacant, so that an answer wakes whoever waits for it and nobody
-//! else. The host's thread serves where nobody waits, and makes all callbacks; where reports go to a callback, it alone serves. A
-//! sender writes itself what is to go out now, where the thread that has the seat sleeps, or nobody has it: full batches, and of
-//! records that don't linger the first since a turn was made. For those that follow it rings, so that they go out many at a time.
+//! One thread serves at a time: it has the *seat*. It sleeps in `poll`, makes a turn, in which it reads what has come, makes the
+//! library's calls and writes, and sleeps again. Threads that wait, in `reports`, `flush`, `close` or a `send` that is held back,
+//! serve themselves where the seat is vacant, so that an answer wakes whoever waits for it and nobody else. The host's thread
+//! serves where nobody waits, and makes all callbacks; where reports go to a callback, it alone serves. A sender writes itself what
+//! is to go out now, where the thread that has the seat sleeps, or nobody has it: full batches, and of records that don't linger
+//! the first since a turn was made. For those that follow it rings, so that they go out many at a time.
 //!
 //! # Locks
 //!
@@ -31,8 +31,12 @@
 //!
 //! - *There is something to look at* ([`Shared::look`], [`Shared::ring`]), *and who serves goes to sleep* (`sleep`). Where the
 //!   first comes first, it finds the seat awake and sets `is_rung`, which who serves sees, and makes another turn. Where the second
-//!   comes first, the seat is asleep, and the bell is rung, whose byte ends `poll`, also one that has not begun. Once it was rung
-//!   for, and nothing could be sent, who serves rests: it stays awake to the eyes of others, for a millisecond at most.
+//!   comes first, the seat is asleep, and the bell is rung, whose byte ends `poll`, also one that has not begun. Where `poll` has
+//!   ended, and the turn's calls are not made, the seat still seems asleep: they see what was rung for, and the byte ends the next
+//!   `poll`. Once it was rung for, and nothing could be sent, who serves rests: it stays awake to the eyes of others, for a
+//!   millisecond at most.
+//! - *A thread takes the seat, and goes to sleep before its first turn.* That is one step. What there is to do is told by
+//!   `is_rung`, by `wakes_at` or by `poll`: who left the seat, and left something to do, has rung.
 //! - *A sender writes itself, and who serves sleeps on.* What it leaves it rings for: a socket that takes no more, one that has
 //!   failed, and whatever is due before `wakes_at`, when `poll` ends by itself. What can't be sent now waits for an answer, a
 //!   connection or a moment, each of which ends `poll`.
@@ -132,6 +136,7 @@ struct Sent {
 }
 
 /// What a turn has come to.
+#[derive(Default)]
 struct Turn {
     called: Called,
     /// There is something to do at once.
@@ -240,8 +245,7 @@ impl Shared {
     pub(crate) fn wait_until<'a>(&'a self, mut inner: Held<'a>, until: u64, is_so: impl Fn(&mut Inner) -> bool) -> Held<'a> {
         while !inner.has_ended() && !is_so(&mut inner) && inner.core.now() < until {
             if inner.seat == Seat::Vacant && !inner.has_callback {
-                self.serve(inner, until, &is_so);
-                inner = self.lock();
+                inner = self.serve(inner, until, &is_so);
             } else {
                 inner = self.pause(inner, until);
             }
@@ -277,47 +281,29 @@ impl Shared {
     }
 
     /// Takes the seat, which is vacant, and serves until this is so, or nothing more comes, or this moment.
-    pub(crate) fn serve<'a>(&'a self, mut inner: Held<'a>, until: u64, is_so: impl Fn(&mut Inner) -> bool) {
+    pub(crate) fn serve<'a>(&'a self, mut inner: Held<'a>, until: u64, is_so: impl Fn(&mut Inner) -> bool) -> Held<'a> {
         inner.seat = Seat::Awake;
         inner.moves += 1;
         let ending = Ending(self);
-        let (mut polled, mut is_left) = (Vec::new(), false);
-        while !inner.is_over {
-            drop(inner);
-            let turn = self.turn(&mut polled);
-            inner = self.lock();
-            inner.is_over |= turn.called.is_last;
-            if !is_so(&mut inner) && inner.core.now() < until {
-                inner = self.sleep(inner, &turn, until, &mut polled);
-            } else if !inner.is_rung || turn.called.was_in_vain {
-                // What others have rung for meanwhile is sent, as far as it can be.
-                is_left = turn.is_busy || turn.wants_to_write;
+        let (mut turn, mut polled) = (Turn::default(), Vec::new());
+        loop {
+            self.sleep(inner, &turn, until, &mut polled);
+            (turn, inner) = self.turn(&mut polled);
+            let is_done = inner.is_over || is_so(&mut inner) || until <= inner.core.now();
+            // What others have rung for meanwhile is sent first, as far as it can be.
+            if is_done && (!inner.is_rung || turn.called.was_in_vain || inner.is_over) {
                 break;
             }
         }
         mem::forget(ending);
-        self.vacate(inner, is_left);
-    }
-
-    /// Reads, makes the library's calls and writes, and lists what is to be waited for.
-    fn turn(&self, polled: &mut Vec<Polled>) -> Turn {
-        let _within = self.enter();
-        let mut service = self.service();
-        service.hear(polled, self.now());
-        let called = service.call(&mut self.lock());
-        service.write();
-        if called.is_last {
-            service.end();
-        }
-        service.list(polled);
-        Turn { called, is_busy: service.is_busy(), wants_to_write: service.wants_to_write() }
+        self.vacate(inner, turn.is_busy || turn.wants_to_write)
     }
 
     /// Waits in `poll` until there is something to do, or this moment.
-    fn sleep<'a>(&'a self, mut inner: Held<'a>, turn: &Turn, until: u64, polled: &mut [Polled]) -> Held<'a> {
+    fn sleep(&self, mut inner: Held<'_>, turn: &Turn, until: u64, polled: &mut Vec<Polled>) {
         let mut left = inner.wakes_at.min(until).saturating_sub(inner.core.now());
         let was_in_vain = turn.called.was_in_vain;
-        if turn.is_busy || inner.is_over || (inner.is_rung && !was_in_vain) {
+        if turn.is_busy || (inner.is_rung && !was_in_vain) {
             left = 0;
         } else if was_in_vain {
             left = left.min(REST_MS);
@@ -333,22 +319,48 @@ impl Shared {
         if has_warnings {
             self.vacancy.notify_one();
         }
+        if polled.is_empty() {
+            self.service().list(polled);
+        }
         ffi::wait_for(polled, left);
         if polled[0].may_be_read() {
             self.bell.quiet();
         }
+    }
+
+    /// Reads, makes the library's calls and writes, and lists what is to be waited for.
+    fn turn<'a>(&'a self, polled: &mut Vec<Polled>) -> (Turn, Held<'a>) {
+        let _within = self.enter();
+        let mut service = self.service();
+        service.hear(polled, self.now());
+        service.list(polled);
         let mut inner = self.lock();
         inner.seat = Seat::Awake;
-        inner
+        let called = if inner.is_over { Called::default() } else { service.call(&mut inner) };
+        if called.is_last || service.wants_to_write() || service.is_closing() {
+            drop(inner);
+            service.write();
+            if called.is_last {
+                service.end();
+            }
+            service.list(polled);
+            inner = self.lock();
+            inner.is_over |= called.is_last;
+        }
+        let turn = Turn { called, is_busy: service.is_busy(), wants_to_write: service.wants_to_write() };
+        (turn, inner)
     }
 
     /// Leaves the seat to those that wait, or to the host, which looks at once where something is left to do.
-    fn vacate(&self, mut inner: Held<'_>, is_left: bool) {
+    fn vacate<'a>(&'a self, mut inner: Held<'a>, is_left: bool) -> Held<'a> {
         (inner.seat, inner.is_new) = (Seat::Vacant, false);
         inner.moves += 1;
         inner.is_rung |= is_left;
         let (is_asleep, is_waited_for) = (mem::take(&mut inner.is_host_asleep), inner.waiting > 0);
         let is_to_look = is_left || is_asleep || inner.is_over || !inner.warnings.is_empty();
+        if !is_waited_for && !is_to_look {
+            return inner;
+        }
         drop(inner);
         if is_waited_for {
             self.progress.notify_all();
@@ -356,5 +368,6 @@ impl Shared {
         if is_to_look {
             self.vacancy.notify_one();
         }
+        self.lock()
     }
 }

@@ -120,6 +120,28 @@ fn two_threads_flush_while_others_send() {
 }
 
 #[test]
+fn a_full_buffer_is_flushed_beside_other_flushes() {
+    let broker = Broker::start(2, 1, "");
+    let producer = broker.builder().linger(LONG).delivery_timeout(2 * LONG).buffer_memory(3000).build().unwrap();
+    let begun = Instant::now();
+    let send = |thread, producer: Producer| {
+        let send = |number| {
+            let (record, value) = record(thread, number);
+            let ticket = producer.send(record).unwrap();
+            if number % (7 + thread) == 0 {
+                producer.flush(LONG).unwrap();
+            }
+            (ticket, value)
+        };
+        (0..1000).map(send).collect::<Sent>()
+    };
+    let sent = join(spawn(4, &producer, send));
+    producer.close(LONG).unwrap();
+    assert!(begun.elapsed() < LONG / 2, "a send has waited for records that linger");
+    check(&sent, &producer.reports().collect::<Vec<_>>(), &broker.end());
+}
+
+#[test]
 fn a_callback_sends_each_next_record() {
     const LAST: u64 = 5000;
     let broker = Broker::start(1, 1, "");
