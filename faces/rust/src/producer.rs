@@ -6,7 +6,7 @@ use std::collections::VecDeque;
 use std::mem;
 use std::sync::{Arc, Mutex, PoisonError};
 use std::thread::JoinHandle;
-use std::time::{Duration, SystemTime, UNIX_EPOCH};
+use std::time::Duration;
 
 /// A producer of one topic. It is a handle, to be cloned over threads.
 ///
@@ -46,8 +46,9 @@ impl Producer {
     /// The record is not sent, and comes back, with the reason.
     pub fn send(&self, record: Record) -> Result<Ticket, SendError> {
         let (spans, headers) = record.spelled_headers();
-        let timestamp_ms = record.timestamp_ms.unwrap_or_else(timestamp_now);
-        let sent = self.shared().accept(record.size(), |core| core.send(&record, &spans, &headers, timestamp_ms));
+        let sent = self
+            .shared()
+            .accept(record.size(), |core, now| core.send(&record, &spans, &headers, record.timestamp_ms.unwrap_or(now)));
         sent.map_err(|kind| SendError { record, kind })
     }
 
@@ -60,10 +61,9 @@ impl Producer {
     pub fn send_batch(&self, partition: Option<u32>, values: &[&[u8]]) -> Result<(), BatchError> {
         let bytes = values.concat();
         let lengths: Vec<u64> = values.iter().map(|it| it.len() as u64).collect();
-        let timestamp_ms = timestamp_now();
         let (mut accepted, mut at) = (0, 0);
-        let sent = self.shared().accept(bytes.len(), |core| {
-            let (count, sent) = core.send_batch(partition, &bytes[at..], &lengths[accepted..], timestamp_ms);
+        let sent = self.shared().accept(bytes.len(), |core, now| {
+            let (count, sent) = core.send_batch(partition, &bytes[at..], &lengths[accepted..], now);
             at += values[accepted..][..count].iter().map(|it| it.len()).sum::<usize>();
             accepted += count;
             sent
@@ -161,12 +161,6 @@ impl Drop for Owner {
             }
         }
     }
-}
-
-/// Milliseconds since the beginning of 1970.
-fn timestamp_now() -> i64 {
-    let since = SystemTime::now().duration_since(UNIX_EPOCH).unwrap_or_default();
-    i64::try_from(since.as_millis()).unwrap_or(i64::MAX)
 }
 
 /// Reports, which are waited for: see [`Producer::reports`].

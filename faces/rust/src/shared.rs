@@ -9,16 +9,24 @@ use std::collections::VecDeque;
 use std::fmt;
 use std::mem;
 use std::sync::{Arc, Condvar, Mutex, MutexGuard, PoisonError, Weak};
-use std::time::{Duration, Instant};
+use std::time::{Duration, Instant, SystemTime, UNIX_EPOCH};
 
 /// A duration in whole milliseconds, as the library counts.
 pub(crate) fn millis(duration: Duration) -> u64 {
     u64::try_from(duration.as_millis()).unwrap_or(u64::MAX)
 }
 
+/// Milliseconds since the beginning of 1970.
+fn timestamp_now() -> i64 {
+    let since = SystemTime::now().duration_since(UNIX_EPOCH).unwrap_or_default();
+    i64::try_from(since.as_millis()).unwrap_or(i64::MAX)
+}
+
 /// What is under the producer's lock.
 pub(crate) struct Inner {
     pub(crate) core: Core,
+    /// The timestamp of what is accepted at this moment, so that the system's clock is asked for it once a millisecond.
+    stamp: (u64, i64),
     /// Reports go to a callback, by the host.
     pub(crate) has_callback: bool,
     /// Reports that nobody has fetched, or that the callback was not given.
@@ -65,6 +73,7 @@ impl Inner {
     fn new(core: Core, has_callback: bool) -> Inner {
         Inner {
             core,
+            stamp: (u64::MAX, 0),
             has_callback,
             told: VecDeque::new(),
             is_telling: false,
@@ -85,6 +94,15 @@ impl Inner {
             gives_up: false,
             is_over: false,
         }
+    }
+
+    /// The timestamp of what is accepted now.
+    fn timestamp(&mut self) -> i64 {
+        let now = self.core.now();
+        if self.stamp.0 != now {
+            self.stamp = (now, timestamp_now());
+        }
+        self.stamp.1
     }
 
     /// Whether nothing more comes.
@@ -199,15 +217,19 @@ impl Shared {
 
     // ---- records and reports
 
-    /// Makes a call that accepts about so many bytes, and again for `max_block` where it is refused for a while.
-    pub(crate) fn accept<T>(&self, bytes: usize, mut call: impl FnMut(&mut Core) -> Result<T, i32>) -> Result<T, SendErrorKind> {
+    /// Makes a call that accepts about so many bytes, with the timestamp of the first time, and again for `max_block` where it is
+    /// refused for a while.
+    pub(crate) fn accept<T>(
+        &self, bytes: usize, mut call: impl FnMut(&mut Core, i64) -> Result<T, i32>,
+    ) -> Result<T, SendErrorKind> {
         if self.is_forked() {
             return Err(SendErrorKind::Forked);
         }
-        let mut until = None;
+        let (mut timestamp_ms, mut until) = (None, None);
         loop {
             let mut inner = self.lock();
-            let kind = match call(&mut inner.core) {
+            let timestamp_ms = *timestamp_ms.get_or_insert_with(|| inner.timestamp());
+            let kind = match call(&mut inner.core, timestamp_ms) {
                 Ok(accepted) => {
                     self.look_at(inner, bytes as u64);
                     return Ok(accepted);
