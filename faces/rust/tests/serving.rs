@@ -26,6 +26,15 @@ fn spawn<T: Send + 'static>(count: usize, producer: &Producer, act: fn(usize, Pr
     (0..count).map(own).map(|(number, producer)| thread::spawn(move || act(number, producer))).collect()
 }
 
+/// Whether this comes about soon.
+fn comes(is_so: impl Fn() -> bool) -> bool {
+    let until = Instant::now() + 5 * SECOND;
+    while !is_so() && Instant::now() < until {
+        thread::sleep(Duration::from_millis(1));
+    }
+    is_so()
+}
+
 fn join<T>(threads: Vec<JoinHandle<Vec<T>>>) -> Vec<T> {
     threads.into_iter().flat_map(|it| it.join().unwrap()).collect()
 }
@@ -101,6 +110,42 @@ fn threads_wait_while_others_send_now_and_then() {
 }
 
 #[test]
+fn what_nobody_waits_for_is_heard_too() {
+    let broker = Broker::start(1, 1, "");
+    let producer = broker.builder().build().unwrap();
+    for number in 0..20 {
+        send_and_wait(&producer, 0, number);
+        let wait = Duration::from_millis(number as u64);
+        assert_eq!(producer.reports().timeout(wait).next(), None);
+        producer.send(Record::new("a")).unwrap();
+        assert!(comes(|| producer.open_records() == 0));
+        assert!(producer.reports().next().is_some());
+    }
+    producer.close(LONG).unwrap();
+}
+
+#[test]
+fn reports_that_are_put_back_go_to_those_that_wait() {
+    let broker = Broker::start(1, 1, "");
+    let producer = broker.builder().build().unwrap();
+    for _ in 0..10 {
+        for _ in 0..4 {
+            producer.send(Record::new("a")).unwrap();
+        }
+        producer.flush(LONG).unwrap();
+        let mut fetched = producer.reports();
+        assert!(fetched.next().is_some());
+        let waiting = spawn(3, &producer, |_, producer| producer.reports().timeout(LONG).next());
+        thread::sleep(SECOND / 50);
+        let begun = Instant::now();
+        drop(fetched);
+        assert!(waiting.into_iter().all(|it| it.join().unwrap().is_some()));
+        assert!(begun.elapsed() < 5 * SECOND);
+    }
+    producer.close(LONG).unwrap();
+}
+
+#[test]
 fn two_threads_flush_while_others_send() {
     let broker = Broker::start(3, 3, "");
     let producer = broker.builder().linger(SECOND / 200).buffer_memory(300_000).build().unwrap();
@@ -170,8 +215,10 @@ fn the_broker_is_away_while_a_thread_waits() {
     let waiting = spawn(2, &producer, |_, producer| producer.reports().collect::<Vec<_>>());
     let mut sent = send_all(&producer, 1000);
     for _ in 0..5 {
+        said.lock().unwrap().clear();
         relay.leave();
         sent.extend(send_all(&producer, 100));
+        assert!(comes(|| said.lock().unwrap().iter().any(|it| it.contains("has ended"))), "the host tells what others see");
         thread::sleep(SECOND / 4);
         relay.come_back();
         sent.extend(send_all(&producer, 1000));
@@ -179,7 +226,6 @@ fn the_broker_is_away_while_a_thread_waits() {
     }
     producer.close(LONG).unwrap();
     check(&sent, &join(waiting), &broker.end());
-    assert!(said.lock().unwrap().iter().any(|it| it.contains("has ended")), "the host tells what a thread that waits has seen");
 }
 
 #[test]
