@@ -1,8 +1,10 @@
 //! How a producer is built.
 
+use crate::bell::Bell;
 use crate::ffi::{self, Config, Core};
 use crate::host::{Host, OnReport};
-use crate::shared::{millis, tell_at_exit, OnWarning, Shared};
+use crate::service::Service;
+use crate::shared::{millis, tell_at_exit, OnWarning, Settings, Shared};
 use crate::{Connect, Producer, Report, Tcp};
 use std::collections::hash_map::RandomState;
 use std::fmt;
@@ -99,8 +101,8 @@ impl Builder {
         Builder { connect_timeout: connect_timeout.min(CONNECT_MOST), ..self }
     }
 
-    /// Has each report given to this callback, by the producer's thread, and not to [`Producer::reports`]. While it runs, nothing is
-    /// sent or heard.
+    /// Has each report given to this callback, by the producer's thread, and not to [`Producer::reports`]. While it runs, no answer is
+    /// heard.
     pub fn on_report(self, on_report: impl FnMut(Report) + Send + 'static) -> Self {
         Builder { on_report: Some(Box::new(on_report)), ..self }
     }
@@ -132,8 +134,17 @@ impl Builder {
         // The keys of a hash map are random.
         let seed = RandomState::new().build_hasher().finish();
         let core = Core::new(&self.config, &self.topic, &self.client_id, &self.bootstrap, seed).map_err(refused)?;
-        let shared = Shared::new(core, &self.config, self.max_block, self.on_report.is_some(), self.on_warning)?;
-        let host = Host::new(Arc::clone(&shared), connector, self.connect_timeout, self.on_report);
+        let bell = Arc::new(Bell::new()?);
+        let service = Service::new(Arc::new(connector), self.connect_timeout, self.config.request_timeout_ms, Arc::clone(&bell));
+        let settings = Settings {
+            linger_ms: self.config.linger_ms,
+            batch_size: self.config.batch_size,
+            max_block_ms: millis(self.max_block),
+            has_callback: self.on_report.is_some(),
+            on_warning: self.on_warning,
+        };
+        let shared = Shared::new(core, service, bell, settings);
+        let host = Host::new(Arc::clone(&shared), self.on_report);
         let thread = thread::Builder::new().name("lembicsov".into()).spawn(move || host.run())?;
         Ok(Producer::new(shared, thread))
     }

@@ -9,7 +9,8 @@ use std::time::{Duration, Instant};
 /// Makes connections to brokers, by TCP or through whatever else keeps the order of bytes, such as TLS.
 ///
 /// The stream is read until it tells [`WouldBlock`](io::ErrorKind::WouldBlock), so that it may hold bytes back, and it is flushed
-/// after each write, again once its socket takes more where that tells `WouldBlock`.
+/// after each write, again once its socket takes more where that tells `WouldBlock`. Calls come one at a time, from any thread that has
+/// a handle.
 pub trait Connect: Send + Sync + 'static {
     /// A connection.
     type Stream: Read + Write + Send + 'static;
@@ -49,5 +50,46 @@ impl Connect for Tcp {
 
     fn socket(stream: &TcpStream) -> BorrowedFd<'_> {
         stream.as_fd()
+    }
+}
+
+/// A connection, of whatever type.
+pub(crate) trait Stream: Read + Write + Send {
+    fn socket(&self) -> BorrowedFd<'_>;
+}
+
+/// A [`Connect`] of whatever type.
+pub(crate) trait Connector: Send + Sync {
+    fn open(&self, host: &str, port: u16, timeout: Duration) -> io::Result<Box<dyn Stream>>;
+}
+
+impl<C: Connect> Connector for C {
+    fn open(&self, host: &str, port: u16, timeout: Duration) -> io::Result<Box<dyn Stream>> {
+        Ok(Box::new(Connected::<C>(self.connect(host, port, timeout)?)))
+    }
+}
+
+/// What a [`Connect`] has made.
+struct Connected<C: Connect>(C::Stream);
+
+impl<C: Connect> Stream for Connected<C> {
+    fn socket(&self) -> BorrowedFd<'_> {
+        C::socket(&self.0)
+    }
+}
+
+impl<C: Connect> Read for Connected<C> {
+    fn read(&mut self, room: &mut [u8]) -> io::Result<usize> {
+        self.0.read(room)
+    }
+}
+
+impl<C: Connect> Write for Connected<C> {
+    fn write(&mut self, bytes: &[u8]) -> io::Result<usize> {
+        self.0.write(bytes)
+    }
+
+    fn flush(&mut self) -> io::Result<()> {
+        self.0.flush()
     }
 }

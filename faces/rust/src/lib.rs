@@ -8,6 +8,7 @@ compile_error!("LEMBICSOV_LIBRARY_DIR names no folder: it is to be the one that 
 #[cfg(not(target_os = "linux"))]
 compile_error!("the library and the calls of the system in src/ffi.rs are those of Linux");
 
+mod bell;
 mod builder;
 mod connect;
 mod error;
@@ -18,6 +19,8 @@ mod line;
 mod producer;
 mod record;
 mod report;
+mod service;
+mod serving;
 mod shared;
 
 pub use builder::Builder;

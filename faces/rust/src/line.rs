@@ -1,15 +1,15 @@
 //! The connection to a node, and the bytes on their way over it.
 
+use crate::connect::Stream;
 use crate::ffi::Core;
-use std::io::{self, ErrorKind, Read, Write};
+use std::io::{self, ErrorKind};
 
 /// How many bytes are read, and how many are taken of the library, before they are handled.
 const READ: usize = 16 << 10;
 const TAKEN: usize = 64 << 10;
 
 /// What there is of the connection to a node.
-#[derive(Debug)]
-pub(crate) enum Line<S> {
+pub(crate) enum Line {
     None,
     /// A thread makes it, until this moment at most.
     Opening {
@@ -17,15 +17,14 @@ pub(crate) enum Line<S> {
         until: u64,
         address: String,
     },
-    Open(Open<S>),
+    Open(Open),
     /// It could not be made, which the library is to be told.
     Failed,
 }
 
 /// A connection that is open, or has ended, which the library is to be told.
-#[derive(Debug)]
-pub(crate) struct Open<S> {
-    pub(crate) stream: S,
+pub(crate) struct Open {
+    pub(crate) stream: Box<dyn Stream>,
     pub(crate) address: String,
     /// The library knows of it.
     is_known: bool,
@@ -46,8 +45,8 @@ pub(crate) struct Open<S> {
     fault: Option<io::Error>,
 }
 
-impl<S: Read + Write> Open<S> {
-    pub(crate) fn new(stream: S, address: String) -> Open<S> {
+impl Open {
+    pub(crate) fn new(stream: Box<dyn Stream>, address: String) -> Open {
         Open {
             stream,
             address,
@@ -72,9 +71,14 @@ impl<S: Read + Write> Open<S> {
         self.may_have_more
     }
 
+    /// Whether the library may have more to send, which could be written at once.
+    pub(crate) fn may_give_more(&self) -> bool {
+        self.may_give_more && !self.wants_to_write()
+    }
+
     /// Whether there is something to do at once.
     pub(crate) fn is_busy(&self) -> bool {
-        self.may_have_more || self.fault.is_some() || (self.may_give_more && !self.wants_to_write())
+        self.may_have_more || self.fault.is_some() || self.may_give_more()
     }
 
     /// Tells the library what has come of the connection. Where that has ended, why.

@@ -6,7 +6,7 @@ use std::collections::VecDeque;
 use std::mem;
 use std::sync::{Arc, Mutex, PoisonError};
 use std::thread::JoinHandle;
-use std::time::{Duration, SystemTime, UNIX_EPOCH};
+use std::time::Duration;
 
 /// A producer of one topic. It is a handle, to be cloned over threads.
 ///
@@ -46,8 +46,9 @@ impl Producer {
     /// The record is not sent, and comes back, with the reason.
     pub fn send(&self, record: Record) -> Result<Ticket, SendError> {
         let (spans, headers) = record.spelled_headers();
-        let timestamp_ms = record.timestamp_ms.unwrap_or_else(timestamp_now);
-        let sent = self.shared().accept(record.size(), |core| core.send(&record, &spans, &headers, timestamp_ms));
+        let sent = self
+            .shared()
+            .accept(record.size(), |core, now| core.send(&record, &spans, &headers, record.timestamp_ms.unwrap_or(now)));
         sent.map_err(|kind| SendError { record, kind })
     }
 
@@ -60,10 +61,9 @@ impl Producer {
     pub fn send_batch(&self, partition: Option<u32>, values: &[&[u8]]) -> Result<(), BatchError> {
         let bytes = values.concat();
         let lengths: Vec<u64> = values.iter().map(|it| it.len() as u64).collect();
-        let timestamp_ms = timestamp_now();
         let (mut accepted, mut at) = (0, 0);
-        let sent = self.shared().accept(bytes.len(), |core| {
-            let (count, sent) = core.send_batch(partition, &bytes[at..], &lengths[accepted..], timestamp_ms);
+        let sent = self.shared().accept(bytes.len(), |core, now| {
+            let (count, sent) = core.send_batch(partition, &bytes[at..], &lengths[accepted..], now);
             at += values[accepted..][..count].iter().map(|it| it.len()).sum::<usize>();
             accepted += count;
             sent
@@ -90,15 +90,18 @@ impl Producer {
         }
         let mut inner = shared.lock();
         inner.core.flush();
-        shared.ring(&mut inner);
         inner.flushing += 1;
+        shared.look(inner);
         let is_flushed = |it: &mut Inner| !it.is_telling && it.core.state().is_flushed;
-        let mut inner = shared.wait_until(inner, millis(timeout), |it| it.has_ended || is_flushed(it));
+        let mut inner = shared.wait_until(shared.lock(), shared.until(millis(timeout)), is_flushed);
         inner.flushing -= 1;
-        if is_flushed(&mut inner) {
-            return Ok(());
+        let flushed = if is_flushed(&mut inner) { Ok(()) } else { inner.all_told() };
+        if inner.flushing == 0 && inner.held_back > 0 {
+            // Those that are held back have flushed nothing meanwhile.
+            inner.news += 1;
+            shared.stir(inner);
         }
-        inner.all_told()
+        flushed
     }
 
     /// Accepts nothing more, and waits until all that was accepted has its report, for so long at most: what is left then is given
@@ -115,14 +118,15 @@ impl Producer {
         let mut inner = shared.lock();
         inner.core.close();
         inner.is_closed = true;
-        shared.ring(&mut inner);
-        shared.notify();
-        let mut inner = shared.wait_until(inner, millis(timeout), |it| it.has_ended);
+        inner.news += 1;
+        shared.ring(inner);
+        shared.stir(shared.lock());
+        let mut inner = shared.wait_until(shared.lock(), shared.until(millis(timeout)), |_| false);
         let closed = inner.all_told();
-        if !shared.is_host() {
+        if !shared.is_within() {
             inner.gives_up = true;
-            shared.ring(&mut inner);
-            drop(shared.wait_until(inner, u64::MAX, |it| it.has_ended));
+            shared.ring(inner);
+            drop(shared.wait_until(shared.lock(), u64::MAX, |_| false));
             self.owner.join();
         }
         closed
@@ -152,17 +156,11 @@ impl Drop for Owner {
             mem::forget(self.host.get_mut().map(Option::take));
         } else {
             self.shared.abandon();
-            if !self.shared.is_host() {
+            if !self.shared.is_within() {
                 self.join();
             }
         }
     }
-}
-
-/// Milliseconds since the beginning of 1970.
-fn timestamp_now() -> i64 {
-    let since = SystemTime::now().duration_since(UNIX_EPOCH).unwrap_or_default();
-    i64::try_from(since.as_millis()).unwrap_or(i64::MAX)
 }
 
 /// Reports, which are waited for: see [`Producer::reports`].

@@ -69,6 +69,9 @@ impl Record {
 
     /// The headers as the library takes them: how long names and values are, and all of them one after the other.
     pub(crate) fn spelled_headers(&self) -> (Vec<Span>, Vec<u8>) {
+        if self.headers.is_empty() {
+            return Default::default();
+        }
         let mut bytes = Vec::new();
         let mut spell = |(name, value): &(String, Option<Vec<u8>>)| {
             bytes.extend_from_slice(name.as_bytes());

@@ -1,53 +1,132 @@
-//! What the handles of a producer and its host share: the library's producer, under a lock, and what wakes either side.
+//! What the handles of a producer and its host share. Who serves, and what the locks are for, is in [`crate::serving`].
 
-use crate::ffi::{self, Config, Core};
+use crate::bell::Bell;
+use crate::ffi::{self, Core};
+use crate::service::Service;
+use crate::serving::Seat;
 use crate::{ErrorCode, Report, SendErrorKind, WaitError};
 use std::collections::VecDeque;
 use std::fmt;
-use std::io::{self, PipeReader, PipeWriter, Read, Write};
 use std::mem;
-use std::os::fd::{AsFd, BorrowedFd};
-use std::sync::{Arc, Condvar, Mutex, MutexGuard, OnceLock, PoisonError, Weak};
-use std::thread::{self, ThreadId};
-use std::time::{Duration, Instant};
+use std::sync::{Arc, Condvar, Mutex, MutexGuard, PoisonError, Weak};
+use std::time::{Duration, Instant, SystemTime, UNIX_EPOCH};
 
 /// A duration in whole milliseconds, as the library counts.
 pub(crate) fn millis(duration: Duration) -> u64 {
     u64::try_from(duration.as_millis()).unwrap_or(u64::MAX)
 }
 
-/// What is under the lock of a producer.
+/// Milliseconds since the beginning of 1970.
+fn timestamp_now() -> i64 {
+    let since = SystemTime::now().duration_since(UNIX_EPOCH).unwrap_or_default();
+    i64::try_from(since.as_millis()).unwrap_or(i64::MAX)
+}
+
+/// What is under the producer's lock.
 pub(crate) struct Inner {
     pub(crate) core: Core,
-    /// Reports that nobody has fetched.
+    /// The timestamp of what is accepted at this moment, so that the system's clock is asked for it once a millisecond.
+    stamp: (u64, i64),
+    /// Reports go to a callback, by the host.
+    pub(crate) has_callback: bool,
+    /// Reports that nobody has fetched, or that the callback was not given.
     pub(crate) told: VecDeque<Report>,
-    /// Reports are on their way to a callback.
+    /// Reports are on their way to the callback.
     pub(crate) is_telling: bool,
-    /// The host looks again at this moment, if nothing wakes it before.
-    pub(crate) wakes_at: u64,
-    /// About how many bytes were accepted since the host looked.
-    pub(crate) unseen: u64,
-    /// The host is to look again before it sleeps.
+    /// What the host is to tell by the other callback.
+    pub(crate) warnings: Vec<String>,
+
+    pub(crate) seat: Seat,
+    /// How often the seat was taken or left.
+    pub(crate) moves: u64,
+    /// Who serves is to look again before it sleeps.
     pub(crate) is_rung: bool,
-    /// The host sleeps, or is about to: the bell is to be rung for it.
-    pub(crate) is_asleep: bool,
-    /// How many threads wait for progress, and how many of these for a flush.
+    /// Who serves looks again at this moment, if nothing wakes it before.
+    pub(crate) wakes_at: u64,
+    /// About how many bytes were accepted since somebody looked.
+    pub(crate) unseen: u64,
+    /// A sender has written since a turn was made.
+    pub(crate) was_helped: bool,
+    /// The host waits without a limit until the seat is left.
+    pub(crate) is_host_asleep: bool,
+
+    /// How often there was news: reports, another phase, a close.
+    pub(crate) news: u64,
+    /// There is news, of which those that wait were not told.
+    pub(crate) is_new: bool,
+    /// How many threads wait and don't serve.
     pub(crate) waiting: usize,
+    /// How many threads wait for a flush.
     pub(crate) flushing: usize,
-    /// No record is accepted any more, and the host ends once all are told of.
+    /// How many threads wait in a `send`.
+    pub(crate) held_back: usize,
+
+    /// No record is accepted any more, and nothing is served once all are told of.
     pub(crate) is_closed: bool,
     /// What is left is to be given up.
     pub(crate) gives_up: bool,
-    /// The host does nothing any more.
-    pub(crate) has_ended: bool,
+    /// Nothing is served any more.
+    pub(crate) is_over: bool,
 }
 
 impl Inner {
-    /// Has the host look again: whether the bell is to be rung for that.
-    #[must_use]
-    fn ring(&mut self) -> bool {
-        self.is_rung = true;
-        mem::take(&mut self.is_asleep)
+    fn new(core: Core, has_callback: bool) -> Inner {
+        Inner {
+            core,
+            stamp: (u64::MAX, 0),
+            has_callback,
+            told: VecDeque::new(),
+            is_telling: false,
+            warnings: Vec::new(),
+            seat: Seat::Vacant,
+            moves: 0,
+            is_rung: true, // The host begins at once.
+            wakes_at: 0,
+            unseen: 0,
+            was_helped: false,
+            is_host_asleep: false,
+            news: 0,
+            is_new: false,
+            waiting: 0,
+            flushing: 0,
+            held_back: 0,
+            is_closed: false,
+            gives_up: false,
+            is_over: false,
+        }
+    }
+
+    /// The timestamp of what is accepted now.
+    fn timestamp(&mut self) -> i64 {
+        let now = self.core.now();
+        if self.stamp.0 != now {
+            self.stamp = (now, timestamp_now());
+        }
+        self.stamp.1
+    }
+
+    /// Whether nothing more comes.
+    pub(crate) fn has_ended(&self) -> bool {
+        self.is_over && !self.is_telling
+    }
+
+    /// Whether the host is to take the seat, where it is vacant, without leaving others a moment for it.
+    pub(crate) fn needs_host(&self) -> bool {
+        self.has_callback || (self.is_rung && self.waiting == 0) || self.wakes_at <= self.core.now()
+    }
+
+    /// Whether nothing more is accepted, so that all is done once there are no records without a report.
+    pub(crate) fn has_no_more_to_come(&self) -> bool {
+        self.is_closed || self.gives_up
+    }
+
+    /// How many records wait for a report that comes.
+    fn open_records(&mut self) -> u64 {
+        if self.has_ended() {
+            0
+        } else {
+            self.core.state().untold
+        }
     }
 
     /// It fails where records have no report.
@@ -59,46 +138,31 @@ impl Inner {
     }
 }
 
-/// A pipe, by which whoever has something for the host wakes it.
-#[derive(Debug)]
-pub(crate) struct Bell {
-    reader: PipeReader,
-    writer: PipeWriter,
-}
+/// The producer's lock, held.
+pub(crate) type Held<'a> = MutexGuard<'a, Inner>;
 
-impl Bell {
-    /// Both ends live as long as the bell, and few bytes are ever in it, so that this neither fails nor blocks.
-    pub(crate) fn ring(&self) {
-        let _ = (&self.writer).write(&[1]);
-    }
-
-    /// It waits where nobody has rung.
-    pub(crate) fn quiet(&self) {
-        let _ = (&self.reader).read(&mut [0; 64]);
-    }
-
-    pub(crate) fn socket(&self) -> BorrowedFd<'_> {
-        self.reader.as_fd()
-    }
+/// What of a producer's settings is not the library's alone.
+pub(crate) struct Settings {
+    pub(crate) linger_ms: u64,
+    pub(crate) batch_size: u64,
+    pub(crate) max_block_ms: u64,
+    pub(crate) has_callback: bool,
+    pub(crate) on_warning: Option<OnWarning>,
 }
 
 pub(crate) type OnWarning = Box<dyn Fn(&str) + Send + Sync>;
 
 pub(crate) struct Shared {
+    pub(crate) service: Mutex<Service>,
     inner: Mutex<Inner>,
-    /// Reports came, the producer has become ready or failed, or the host has ended.
-    progress: Condvar,
     pub(crate) bell: Arc<Bell>,
-    /// The thread of the host, once there is one.
-    pub(crate) host: OnceLock<ThreadId>,
-    /// Reports go to a callback.
-    pub(crate) has_callback: bool,
+    /// There is news, or the seat is vacant: for those that wait and don't serve.
+    pub(crate) progress: Condvar,
+    /// The seat is vacant, or there is something for the host alone.
+    pub(crate) vacancy: Condvar,
+    pub(crate) settings: Settings,
     began: Instant,
     forks: u32,
-    linger_ms: u64,
-    batch_size: u64,
-    max_block_ms: u64,
-    on_warning: Option<OnWarning>,
 }
 
 impl fmt::Debug for Shared {
@@ -111,41 +175,21 @@ impl fmt::Debug for Shared {
 static LIVING: Mutex<Vec<Weak<Shared>>> = Mutex::new(Vec::new());
 
 impl Shared {
-    pub(crate) fn new(
-        core: Core, config: &Config, max_block: Duration, has_callback: bool, on_warning: Option<OnWarning>,
-    ) -> io::Result<Arc<Shared>> {
-        let (reader, writer) = io::pipe()?;
-        let inner = Inner {
-            core,
-            told: VecDeque::new(),
-            is_telling: false,
-            wakes_at: 0,
-            unseen: 0,
-            is_rung: false,
-            is_asleep: false,
-            waiting: 0,
-            flushing: 0,
-            is_closed: false,
-            gives_up: false,
-            has_ended: false,
-        };
+    pub(crate) fn new(core: Core, service: Service, bell: Arc<Bell>, settings: Settings) -> Arc<Shared> {
         let shared = Arc::new(Shared {
-            inner: Mutex::new(inner),
+            service: Mutex::new(service),
+            inner: Mutex::new(Inner::new(core, settings.has_callback)),
+            bell,
             progress: Condvar::new(),
-            bell: Arc::new(Bell { reader, writer }),
-            host: OnceLock::new(),
-            has_callback,
+            vacancy: Condvar::new(),
+            settings,
             began: Instant::now(),
             forks: ffi::forks(),
-            linger_ms: config.linger_ms,
-            batch_size: config.batch_size,
-            max_block_ms: millis(max_block),
-            on_warning,
         });
         let mut living = LIVING.lock().unwrap_or_else(PoisonError::into_inner);
         living.retain(|it| it.strong_count() > 0);
         living.push(Arc::downgrade(&shared));
-        Ok(shared)
+        shared
     }
 
     /// The moment, in milliseconds since the producer was built.
@@ -153,7 +197,7 @@ impl Shared {
         millis(self.began.elapsed())
     }
 
-    pub(crate) fn lock(&self) -> MutexGuard<'_, Inner> {
+    pub(crate) fn lock(&self) -> Held<'_> {
         let now = self.now();
         let mut inner = self.inner.lock().unwrap_or_else(PoisonError::into_inner);
         inner.core.set_now(now);
@@ -165,107 +209,76 @@ impl Shared {
         self.forks != ffi::forks()
     }
 
-    /// Whether this is the host's thread, which is in a callback then, and can't wait for itself.
-    pub(crate) fn is_host(&self) -> bool {
-        self.host.get() == Some(&thread::current().id())
-    }
-
     pub(crate) fn warn(&self, words: &str) {
-        if let Some(on_warning) = &self.on_warning {
+        if let Some(on_warning) = &self.settings.on_warning {
             on_warning(words);
         }
     }
 
-    // ---- waking and waiting
-
-    /// Has the host look again.
-    pub(crate) fn ring(&self, inner: &mut Inner) {
-        if inner.ring() {
-            self.bell.ring();
-        }
-    }
-
-    /// Wakes those that wait for progress.
-    pub(crate) fn notify(&self) {
-        self.progress.notify_all();
-    }
-
-    /// Waits for progress, for so many milliseconds at most.
-    fn wait<'a>(&'a self, mut inner: MutexGuard<'a, Inner>, millis: u64) -> MutexGuard<'a, Inner> {
-        inner.waiting += 1;
-        let waited = self.progress.wait_timeout(inner, Duration::from_millis(millis));
-        let (mut inner, _) = waited.unwrap_or_else(PoisonError::into_inner);
-        inner.waiting -= 1;
-        inner.core.set_now(self.now());
-        inner
-    }
-
-    /// Waits until this is so, for so many milliseconds at most, and not at all in a callback.
-    pub(crate) fn wait_until<'a>(
-        &'a self, mut inner: MutexGuard<'a, Inner>, millis: u64, is_so: impl Fn(&mut Inner) -> bool,
-    ) -> MutexGuard<'a, Inner> {
-        let until = self.until(millis);
-        while !is_so(&mut inner) {
-            match until.saturating_sub(self.now()) {
-                0 => break,
-                left => inner = self.wait(inner, left),
-            }
-        }
-        inner
-    }
-
-    /// The moment until which a call may wait. That of now may be almost over.
-    fn until(&self, millis: u64) -> u64 {
-        let waits = millis > 0 && !self.is_host();
-        self.now().saturating_add(if waits { millis.saturating_add(1) } else { 0 })
-    }
-
     // ---- records and reports
 
-    /// Makes a call that accepts about so many bytes, and again for `max_block` where it is refused for a while.
-    pub(crate) fn accept<T>(&self, bytes: usize, mut call: impl FnMut(&mut Core) -> Result<T, i32>) -> Result<T, SendErrorKind> {
+    /// Makes a call that accepts about so many bytes, with the timestamp of the first time, and again for `max_block` where it is
+    /// refused for a while.
+    pub(crate) fn accept<T>(
+        &self, bytes: usize, mut call: impl FnMut(&mut Core, i64) -> Result<T, i32>,
+    ) -> Result<T, SendErrorKind> {
         if self.is_forked() {
             return Err(SendErrorKind::Forked);
         }
-        let mut until = None;
-        let mut inner = self.lock();
+        let (mut timestamp_ms, mut until) = (None, None);
         loop {
-            let kind = match call(&mut inner.core) {
+            let mut inner = self.lock();
+            let timestamp_ms = *timestamp_ms.get_or_insert_with(|| inner.timestamp());
+            let kind = match call(&mut inner.core, timestamp_ms) {
                 Ok(accepted) => {
-                    let wakes = self.needs_host(&mut inner, bytes as u64) && inner.ring();
-                    drop(inner);
-                    if wakes {
-                        self.bell.ring();
-                    }
+                    self.look_at(inner, bytes as u64);
                     return Ok(accepted);
                 }
                 Err(number) => kind_of(number, &mut inner.core),
             };
             // Records that linger would keep a buffer full until they have lingered. Who waits for a flush would wait for another one.
-            if kind == SendErrorKind::BufferFull && self.linger_ms > 0 && inner.flushing == 0 {
+            if kind == SendErrorKind::BufferFull && self.settings.linger_ms > 0 && inner.flushing == 0 {
                 inner.core.flush();
             }
-            self.ring(&mut inner);
-            let left = until.get_or_insert_with(|| self.until(self.max_block_ms)).saturating_sub(self.now());
-            if left == 0 || !kind.is_passing() {
+            let news = inner.news;
+            self.look(inner);
+
+            let until = *until.get_or_insert_with(|| self.until(self.settings.max_block_ms));
+            let mut inner = self.lock();
+            let now = inner.core.now();
+            if until <= now || !kind.is_passing() {
                 return Err(kind);
             }
-            inner = self.wait(inner, if kind == SendErrorKind::OutOfMemory { 1 } else { left });
+            let again = if kind == SendErrorKind::OutOfMemory { until.min(now + 1) } else { until };
+            inner.held_back += 1;
+            self.wait_until(inner, again, |it| it.news != news).held_back -= 1;
         }
     }
 
-    /// Whether the host is to look at what was accepted: there may be a full batch, or it lingers for less long than the host sleeps.
-    fn needs_host(&self, inner: &mut Inner, bytes: u64) -> bool {
+    /// Has what was accepted looked at, where there may be a full batch, or it lingers for less long than who serves sleeps.
+    fn look_at(&self, mut inner: Held<'_>, bytes: u64) {
         inner.unseen += bytes;
-        inner.unseen >= self.batch_size || inner.core.now().saturating_add(self.linger_ms) < inner.wakes_at
+        let is_full = inner.unseen >= self.settings.batch_size;
+        let is_due = inner.core.now().saturating_add(self.settings.linger_ms) < inner.wakes_at;
+        if !is_full && !is_due {
+            return;
+        }
+        // Of records that go out at once the first alone is written here. Who serves has the others, many at a time; and it rests where
+        // they can't be sent yet, so that not each of them is looked at in vain.
+        let lingers = self.settings.linger_ms > 0;
+        if !lingers && mem::replace(&mut inner.was_helped, true) {
+            self.ring(inner);
+        } else if self.look(inner) && !lingers {
+            self.ring(self.lock());
+        }
     }
 
     /// All reports that nobody has fetched, which are waited for; none where the time is over, or none comes any more.
     pub(crate) fn fetch(&self, timeout_ms: u64) -> VecDeque<Report> {
-        if self.is_forked() || self.has_callback {
+        if self.is_forked() || self.settings.has_callback {
             return VecDeque::new();
         }
-        let mut inner = self.wait_until(self.lock(), timeout_ms, |it| it.has_ended || !it.told.is_empty());
+        let mut inner = self.wait_until(self.lock(), self.until(timeout_ms), |it| !it.told.is_empty());
         mem::take(&mut inner.told)
     }
 
@@ -275,23 +288,22 @@ impl Shared {
             let mut inner = self.lock();
             reports.append(&mut inner.told);
             inner.told = reports;
-            self.notify();
+            self.stir(inner);
         }
     }
 
     // ---- the end
 
-    /// Has the host give up what is left, and tells how many records were open.
+    /// Gives up what is left, and tells how many records were open.
     pub(crate) fn abandon(&self) {
         let mut inner = self.lock();
+        let open = inner.open_records();
         inner.gives_up = true;
-        self.ring(&mut inner);
-        self.warn_open(inner);
+        self.ring(inner);
+        self.warn_of(open);
     }
 
-    fn warn_open(&self, mut inner: MutexGuard<'_, Inner>) {
-        let open = if inner.has_ended { 0 } else { inner.core.state().untold };
-        drop(inner);
+    fn warn_of(&self, open: u64) {
         if open > 0 {
             self.warn(&format!("the producer was not closed, and {open} records were open"));
         }
@@ -312,6 +324,7 @@ fn kind_of(number: i32, core: &mut Core) -> SendErrorKind {
 pub(crate) extern "C" fn tell_at_exit() {
     let living = LIVING.try_lock().map(|mut it| mem::take(&mut *it)).unwrap_or_default();
     for shared in living.iter().filter_map(Weak::upgrade).filter(|it| !it.is_forked()) {
-        shared.warn_open(shared.lock());
+        let open = shared.lock().open_records();
+        shared.warn_of(open);
     }
 }

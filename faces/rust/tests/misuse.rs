@@ -6,7 +6,7 @@ use common::{Broker, LONG, TOPIC};
 use lembicsov::{Producer, Record, SendErrorKind, WaitError};
 use std::env;
 use std::process::{self, Command};
-use std::sync::OnceLock;
+use std::sync::{mpsc, OnceLock};
 
 unsafe extern "C" {
     fn fork() -> i32;
@@ -45,6 +45,20 @@ fn a_forked_process_is_told_so() {
     producer.send(Record::new("c")).unwrap();
     producer.close(LONG).unwrap();
     assert_eq!(broker.end()[&0], ["a", "c"]);
+}
+
+#[test]
+fn a_process_that_is_forked_in_a_callback_goes_no_further() {
+    let broker = Broker::start(1, 1, "");
+    let (tell, told) = mpsc::channel();
+    // SAFETY: the child goes back to the producer's thread, and ends with it.
+    let on_report = move |_| tell.send(unsafe { fork() }).unwrap();
+    let producer = broker.builder().on_report(on_report).build().unwrap();
+    producer.send(Record::new("a")).unwrap();
+    let (child, mut status) = (told.recv_timeout(LONG).unwrap(), -1);
+    assert_eq!(unsafe { waitpid(child, &mut status, 0) }, child);
+    producer.close(LONG).unwrap();
+    assert_eq!(broker.end()[&0], ["a"]);
 }
 
 #[test]
