@@ -4,3 +4,4 @@ pub mod TurnLemmas
 pub mod SinceLemmas
 pub mod DoLemmas
 pub mod DriveLemmas
+pub mod UseLemmas

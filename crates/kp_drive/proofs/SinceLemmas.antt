@@ -20,4 +20,4 @@ module _ {S : Type 0} (answers : Told S) (nothing : (s : S) → answers s [] s) 
         written = ap (λ (zs : List ℕ). zs ++ c.unwritten) (flat_map-append gone_by ys s.xs)
             ∙ through (gone ys) (gone s.xs) [] a.unwritten c.unwritten before s.taken h.written s.written;
       }
-  since_carries xs taken q b (Since.meanwhile p r c ys before calls rest acts same) = since_carries ys before p c rest
+  since_carries xs taken q b (Since.meanwhile p r c ys before calls rest acts may) = since_carries ys before p c rest

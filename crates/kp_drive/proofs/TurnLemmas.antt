@@ -71,12 +71,12 @@ module _ {K S : Type 0} (answers : Told S) (node now : ℕ) (p q : Producer) whe
 
 -- ---- what it told
 
-tells_acts : (now : ℕ) (action : _) (p q : Producer) → Tells now action p q → ActsSome p q
+pub tells_acts : (now : ℕ) (action : _) (p q : Producer) → Tells now action p q → ActsSome p q
 tells_acts now action p q t =
     ([], acts_idly p q (ap (λ (x : Producer). x.config) t.same) (ap (λ (x : Producer). x.names) t.same) (ap (λ (x : Producer). x.core) t.same) (ap (λ (x : Producer). x.counts) t.same))
 
 module _ {K S : Type 0} (now : ℕ) (p q : Producer) where
-  obeys_acts : (action : Action) (old new : Link K S) → Obeys now action p old q new → ActsSome p q
+  pub obeys_acts : (action : Action) (old new : Link K S) → Obeys now action p old q new → ActsSome p q
   obeys_acts (Connect node) Closed Closed o = (if_core p.core (Disconnect node now ∷ []), o.acts)
   obeys_acts (Connect node) Closed (Dialing k) o = same p q o
   obeys_acts (Connect node) Closed (Open b) o = absurd o

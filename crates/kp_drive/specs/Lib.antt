@@ -7,3 +7,4 @@ pub mod Turning
 pub mod Dialing
 pub mod Driving
 pub mod Connection
+pub mod Using

@@ -8,10 +8,6 @@ use Rattle.kp_embed.specs.Connecting.{Connects, Loses}
 use Rattle.kp_embed.specs.Going.{Stays}
 use Rattle.kp_embed.specs.Producer.{Producer}
 
--- the most nodes
-abbrev pub LINK_LIMIT : ℕ
-LINK_LIMIT = 65536
-
 -- ---- one link
 
 -- No connection was made, or there was no room for it; the producer is told that it is lost.

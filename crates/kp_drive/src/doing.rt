@@ -2,18 +2,15 @@
 
 ghost use Rattle.std.specs.Prelude.{◌≡◌, ◌≤◌, ◌<◌, ℕ, IfSome, None, false, length, true};
 ghost use Rattle.kp_drive.specs.Doing.{Does, DoesAll, Tells};
-ghost use Rattle.kp_drive.specs.Links.{LINK_LIMIT, OnlyAt, link_at};
+ghost use Rattle.kp_drive.specs.Links.{OnlyAt, link_at};
 ghost use Rattle.kp_embed.specs.Connecting.{Loses};
 
 use crate::dial::Dial;
 use crate::host::Host;
 use crate::link::Link;
-use kp_cluster::Action;
+use kp_cluster::{Action, SLOT_LIMIT};
 use kp_connection::Stream;
 use kp_embed::Embed;
-
-/// The most nodes.
-const LINK_LIMIT: usize = 65_536;
 
 /// Does what the producer tells, until there is nothing: whether there was anything.
 pub(crate) fn do_all<K: Drop, S: Stream, D: Dial<Dialing = K, Stream = S>>(
@@ -21,10 +18,10 @@ pub(crate) fn do_all<K: Drop, S: Stream, D: Dial<Dialing = K, Stream = S>>(
     links: &mut Vec<Link<K, S>>,
     now: u64,
 ) -> bool
-    requires { length links.old.items ≤ LINK_LIMIT }
+    requires { length links.old.items ≤ SLOT_LIMIT }
     ensures does { DoesAll now host.old.embed links.old.items host.new.embed links.new.items }
     ensures nothing { result ≡ false → Tells now None host.old.embed host.new.embed }
-    ensures few { length links.new.items ≤ LINK_LIMIT }
+    ensures few { length links.new.items ≤ SLOT_LIMIT }
 {
     let mut told = false;
     for _ in 0..u64::MAX {
@@ -44,9 +41,9 @@ fn obey<K: Drop, S: Stream, D: Dial<Dialing = K, Stream = S>>(
     action: Action,
     now: u64,
 )
-    requires { length links.old.items ≤ LINK_LIMIT }
+    requires { length links.old.items ≤ SLOT_LIMIT }
     ensures does { Does now action host.old.embed links.old.items host.new.embed links.new.items }
-    ensures few { length links.new.items ≤ LINK_LIMIT }
+    ensures few { length links.new.items ≤ SLOT_LIMIT }
 {
     match action {
         Action::Close(node) => close(&mut host.embed, links, node, now),
@@ -63,12 +60,12 @@ fn begin<K: Drop, S: Stream, D: Dial<Dialing = K, Stream = S>>(
     links: &mut Vec<Link<K, S>>,
     node: u32,
 ) -> Option<K>
-    requires { length links.old.items ≤ LINK_LIMIT }
+    requires { length links.old.items ≤ SLOT_LIMIT }
     ensures same { (k : ℕ) → link_at k links.new.items ≡ link_at k links.old.items }
     ensures producer { host.new.embed ≡ host.old.embed }
     ensures there { IfSome result (λ _. node < length links.new.items) }
     ensures closed { IfSome result (λ _. link_at node links.new.items ≡ Link.Closed) }
-    ensures few { length links.new.items ≤ LINK_LIMIT }
+    ensures few { length links.new.items ≤ SLOT_LIMIT }
 {
     if !make_place(links, node) {
         return None;
@@ -81,13 +78,13 @@ fn begin<K: Drop, S: Stream, D: Dial<Dialing = K, Stream = S>>(
 
 /// There is a place for the node's link: whether there is room for it.
 fn make_place<K: Drop, S: Stream>(links: &mut Vec<Link<K, S>>, node: u32) -> bool
-    requires { length links.old.items ≤ LINK_LIMIT }
+    requires { length links.old.items ≤ SLOT_LIMIT }
     ensures same { (k : ℕ) → link_at k links.new.items ≡ link_at k links.old.items }
     ensures there { result ≡ true → node < length links.new.items }
-    ensures few { length links.new.items ≤ LINK_LIMIT }
+    ensures few { length links.new.items ≤ SLOT_LIMIT }
 {
     let place = node as usize;
-    if place >= LINK_LIMIT {
+    if place >= SLOT_LIMIT {
         return false;
     }
     for _ in links.len()..place + 1 {

@@ -3,12 +3,12 @@
 ghost use Rattle.std.specs.Prelude.{◌≡◌, ◌≤◌, ◌<◌, ◌*◌, ◌+◌, [], ℕ, None, Ok, length, IfErr, IfOk, IfSome};
 ghost use Rattle.std.specs.Time.{instant_nanos};
 ghost use Rattle.futures.specs.Poll.{OnPending};
-ghost use Rattle.futures.specs.Task.{Covers, Hears, Keeps};
+ghost use Rattle.futures.specs.Task.{Covers, Keeps};
 ghost use Rattle.kp_accum.specs.Config.{checked};
 ghost use Rattle.kp_cluster.specs.Cluster.{new_cluster};
 ghost use Rattle.kp_cluster.specs.declared.learning.TheConstants.{SLOT_LIMIT};
 ghost use Rattle.kp_drive.specs.Doing.{Tells};
-ghost use Rattle.kp_drive.specs.Links.{LINK_LIMIT, link_at};
+ghost use Rattle.kp_drive.specs.Links.{link_at};
 ghost use Rattle.kp_drive.specs.Turning.{Turns};
 ghost use Rattle.kp_drive.specs.Waiting.{LinkWaits, SleepsUntilDue};
 ghost use Rattle.kp_embed.specs.Ending.{Calls};
@@ -50,7 +50,7 @@ pub struct Drive<'r, R, D, K, S> {
     host: Host<D>,
     /// By node.
     links: Vec<Link<K, S>>,
-    ghost few: { length links.items ≤ LINK_LIMIT },
+    ghost few: { length links.items ≤ SLOT_LIMIT },
 }
 
 impl<'r, R: Clock, K: Drop, S: Stream, D: Dial<Dialing = K, Stream = S>> Drive<'r, R, D, K, S> {
@@ -151,7 +151,7 @@ impl<'r, R: Clock, K: Drop, S: Stream, D: Dial<Dialing = K, Stream = S>> Drive<'
         ensures turns { Turns S.answers (moment_of self.new) (producer_of self.old) (links_of self.old) (producer_of self.new) (links_of self.new) }
         ensures later { moment_of self.old ≤ moment_of self.new }
         ensures links { OnPending result ((k : ℕ) → k < length (links_of self.new) → LinkWaits D.waits S.reader S.writer S.answers cx.new (link_at k (links_of self.new))) }
-        ensures timer { OnPending result (Hears cx.new (sleep_source (timer_of self.new))) }
+        ensures timer { OnPending result (Covers cx.new (λ s. s ≡ sleep_source (timer_of self.new))) }
         ensures due { OnPending result (SleepsUntilDue (start_of self.new) (moment_of self.new) (producer_of self.new) (timer_of self.new)) }
         ensures kept { Keeps cx.old cx.new }
     {

@@ -2,7 +2,8 @@
 
 ghost use Rattle.std.specs.Prelude.{◌≡◌, ◌≤◌, ◌<◌, ℕ, false, length};
 ghost use Rattle.futures.specs.Task.{Keeps};
-ghost use Rattle.kp_drive.specs.Links.{EachTurns, LINK_LIMIT, link_at};
+ghost use Rattle.kp_cluster.specs.declared.learning.TheConstants.{SLOT_LIMIT};
+ghost use Rattle.kp_drive.specs.Links.{EachTurns, link_at};
 ghost use Rattle.kp_drive.specs.Waiting.{LinkWaits};
 
 use crate::dial::Dial;
@@ -19,7 +20,7 @@ pub(crate) fn poll_links<K: Drop, S: Stream, D: Dial<Dialing = K, Stream = S>>(
     cx: &mut Context<'_>,
     now: u64,
 ) -> bool
-    requires { length links.old.items ≤ LINK_LIMIT }
+    requires { length links.old.items ≤ SLOT_LIMIT }
     ensures each { EachTurns S.answers now host.old.embed links.old.items (length links.old.items) host.new.embed links.new.items }
     ensures count { length links.new.items ≡ length links.old.items }
     ensures waits { result ≡ false → (k : ℕ) → k < length links.new.items → LinkWaits D.waits S.reader S.writer S.answers cx.new (link_at k links.new.items) }

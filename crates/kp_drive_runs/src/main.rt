@@ -1,0 +1,97 @@
+//! Shows over sockets what no clause says of a driven producer: it gets ready, its records are delivered, it ends, and it does not
+//! spin. It and the loopback broker have a thread each. Of each line of its input, `RECORDS PAUSE`, so many records are sent, each
+//! once the one before it is told of and so many milliseconds later.
+#![tactic(auto)]
+
+mod broker;
+mod plan;
+mod publishing;
+mod wrong;
+
+use kp_broker::Broker;
+use plan::Plan;
+use publishing::{Account, publish};
+use std::alloc::AllocGlobal;
+use std::io;
+use std::net::{Ipv4Addr, Net, SocketAddr, TcpListener, TcpStream};
+use std::random::RandomSource;
+use std::sync::Wait;
+use std::sync::atomic::AtomicBool;
+use std::thread::{self, Threads};
+use std::time::Clock;
+use wrong::Wrong;
+
+/// Runs both threads.
+fn run<R>(rt: &R, plan: Plan) -> Result<Account, Wrong>
+where
+    R: Wait + Threads + Clock + RandomSource + AllocGlobal + Sync,
+    R: Net<Listener = TcpListener, Stream = TcpStream>,
+{
+    let listener = TcpListener::bind(rt, SocketAddr::from((Ipv4Addr::LOCALHOST, 0)))?;
+    let address = listener.local_addr()?;
+    let mut broker = Broker::new(rt.alloc(), "t", 1, address.port())?;
+    run_over(rt, plan, &listener, address, &mut broker)
+}
+
+/// Runs both threads, over a broker that listens.
+fn run_over<R>(
+    rt: &R,
+    plan: Plan,
+    listener: &TcpListener,
+    address: SocketAddr,
+    broker: &mut Broker,
+) -> Result<Account, Wrong>
+where
+    R: Wait + Threads + Clock + RandomSource + AllocGlobal + Sync,
+    R: Net<Listener = TcpListener, Stream = TcpStream>,
+{
+    let over = AtomicBool::new(false);
+    let over = &over;
+    let (served, account) = thread::join(
+        rt,
+        || broker::serve_all(rt, listener, broker, over),
+        move || {
+            let account = publish(rt, plan, address);
+            broker::end(rt, address, over);
+            account
+        },
+    );
+    served?;
+    account
+}
+
+/// Makes a run, and says what came of it.
+fn tell<R>(rt: &R, line: &str) -> io::Result<()>
+where
+    R: Wait + Threads + Clock + RandomSource + AllocGlobal + Sync + Print,
+    R: Net<Listener = TcpListener, Stream = TcpStream>,
+{
+    let Some(plan) = Plan::read(line) else {
+        return println!(rt; "{line} is no run");
+    };
+    match run(rt, plan) {
+        Err(wrong) => println!(rt; "{line}: {wrong}"),
+        Ok(account) => tell_came(rt, line, plan, account),
+    }
+}
+
+/// Says what came of a run.
+fn tell_came<R: Print>(rt: &R, line: &str, plan: Plan, account: Account) -> io::Result<()> {
+    let often = if account.polls > plan.most_polls() {
+        "too often"
+    } else {
+        "seldom enough"
+    };
+    println!(rt;
+        "{line}: accepted {}, delivered {}, polled {often}",
+        account.accepted, account.delivered
+    )
+}
+
+fn main(rt: HostRuntime) -> io::Result<()> {
+    let alloc = rt.alloc();
+    for line in rt.lines(alloc) {
+        tell(&rt, line?.as_str())?;
+    }
+    Ok(())
+}
