@@ -11,6 +11,7 @@ pub mod laws;
 mod link;
 mod links;
 mod lookup;
+mod names;
 mod pipe;
 mod sockets;
 mod unwritten;
@@ -18,6 +19,7 @@ mod unwritten;
 pub use dial::Dial;
 pub use drive::Drive;
 pub use lookup::{Lookup, Numeric};
+pub use names::{HostNames, Named, Resolver};
 pub use sockets::{Dialing, SETUP_TIMEOUT_MS, SocketDrive, Sockets};
 
 // What a caller names of the crates below.

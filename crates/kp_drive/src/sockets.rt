@@ -1,9 +1,11 @@
 //! Connections by tokio's sockets.
 
-ghost use Rattle.std.specs.Prelude.{ℕ};
+ghost use Rattle.std.specs.Duration.{as_nanos};
+ghost use Rattle.std.specs.Prelude.{◌≡◌, ◌*◌, ℕ, IfSome};
 ghost use Rattle.futures.specs.Poll.{OnPending};
 ghost use Rattle.futures.specs.Task.{Covers, Keeps};
-ghost use Rattle.kp_drive.specs.Dialing.{connecting_waits, dialing_waits};
+ghost use Rattle.kp_drive.specs.Dialing.{connecting_waits, dialing_waits, setup_timeout_of};
+ghost use Rattle.tokio.specs.Timers.{IsDelayedBy, sleep_deadline, timeout_delay};
 
 use crate::dial::Dial;
 use crate::drive::Drive;
@@ -43,7 +45,9 @@ pub type SocketDrive<'r, R, L, K> = Drive<'r, R, Sockets<'r, R, L>, Dialing<K>, 
 
 impl<'r, R: Net + Clock, L> Sockets<'r, R, L> {
     /// By the event loop of this handle. A connection may take `setup_timeout_ms` to be made, once its host was looked up.
-    pub fn new(rt: &'r R, handle: Handle, lookup: L, setup_timeout_ms: u64) -> Sockets<'r, R, L> {
+    pub fn new(rt: &'r R, handle: Handle, lookup: L, setup_timeout_ms: u64) -> Sockets<'r, R, L>
+        ensures { as_nanos (setup_timeout_of result) ≡ setup_timeout_ms * 1_000_000 }
+    {
         Sockets {
             rt,
             handle,
@@ -53,7 +57,9 @@ impl<'r, R: Net + Clock, L> Sockets<'r, R, L> {
     }
 
     /// Begins to connect. None where memory is refused, or the clock can't be read.
-    fn connect(&self, address: SocketAddr) -> Option<Timeout<ConnectFuture>> {
+    fn connect(&self, address: SocketAddr) -> Option<Timeout<ConnectFuture>>
+        ensures { IfSome result (λ t. IsDelayedBy (setup_timeout_of self.now) (sleep_deadline (timeout_delay t))) }
+    {
         let connecting = TcpStream::connect(self.rt, address, self.handle.reactor());
         let timed = self
             .handle

@@ -1,5 +1,6 @@
 //! Shows over sockets what no clause says of a driven producer: it gets ready, its records are delivered, it ends, and it does not
-//! spin. It and the loopback broker have a thread each. Of each line of its input, `RECORDS PAUSE`, so many records are sent, each
+//! spin. It, what looks up names for it, and the loopback broker have a
+//! thread each. Of each line of its input, `RECORDS PAUSE`, so many records are sent, each
 //! once the one before it is told of and so many milliseconds later.
 #![tactic(auto)]
 
@@ -9,6 +10,7 @@ mod publishing;
 mod wrong;
 
 use kp_broker::Broker;
+use kp_drive::{HostNames, Resolver};
 use plan::Plan;
 use publishing::{Account, publish};
 use std::alloc::AllocGlobal;
@@ -21,7 +23,7 @@ use std::thread::{self, Threads};
 use std::time::Clock;
 use wrong::Wrong;
 
-/// Runs both threads.
+/// Runs all three threads.
 fn run<R>(rt: &R, plan: Plan) -> Result<Account, Wrong>
 where
     R: Wait + Threads + Clock + RandomSource + AllocGlobal + Sync,
@@ -33,7 +35,7 @@ where
     run_over(rt, plan, &listener, address, &mut broker)
 }
 
-/// Runs both threads, over a broker that listens.
+/// Runs all three threads, over a broker that listens.
 fn run_over<R>(
     rt: &R,
     plan: Plan,
@@ -45,18 +47,40 @@ where
     R: Wait + Threads + Clock + RandomSource + AllocGlobal + Sync,
     R: Net<Listener = TcpListener, Stream = TcpStream>,
 {
+    let (hosts, resolver) = HostNames::new(rt.alloc())?;
     let over = AtomicBool::new(false);
     let over = &over;
     let (served, account) = thread::join(
         rt,
         || broker::serve_all(rt, listener, broker, over),
         move || {
-            let account = publish(rt, plan, address);
+            let account = publish_named(rt, plan, hosts, resolver, address.port());
             broker::end(rt, address, over);
             account
         },
     );
     served?;
+    account
+}
+
+/// Publishes, while another thread looks up names.
+fn publish_named<R>(
+    rt: &R,
+    plan: Plan,
+    hosts: HostNames,
+    resolver: Resolver,
+    port: u16,
+) -> Result<Account, Wrong>
+where
+    R: Wait + Threads + Clock + RandomSource + AllocGlobal + Sync,
+    R: Net<Listener = TcpListener, Stream = TcpStream>,
+{
+    let (resolved, account) = thread::join(
+        rt,
+        move || resolver.run(rt),
+        move || publish(rt, plan, hosts, port),
+    );
+    resolved?;
     account
 }
 

@@ -10,12 +10,12 @@ use kp_accum::Config;
 use kp_batch::{Record, Timestamp};
 use kp_core::{Names, Outcome};
 use kp_drive::{
-    Address, ClusterConfig, Drive, EmbedConfig, Numeric, SETUP_TIMEOUT_MS, SocketDrive, Sockets,
-    Target,
+    Address, ClusterConfig, Drive, EmbedConfig, HostNames, Named, SETUP_TIMEOUT_MS, SocketDrive,
+    Sockets, Target,
 };
 use kp_wire::{Blob, Seq, Text};
 use std::alloc::{AllocGlobal, Global};
-use std::net::{Net, SocketAddr, TcpListener, TcpStream};
+use std::net::{Net, TcpListener, TcpStream};
 use std::random::RandomSource;
 use std::sync::Wait;
 use std::time::{Clock, Duration, Instant};
@@ -42,7 +42,7 @@ pub(crate) struct Account {
 struct Publishing<'r, R> {
     rt: &'r R,
     alloc: Global,
-    drive: SocketDrive<'r, R, Numeric, SocketAddr>,
+    drive: SocketDrive<'r, R, HostNames, Named>,
     plan: Plan,
     pause: Sleep,
     account: Account,
@@ -122,13 +122,14 @@ fn record(alloc: Global) -> Result<Record, Wrong> {
     })
 }
 
-/// A producer that knows this address.
+/// A producer that knows a broker at this port.
 fn driven<'r, R: Net + Clock>(
     rt: &'r R,
     alloc: Global,
     handle: &Handle,
-    address: SocketAddr,
-) -> Result<SocketDrive<'r, R, Numeric, SocketAddr>, Wrong> {
+    hosts: HostNames,
+    port: u16,
+) -> Result<SocketDrive<'r, R, HostNames, Named>, Wrong> {
     let config = EmbedConfig {
         producer: Config::default(),
         cluster: ClusterConfig::DEFAULT,
@@ -143,21 +144,21 @@ fn driven<'r, R: Net + Clock>(
     }
     let mut bootstrap = Vec::new(alloc);
     bootstrap.push(Address {
-        host: Text::from_str(alloc, "127.0.0.1")?,
-        port: address.port(),
+        host: Text::from_str(alloc, "localhost")?,
+        port,
     })?;
-    let sockets = Sockets::new(rt, handle.clone()?, Numeric, SETUP_TIMEOUT_MS);
+    let sockets = Sockets::new(rt, handle.clone()?, hosts, SETUP_TIMEOUT_MS);
     Ok(Drive::new(alloc, rt, handle, sockets, config, names, bootstrap, 1)?)
 }
 
 /// Sends the records and waits for their reports.
-pub(crate) fn publish<R>(rt: &R, plan: Plan, address: SocketAddr) -> Result<Account, Wrong>
+pub(crate) fn publish<R>(rt: &R, plan: Plan, hosts: HostNames, port: u16) -> Result<Account, Wrong>
 where
     R: Wait + Clock + RandomSource + AllocGlobal,
     R: Net<Listener = TcpListener, Stream = TcpStream>,
 {
     let mut runtime = LocalRuntime::new(rt)?;
-    let drive = driven(rt, rt.alloc(), runtime.handle(), address)?;
+    let drive = driven(rt, rt.alloc(), runtime.handle(), hosts, port)?;
     let pause = runtime.handle().time().sleep_until(Instant::now(rt)?)?;
     let publishing = Publishing {
         rt,
