@@ -51,10 +51,11 @@ pub struct Drive<'r, R, D, K, S> {
     /// By node.
     links: Vec<Link<K, S>>,
     ghost few: { length links.items ≤ SLOT_LIMIT },
+    ghost one_clock: { clock.start ≡ start },
 }
 
 impl<'r, R: Clock, K: Drop, S: Stream, D: Dial<Dialing = K, Stream = S>> Drive<'r, R, D, K, S> {
-    ghost use Rattle.kp_drive.specs.Driving.{links_of, moment_of, producer_of, start_of, timer_of};
+    ghost use Rattle.kp_drive.specs.Driving.{GoesOn, OnlyProducer, links_of, moment_of, producer_of, start_of, timer_of};
 
     /// A producer that knows these addresses (`bootstrap.servers`), and has no connection yet. Its clock begins now, and its timers
     /// are of this handle's event loop. The seed spreads its waits.
@@ -105,7 +106,7 @@ impl<'r, R: Clock, K: Drop, S: Stream, D: Dial<Dialing = K, Stream = S>> Drive<'
         ensures back { IfErr result (λ refused. refused.1 ≡ body) }
         ensures refused { IfErr result (λ refused. producer_of self.new ≡ producer_of self.old) }
         ensures when { IfErr result (λ refused. Refuses (producer_of self.old) target (moment_of self.new) body refused.0) }
-        ensures later { moment_of self.old ≤ moment_of self.new }
+        ensures clock { GoesOn self.old self.new }
         ensures links { links_of self.new ≡ links_of self.old }
     {
         let now = self.clock.read(self.rt);
@@ -115,7 +116,7 @@ impl<'r, R: Clock, K: Drop, S: Stream, D: Dial<Dialing = K, Stream = S>> Drive<'
     /// The oldest report that was not fetched.
     pub fn next_report(&mut self) -> Option<Report>
         ensures calls { Calls (Fetch 0 result) (producer_of self.old) (producer_of self.new) }
-        ensures links { links_of self.new ≡ links_of self.old }
+        ensures only { OnlyProducer self.old self.new }
     {
         self.host.embed.next_report()
     }
@@ -123,7 +124,7 @@ impl<'r, R: Clock, K: Drop, S: Stream, D: Dial<Dialing = K, Stream = S>> Drive<'
     /// All that was accepted goes out, without lingering.
     pub fn flush(&mut self)
         ensures calls { Calls Flush (producer_of self.old) (producer_of self.new) }
-        ensures links { links_of self.new ≡ links_of self.old }
+        ensures only { OnlyProducer self.old self.new }
     {
         self.host.embed.flush();
     }
@@ -131,7 +132,7 @@ impl<'r, R: Clock, K: Drop, S: Stream, D: Dial<Dialing = K, Stream = S>> Drive<'
     /// No record is accepted any more, and all that was goes out.
     pub fn close(&mut self)
         ensures calls { Calls Close (producer_of self.old) (producer_of self.new) }
-        ensures links { links_of self.new ≡ links_of self.old }
+        ensures only { OnlyProducer self.old self.new }
     {
         self.host.embed.close();
     }
@@ -139,7 +140,7 @@ impl<'r, R: Clock, K: Drop, S: Stream, D: Dial<Dialing = K, Stream = S>> Drive<'
     /// Gives up all that is left: how many records are told of.
     pub fn end(&mut self) -> usize
         ensures calls { Calls (End result) (producer_of self.old) (producer_of self.new) }
-        ensures links { links_of self.new ≡ links_of self.old }
+        ensures only { OnlyProducer self.old self.new }
     {
         self.host.embed.end()
     }
@@ -149,7 +150,7 @@ impl<'r, R: Clock, K: Drop, S: Stream, D: Dial<Dialing = K, Stream = S>> Drive<'
     /// something does.
     pub fn poll_turn(&mut self, cx: &mut Context<'_>) -> Poll<()>
         ensures turns { Turns S.answers (moment_of self.new) (producer_of self.old) (links_of self.old) (producer_of self.new) (links_of self.new) }
-        ensures later { moment_of self.old ≤ moment_of self.new }
+        ensures clock { GoesOn self.old self.new }
         ensures links { OnPending result ((k : ℕ) → k < length (links_of self.new) → LinkWaits D.waits S.reader S.writer S.answers cx.new (link_at k (links_of self.new))) }
         ensures timer { OnPending result (Covers cx.new (λ s. s ≡ sleep_source (timer_of self.new))) }
         ensures due { OnPending result (SleepsUntilDue (start_of self.new) (moment_of self.new) (producer_of self.new) (timer_of self.new)) }
