@@ -2,7 +2,7 @@
 
 use crate::wrong::Wrong;
 use kp_broker::{Broker, FaultPlan, Plain};
-use std::alloc::AllocGlobal;
+use std::alloc::{AllocGlobal, Global};
 use std::net::{Net, SocketAddr, TcpListener, TcpStream};
 use std::sync::atomic::{AtomicBool, Ordering};
 
@@ -12,8 +12,9 @@ pub(crate) fn serve_all<R: AllocGlobal>(
     listener: &TcpListener,
     broker: &mut Broker,
     over: &AtomicBool,
+    faults: &str,
 ) -> Result<(), Wrong> {
-    let plan = FaultPlan::none(rt.alloc());
+    let plan = plan_of(rt.alloc(), faults)?;
     for stream in listener.incoming() {
         let stream = stream?;
         if over.load(Ordering::SeqCst) {
@@ -23,6 +24,14 @@ pub(crate) fn serve_all<R: AllocGlobal>(
         let _ = broker.serve(&mut Plain::new(&stream, &stream), &plan);
     }
     Ok(())
+}
+
+/// The plan that the text spells; `-` is none.
+fn plan_of(alloc: Global, faults: &str) -> Result<FaultPlan, Wrong> {
+    match faults {
+        "-" => Ok(FaultPlan::none(alloc)),
+        _ => Ok(FaultPlan::parse(alloc, faults)?),
+    }
 }
 
 /// Says that it is over, and makes one empty connection, so that who waits for the next one sees it.

@@ -1,7 +1,7 @@
 //! Shows over sockets what no clause says of a driven producer: it gets ready, its records are delivered, it ends, and it does not
-//! spin. It, what looks up names for it, and the loopback broker have a
-//! thread each. Of each line of its input, `RECORDS PAUSE`, so many records are sent, each
-//! once the one before it is told of and so many milliseconds later.
+//! spin. It, what looks up names for it, and the loopback broker have a thread each. Of each line of its input,
+//! `RECORDS PAUSE FAULTS`, so many records are sent, each once the one before it is told of and so many milliseconds later, while the
+//! broker does by this plan of faults, or by none (`-`).
 #![tactic(auto)]
 
 mod broker;
@@ -24,7 +24,7 @@ use std::time::Clock;
 use wrong::Wrong;
 
 /// Runs all three threads.
-fn run<R>(rt: &R, plan: Plan) -> Result<Account, Wrong>
+fn run<R>(rt: &R, plan: Plan<'_>) -> Result<Account, Wrong>
 where
     R: Wait + Threads + Clock + RandomSource + AllocGlobal + Sync,
     R: Net<Listener = TcpListener, Stream = TcpStream>,
@@ -38,7 +38,7 @@ where
 /// Runs all three threads, over a broker that listens.
 fn run_over<R>(
     rt: &R,
-    plan: Plan,
+    plan: Plan<'_>,
     listener: &TcpListener,
     address: SocketAddr,
     broker: &mut Broker,
@@ -52,7 +52,7 @@ where
     let over = &over;
     let (served, account) = thread::join(
         rt,
-        || broker::serve_all(rt, listener, broker, over),
+        || broker::serve_all(rt, listener, broker, over, plan.faults),
         move || {
             let account = publish_named(rt, plan, hosts, resolver, address.port());
             broker::end(rt, address, over);
@@ -66,7 +66,7 @@ where
 /// Publishes, while another thread looks up names.
 fn publish_named<R>(
     rt: &R,
-    plan: Plan,
+    plan: Plan<'_>,
     hosts: HostNames,
     resolver: Resolver,
     port: u16,
@@ -100,7 +100,7 @@ where
 }
 
 /// Says what came of a run.
-fn tell_came<R: Print>(rt: &R, line: &str, plan: Plan, account: Account) -> io::Result<()> {
+fn tell_came<R: Print>(rt: &R, line: &str, plan: Plan<'_>, account: Account) -> io::Result<()> {
     let often = if account.polls > plan.most_polls() {
         "too often"
     } else {

@@ -2,20 +2,24 @@
 
 /// What a run is to be.
 #[derive(Clone, Copy, Debug)]
-pub(crate) struct Plan {
+pub(crate) struct Plan<'a> {
     /// How many records are sent.
     pub(crate) records: u64,
     /// How long the producer is left alone before each, in milliseconds.
     pub(crate) pause: u64,
+    /// The broker's plan of faults, as its text; `-` is none.
+    pub(crate) faults: &'a str,
 }
 
-impl Plan {
-    /// `RECORDS PAUSE`.
-    pub(crate) fn read(line: &str) -> Option<Plan> {
-        let (records, pause) = line.split_once(' ')?;
+impl<'a> Plan<'a> {
+    /// `RECORDS PAUSE FAULTS`.
+    pub(crate) fn read(line: &'a str) -> Option<Plan<'a>> {
+        let (records, rest) = line.split_once(' ')?;
+        let (pause, faults) = rest.split_once(' ')?;
         Some(Plan {
             records: records.parse().ok()?,
             pause: pause.parse().ok()?,
+            faults,
         })
     }
 

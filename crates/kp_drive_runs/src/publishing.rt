@@ -43,7 +43,8 @@ struct Publishing<'r, R> {
     rt: &'r R,
     alloc: Global,
     drive: SocketDrive<'r, R, HostNames, Named>,
-    plan: Plan,
+    records: u64,
+    wait: Duration,
     pause: Sleep,
     account: Account,
 }
@@ -66,8 +67,7 @@ impl<'r, R: Net + Clock> Publishing<'r, R> {
     /// The next record waits from now on.
     fn set_pause(&mut self) {
         if let Ok(now) = Instant::now(self.rt) {
-            let wait = Duration::from_millis(self.plan.pause);
-            self.pause.reset(now.checked_add(wait).unwrap_or(now));
+            self.pause.reset(now.checked_add(self.wait).unwrap_or(now));
         }
     }
 
@@ -76,7 +76,7 @@ impl<'r, R: Net + Clock> Publishing<'r, R> {
         ensures { Keeps cx.old cx.new }
     {
         let is_next = self.account.accepted == self.account.told;
-        if !is_next || self.account.accepted >= self.plan.records {
+        if !is_next || self.account.accepted >= self.records {
             return;
         }
         if self.pause.poll_elapsed(cx).is_pending() {
@@ -91,7 +91,7 @@ impl<'r, R: Net + Clock> Publishing<'r, R> {
     }
 
     fn is_done(&self) -> bool {
-        self.account.told >= self.plan.records
+        self.account.told >= self.records
     }
 }
 
@@ -152,7 +152,12 @@ fn driven<'r, R: Net + Clock>(
 }
 
 /// Sends the records and waits for their reports.
-pub(crate) fn publish<R>(rt: &R, plan: Plan, hosts: HostNames, port: u16) -> Result<Account, Wrong>
+pub(crate) fn publish<R>(
+    rt: &R,
+    plan: Plan<'_>,
+    hosts: HostNames,
+    port: u16,
+) -> Result<Account, Wrong>
 where
     R: Wait + Clock + RandomSource + AllocGlobal,
     R: Net<Listener = TcpListener, Stream = TcpStream>,
@@ -164,7 +169,8 @@ where
         rt,
         alloc: rt.alloc(),
         drive,
-        plan,
+        records: plan.records,
+        wait: Duration::from_millis(plan.pause),
         pause,
         account: Account {
             accepted: 0,

@@ -1,6 +1,6 @@
 //! What goes wrong in a run.
 
-use kp_broker::BrokerFault;
+use kp_broker::{BrokerFault, PlanFault};
 use std::alloc::{AllocError, AllocFailed};
 use std::io;
 use thiserror::Error;
@@ -40,5 +40,11 @@ impl From<io::Error> for Wrong {
 impl From<BrokerFault> for Wrong {
     fn from(_fault: BrokerFault) -> Wrong {
         Wrong::OutOfMemory
+    }
+}
+
+impl From<PlanFault> for Wrong {
+    fn from(_fault: PlanFault) -> Wrong {
+        Wrong::Words
     }
 }
