@@ -1,2 +1,2 @@
 mod RunLemmas
-mod CarryLemmas
+pub mod CarryLemmas

@@ -1,0 +1,10 @@
+pub mod Flow
+pub mod Serving
+pub mod Links
+pub mod Doing
+pub mod Waiting
+pub mod Turning
+pub mod Dialing
+pub mod Driving
+pub mod Connection
+pub mod Using

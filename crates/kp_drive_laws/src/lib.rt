@@ -1,0 +1,4 @@
+//! Laws of a driven producer, whatever use is made of it.
+#![tactic(auto)]
+
+pub mod laws;
