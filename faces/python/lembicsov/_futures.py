@@ -30,8 +30,11 @@ def fault_of(report: Report) -> type[NotDelivered] | None:
     return None if report.outcome is DELIVERED else NOT_DELIVERED.get(report.outcome)
 
 
+new = tuple.__new__  # It makes a report in half the time of its own way.
+
+
 def delivered(partition: int, offset: int) -> Report:
-    return tuple.__new__(Report, (partition, offset, DELIVERED, "", 0))  # In half the time of its own way.
+    return new(Report, (partition, offset, DELIVERED, "", 0))
 
 
 def behind(first: Report, k: int) -> Report:
@@ -115,7 +118,8 @@ class Pending(Future):  # type: ignore[type-arg]
         return self._state == FINISHED
 
     def result(self, timeout: float | None = None) -> Any:
-        return super().result(timeout) if self._partition < 0 else delivered(self._partition, self.sent)
+        partition = self._partition
+        return super().result(timeout) if partition < 0 else new(Report, (partition, self.sent, DELIVERED, "", 0))
 
     def exception(self, timeout: float | None = None) -> BaseException | None:
         return self._exception if self._state == FINISHED else super().exception(timeout)
