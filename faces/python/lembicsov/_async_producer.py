@@ -10,7 +10,7 @@ from functools import partial
 from ssl import SSLContext
 from typing import TYPE_CHECKING, Any, Callable, Iterable, Sequence, TypeVar, cast
 
-from ._core import Core, OnReport, tell_unclosed
+from ._core import SHORT, Core, OnReport, tell_unclosed
 from ._futures import Many, Single
 from ._given import as_bytes
 from ._library import Action, Status
@@ -129,6 +129,7 @@ class AsyncProducer:
         self._core.check()
         self._core.close()
         self._is_closing = True
+        self._changed.set()
         self._soon()
         try:
             await asyncio.wait_for(self._done.wait(), timeout)
@@ -169,8 +170,11 @@ class AsyncProducer:
     async def _accept_in_turn(self, attempt: Callable[[Sending], int], what: Sending) -> None:
         async with self._gate:
             while not self._is_accepted(attempt, what):
-                self._changed.clear()
-                await self._changed.wait()
+                if isinstance(self._refusal, MemoryError):
+                    await asyncio.sleep(SHORT)  # Nothing tells when there is memory again.
+                else:
+                    self._changed.clear()
+                    await self._changed.wait()
 
     def _is_accepted(self, attempt: Callable[[Sending], int], what: Sending) -> bool:
         self._core.is_attended = self._is_soon
@@ -198,14 +202,18 @@ class AsyncProducer:
         if self._done.is_set():
             return
         try:
+            before = self._core.open_records
             self._core.hand_over()
-            self._core.tick()
+            has_changed = self._core.tick()
             self._act()
-            self._core.settle(self._core.fetch())
+            told = self._core.fetch()
+            # Who waits for room looks again only then: a refused look asks for a turn, and they would take turns without end.
+            if has_changed or self._core.open_records < before:
+                self._changed.set()
+            self._core.settle(told)
         except Exception:
             logger.exception("the producer of topic %s has failed", self._core.topic)
             return self._end()
-        self._changed.set()
         if self._core.failure is not None or (self._is_closing and self._core.open_records == 0):
             return self._end()
         if not self._is_soon:
