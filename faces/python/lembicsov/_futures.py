@@ -11,7 +11,7 @@ from concurrent.futures._base import FINISHED, PENDING
 from typing import Any, Iterable, Iterator, Sequence, Tuple, Union, overload
 
 from ._given import as_bytes, as_partition, as_timestamp
-from ._values import NOT_DELIVERED, Bytes, Headers, NotDelivered, Outcome, Record, RecordTooLarge, Report, SomeNotDelivered
+from ._values import NOT_DELIVERED, Bytes, NotDelivered, Outcome, Record, RecordTooLarge, Report, SomeNotDelivered
 
 Sent = Union[bytes, Record]  # A value alone, or a record that is more than that.
 # Reports of values one after the other, to one partition and with offsets that go up by one: the first place, how many, the first.
