@@ -1,5 +1,5 @@
 -- What clap finds where something is to be done with the standard input.
-use Rattle.std.proofs.Common.{◌≡◌, List, [], ◌∷◌, Option, None, Some, codes, true, length, refl, sym, ap, ap₂, ◌∙◌, arith}
+use Rattle.std.proofs.Common.{◌≡◌, ◌≢◌, List, [], ◌∷◌, Option, None, Some, codes, true, get_or, refl, sym, ap, ap₂, ◌∙◌}
 use Rattle.std.specs.Prelude.{option_map, Box}
 use Rattle.std.specs.Box.{box_value}
 use Rattle.std.proofs.lemmas.Option.{same_Some}
@@ -8,7 +8,7 @@ use Rattle.clap.specs.declared.parser.matches.ArgMatches.{ArgMatches}
 use Rattle.clap.specs.declared.parser.matches.ArgMatches.TheViews.{out-ArgMatches, out-SubCommand}
 use Rattle.clap.specs.declared.parser.matches.SubCommand.{SubCommand}
 use Rattle.clap.proofs.OnLiterals.{clap_on_literals}
-use Rattle.kp_command_line.specs.CommandLine.{AskTo}
+use Rattle.kp_command_line.specs.CommandLine.{AskTo, AskToSend}
 use Rattle.kp_command_line.specs.Commands.{kprod_app}
 
 abbrev pub words_of : Text → Text → List Text
@@ -66,8 +66,15 @@ pub name_found : (m : ArgMatches) (verb : Text) (rows : List Row) → subcommand
 name_found m verb rows is = name_in verb rows (out-ArgMatches m).subcommand is
 
 -- it is one verb
-pub not_both : (name : Option Text) → name ≡ Some (codes "pack") → name ≡ Some (codes "replay") → ⊥
-not_both name pack replay =
-    let same : codes "pack" ≡ codes "replay" = same_Some (codes "pack") (codes "replay") (sym pack ∙ replay) in
-    let four : 4 ≡ 6 = ap length same in
-    omega (arith, four)
+pub not_both : (name : Option Text) (one other : Text) → get_or one 0 0 ≢ get_or other 0 0 → name ≡ Some one → name ≡ Some other → ⊥
+not_both name one other different first second =
+    different (ap (λ (verb : Text). get_or verb 0 0) (same_Some one other (sym first ∙ second)))
+
+-- ---- words that ask to send
+
+pub rows_sent : (m : ArgMatches) (app : App) (words : List Text) (rows : List Row) → app ≡ kprod_app → AskToSend words rows
+    → subcommand_rows_of m ≡ subcommand_of app words → subcommand_rows_of m ≡ Some (codes "send", rows)
+rows_sent m app words rows same asked found = found ∙ ap (λ (a : App). subcommand_of a words) same ∙ asked.found
+
+pub taken_sent : (app : App) (words : List Text) (rows : List Row) → app ≡ kprod_app → AskToSend words rows → takes app words ≡ true
+taken_sent app words rows same asked = ap (λ (a : App). takes a words) same ∙ asked.taken

@@ -1,4 +1,5 @@
 mod BrokerWordsLemmas
 mod CommandLineLemmas
-mod RunCommandLemmas
-mod RunWordsLemmas
+mod DelimiterWordsLemmas
+mod OptionRulesLemmas
+mod OptionWordsLemmas

@@ -1,8 +1,12 @@
 -- What words ask for.
-use Rattle.std.specs.Prelude.{◌≡◌, List, [], ◌∷◌, drop, codes}
-use Rattle.clap.specs.Words.{Text}
+use Rattle.std.specs.Prelude.{◌≡◌, ◌⊎◌, Some, List, [], ◌∷◌, true, drop, codes}
+use Rattle.clap.specs.Words.{Row, Text, kind_of, subcommand_of, takes}
+use Rattle.clap.specs.declared.error.Error.{Error}
+use Rattle.clap.specs.declared.error.kind.ErrorKind.TheVariants.{OutOfMemory}
+use Rattle.kp_command_line.specs.Commands.{kprod_app}
+use Rattle.kp_command_line.specs.SendWords.{AsksForSend, IsRefusedSend}
 use Rattle.kp_command_line.specs.declared.command_line.Command.{Command}
-use Rattle.kp_command_line.specs.declared.command_line.Command.TheVariants.{Pack, Replay, Run}
+use Rattle.kp_command_line.specs.declared.command_line.Command.TheVariants.{Pack, Replay, Run, Send}
 
 -- The words behind the program's name ask for this to be done with the standard input.
 abbrev pub AskTo : Text → List Text → Type 0
@@ -14,12 +18,30 @@ AskToPackInput words = AskTo (codes "pack") words
 abbrev pub AskToReplayInput : List Text → Type 0
 AskToReplayInput words = AskTo (codes "replay") words
 
+-- Clap takes the words, which are those of `send`, and finds this for its options.
+pub record AskToSend (words : List Text) (rows : List Row) : Type 0 where
+  pub taken : takes kprod_app words ≡ true
+  pub found : subcommand_of kprod_app words ≡ Some (codes "send", rows)
+
 abbrev pub Packs : Text → Command → Type 0
 Packs file (Pack given) = given.now ≡ file
 Packs file (Replay given) = ⊥
 Packs file (Run wanted) = ⊥
+Packs file (Send sending) = ⊥
 
 abbrev pub Replays : Text → Command → Type 0
 Replays file (Replay given) = given.now ≡ file
 Replays file (Pack given) = ⊥
 Replays file (Run wanted) = ⊥
+Replays file (Send sending) = ⊥
+
+-- what these options of `send` ask for
+abbrev pub Sends : List Row → Command → Type 0
+Sends rows (Send sending) = AsksForSend rows sending
+Sends rows (Pack given) = ⊥
+Sends rows (Replay given) = ⊥
+Sends rows (Run wanted) = ⊥
+
+-- memory is wanting, or these options of `send` can't be meant
+abbrev pub RefusesSend : List Row → Error → Type 0
+RefusesSend rows error = (kind_of error ≡ OutOfMemory) ⊎ IsRefusedSend rows

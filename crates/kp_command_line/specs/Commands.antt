@@ -2,6 +2,7 @@
 use Rattle.std.specs.Prelude.{true, codes}
 use Rattle.clap.specs.Words.{App, Rule, new_app, new_rule, with_rule, with_subcommand}
 use Rattle.kp_command_line.specs.RunCommand.{run_app}
+use Rattle.kp_command_line.specs.SendCommand.{send_app}
 
 abbrev pub named_rule : Rule
 named_rule = record (new_rule (codes "file")) { value_names = 1; required = true }
@@ -18,4 +19,6 @@ bare_app =
     record new { top = record new.top { subcommand_required = true; disable_help_subcommand = true } }
 
 abbrev pub kprod_app : App
-kprod_app = with_subcommand (with_subcommand (with_subcommand bare_app pack_app.top) replay_app.top) run_app.top
+kprod_app =
+    with_subcommand (with_subcommand (with_subcommand (with_subcommand bare_app pack_app.top) replay_app.top) run_app.top)
+    send_app.top

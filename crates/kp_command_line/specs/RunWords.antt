@@ -1,43 +1,15 @@
 -- What the words of `run` ask for, by what clap has found for each of its options.
-use Rattle.std.specs.Prelude.{◌≡◌, ℕ, ◌<◌, ◌⊎◌, Bool, true, false, List, Option, Some, None, codes, option_map, unwrap_or}
-use Rattle.std.specs.Str.Parse.{without_leading_plus}
+use Rattle.std.specs.Prelude.{◌≡◌, ℕ, ◌<◌, ◌⊎◌, List, Some, None, codes, option_map, unwrap_or}
 use Rattle.std.specs.declared.net.socket_addr.SocketAddr.{SocketAddr}
-use Rattle.clap.specs.Words.{Row, Text, first_of, found_of, one_of, rows_of}
-use Rattle.clap.specs.declared.parser.matches.ArgMatches.{ArgMatches}
+use Rattle.clap.specs.Words.{Row, Text, first_of, one_of}
 use Rattle.kp_accum.specs.Config.{default_config}
 use Rattle.kp_accum.specs.declared.config.Config.{Config}
 use Rattle.kp_options.specs.declared.options.Options.{Options}
 use Rattle.kp_options.specs.declared.place.Place.{Place}
 use Rattle.kp_options.specs.declared.place.Place.TheVariants.{Here, At}
-use Rattle.kp_command_line.specs.BrokerWords.{Finds, NamesBroker, WriteNumber}
+use Rattle.kp_command_line.specs.BrokerWords.{NamesBroker}
+use Rattle.kp_command_line.specs.OptionWords.{IsFlag, IsSaid, IsSaidOr}
 use Rattle.kp_command_line.specs.declared.run_words.Wanted.{Wanted}
-
--- what clap has found for each option of a command
-abbrev pub rows_in : ArgMatches → List Row
-rows_in matches = rows_of (found_of matches)
-
--- ---- an option
-
--- the text writes a number of so many bits; a plus may stand first
-abbrev pub Writes : ℕ → Text → ℕ → Type 0
-Writes bits text number = WriteNumber bits (without_leading_plus text) number
-
--- the number that is said, where one is
-abbrev pub IsSaid : ℕ → Option Text → Option ℕ → Type 0
-IsSaid bits None said = said ≡ None
-IsSaid bits (Some text) said = Finds (Writes bits text) said
-
--- the same, and the usual one where none is
-abbrev pub IsSaidOr : ℕ → Option Text → ℕ → ℕ → Type 0
-IsSaidOr bits text usual number = (said : Option ℕ) × IsSaid bits text said × (number ≡ unwrap_or said usual)
-
--- a flag that does not stand in the words is false
-pub record IsFlag (text : Option Text) (flag : Bool) : Type 0 where
-  pub absent : text ≡ None → flag ≡ false
-  pub present : text ≡ Some (codes "true") → flag ≡ true
-  pub other : text ≡ Some (codes "false") → flag ≡ false
-
--- ---- all of them
 
 module _ (rows : List Row) where
   -- what the words do not speak of is as usual

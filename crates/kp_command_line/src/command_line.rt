@@ -2,24 +2,29 @@
 
 ghost use Rattle.std.specs.Prelude.{◌≡◌, Some, List, IfSome, MatchResult, codes, map, option_map};
 ghost use Rattle.clap.specs.Words.{Row, first_of, kind_of, subcommand_name_of, subcommand_rows_of};
-ghost use Rattle.kp_command_line.specs.CommandLine.{AskToPackInput, AskToReplayInput, Packs, Replays};
+ghost use Rattle.kp_command_line.specs.CommandLine.{AskToPackInput, AskToReplayInput, AskToSend, Packs, RefusesSend, Replays, Sends};
+ghost use Rattle.kp_command_line.specs.OptionWords.{rows_in};
 
 use crate::commands::kprod;
 use crate::run_words::{Wanted, wanted_of};
+use crate::send_words::{headers_of, sending_of};
+use crate::sending::Sending;
 use clap::error::ErrorKind;
 use clap::{ArgMatches, Error};
 use std::alloc::Global;
 use std::convert::AsStr;
 
 /// What the program is asked to do.
-#[derive(Clone, Copy, Debug)]
+#[derive(Debug, Drop)]
 pub enum Command<'a> {
     /// To pack the lines of this file; `-` is the standard input.
     Pack(&'a str),
     /// To replay the schedule of this file; `-` is the standard input.
     Replay(&'a str),
-    /// To send the lines of a file.
+    /// To send the lines of a file, and to print what became of each.
     Run(Wanted<'a>),
+    /// To send lines as they come.
+    Send(Sending<'a>),
 }
 
 /// The file of this command, where it is the one that the matches have.
@@ -40,12 +45,36 @@ fn run_of<'a>(alloc: Global, matches: &ArgMatches<'a>) -> Result<Command<'a>, Er
     }
 }
 
+/// What `send` is asked for by its matches.
+fn send_of<'a>(alloc: Global, matches: &ArgMatches<'a>) -> Result<Command<'a>, Error>
+    ensures { MatchResult result (Sends (rows_in matches.now)) (RefusesSend (rows_in matches.now)) }
+{
+    let headers = headers_of(alloc, matches)?;
+    match sending_of(matches, headers) {
+        Ok(sending) => Ok(Command::Send(sending)),
+        Err(message) => Err(kprod(alloc)?.error(ErrorKind::ValueValidation, message)?),
+    }
+}
+
+/// What `send` is asked for, where the matches are its own, and else the run that they ask for.
+fn sent_of<'a>(alloc: Global, matches: &ArgMatches<'a>) -> Result<Command<'a>, Error>
+    ensures { (rows : List Row) → subcommand_rows_of matches.now ≡ Some (codes "send", rows)
+        → MatchResult result (Sends rows) (RefusesSend rows) }
+{
+    match matches.subcommand_matches("send") {
+        Some(matches) => send_of(alloc, matches),
+        None => run_of(alloc, matches),
+    }
+}
+
 /// What the words ask for; the first is the program's name.
 pub fn command_of<'a, S: AsStr>(alloc: Global, words: &'a [S]) -> Result<Command<'a>, Error>
     ensures input { AskToPackInput (map S.text words.entry.now)
         → MatchResult result (Packs (codes "-")) (λ e. kind_of e ≡ ErrorKind.OutOfMemory) }
     ensures schedule { AskToReplayInput (map S.text words.entry.now)
         → MatchResult result (Replays (codes "-")) (λ e. kind_of e ≡ ErrorKind.OutOfMemory) }
+    ensures send { (rows : List Row) → AskToSend (map S.text words.entry.now) rows
+        → MatchResult result (Sends rows) (RefusesSend rows) }
 {
     let program = kprod(alloc)?;
     let matches = program.try_get_matches_from(words)?;
@@ -54,6 +83,6 @@ pub fn command_of<'a, S: AsStr>(alloc: Global, words: &'a [S]) -> Result<Command
     }
     match file_of(&matches, "replay") {
         Some(file) => Ok(Command::Replay(file)),
-        None => run_of(alloc, &matches),
+        None => sent_of(alloc, &matches),
     }
 }

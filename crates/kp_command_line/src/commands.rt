@@ -3,9 +3,10 @@
 ghost use Rattle.std.specs.Prelude.{◌≡◌, IfOk};
 ghost use Rattle.clap.specs.Words.{app_of};
 ghost use Rattle.kp_command_line.specs.Commands.{kprod_app, pack_app, replay_app};
-ghost use Rattle.kp_command_line.specs.RunCommand.{IsLocal};
+ghost use Rattle.kp_command_line.specs.OptionRules.{IsLocal};
 
 use crate::run_command::run_command;
+use crate::send_command::send_command;
 use clap::{Arg, Command};
 use std::alloc::{AllocError, Global};
 
@@ -46,11 +47,13 @@ pub(crate) fn kprod<'a>(alloc: Global) -> Result<Command<'a>, AllocError>
     let pack = pack_command(alloc)?;
     let replay = replay_command(alloc)?;
     let run = run_command(alloc)?;
+    let send = send_command(alloc)?;
     let program = Command::new(alloc, "kprod")
         .about("Publishes lines to a Kafka broker, each once and in order")
         .subcommand_required(true)
         .disable_help_subcommand(true);
     let program = program.subcommand(pack)?;
     let program = program.subcommand(replay)?;
-    program.subcommand(run)
+    let program = program.subcommand(run)?;
+    program.subcommand(send)
 }

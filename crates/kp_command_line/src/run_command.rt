@@ -1,61 +1,13 @@
 //! What `run` takes, as clap sees it.
 
-ghost use Rattle.std.specs.Prelude.{◌≡◌, false, IfOk, []};
+ghost use Rattle.std.specs.Prelude.{◌≡◌, false, IfOk};
 ghost use Rattle.clap.specs.Words.{app_of, rule_of};
-ghost use Rattle.kp_command_line.specs.RunCommand.{broker_rule, file_rule, flag_rule, number_rule, run_app, text_rule, with_batching, with_broker, with_flags, with_topic, IsLocal, TakesAlso};
+ghost use Rattle.kp_command_line.specs.OptionRules.{IsLocal, TakesAlso};
+ghost use Rattle.kp_command_line.specs.RunCommand.{broker_rule, run_app, with_batching, with_broker, with_flags, with_topic};
 
-use clap::builder::ValueParser;
-use clap::{Arg, ArgAction, Command};
+use crate::option_rules::{flag, number, required_text, text};
+use clap::{Arg, Command};
 use std::alloc::{AllocError, Global};
-
-/// An option that takes a number.
-fn number<'a>(alloc: Global, name: &'a str, least: u64, most: u64, help: &'a str) -> Arg<'a>
-    ensures rule { rule_of result ≡ number_rule name.entry.now least most }
-    ensures local { result.global ≡ false }
-{
-    Arg::new(alloc, name)
-        .long(name)
-        .value_name("N")
-        .value_parser(ValueParser::unsigned(least, most))
-        .help(help)
-}
-
-/// An option that takes a text.
-fn text<'a>(alloc: Global, name: &'a str, value: &'a str, help: &'a str) -> Arg<'a>
-    ensures rule { rule_of result ≡ text_rule name.entry.now }
-    ensures local { result.global ≡ false }
-    ensures free { result.conflicts.items ≡ [] }
-{
-    Arg::new(alloc, name)
-        .long(name)
-        .value_name(value)
-        .help(help)
-}
-
-/// An option that takes nothing.
-fn flag<'a>(alloc: Global, name: &'a str, help: &'a str) -> Arg<'a>
-    ensures rule { rule_of result ≡ flag_rule name.entry.now }
-    ensures local { result.global ≡ false }
-{
-    Arg::new(alloc, name)
-        .long(name)
-        .action(ArgAction::SetTrue)
-        .help(help)
-}
-
-/// The file.
-fn file<'a>(alloc: Global) -> Arg<'a>
-    ensures rule { rule_of result ≡ file_rule }
-    ensures local { result.global ≡ false }
-{
-    text(
-        alloc,
-        "file",
-        "FILE",
-        "The file whose lines are sent; - is the standard input",
-    )
-    .required(true)
-}
 
 /// The broker, where it is none of the process's own.
 fn broker<'a>(alloc: Global) -> Result<Arg<'a>, AllocError>
@@ -69,7 +21,12 @@ fn broker<'a>(alloc: Global) -> Result<Arg<'a>, AllocError>
 fn with_topic<'a>(alloc: Global, command: Command<'a>) -> Result<Command<'a>, AllocError>
     ensures { IfOk result (TakesAlso with_topic command.entry) }
 {
-    let lines = file(alloc);
+    let lines = required_text(
+        alloc,
+        "file",
+        "FILE",
+        "The file whose lines are sent; - is the standard input",
+    );
     let command = command.arg(lines)?;
     let topic = text(alloc, "topic", "TOPIC", "The topic; t where none is said");
     let command = command.arg(topic)?;

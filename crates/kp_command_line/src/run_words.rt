@@ -2,9 +2,11 @@
 
 ghost use Rattle.std.specs.Prelude.{◌≡◌, ◌≤◌, List, Some, None, codes, unwrap_or, IfOk, IfSome, MatchOption, MatchResult};
 ghost use Rattle.clap.specs.Words.{Row, first_of, one_of, subcommand_name_of, subcommand_rows_of};
-ghost use Rattle.kp_command_line.specs.RunWords.{AsksFor, AsksForConfig, AsksForPlace, AsksForRun, IsFlag, IsRefused, IsSaid, IsSaidOr, rows_in};
+ghost use Rattle.kp_command_line.specs.OptionWords.{IsSaid, IsSaidOr, rows_in};
+ghost use Rattle.kp_command_line.specs.RunWords.{AsksFor, AsksForConfig, AsksForPlace, AsksForRun, IsRefused};
 
 use crate::broker_words::address_of;
+use crate::option_words::{flag_of, number_of, number_or, small_number_of};
 use clap::ArgMatches;
 use kp_accum::Config;
 use kp_options::{Options, PARTITION_LIMIT, Place, SENDER_LIMIT};
@@ -15,34 +17,6 @@ pub struct Wanted<'a> {
     /// `-` is the standard input.
     pub file: &'a str,
     pub options: Options<'a>,
-}
-
-/// The number that an option says, where it says one.
-fn number_of(matches: &ArgMatches<'_>, name: &str) -> Option<u64>
-    ensures { IsSaid 64 (one_of name.now (rows_in matches.now)) result }
-{
-    matches.get_one(name)
-}
-
-/// The same of 32 bits.
-fn small_number_of(matches: &ArgMatches<'_>, name: &str) -> Option<u32>
-    ensures { IsSaid 32 (one_of name.now (rows_in matches.now)) result }
-{
-    matches.get_one(name)
-}
-
-/// The number that an option says, or the usual one.
-fn number_or(matches: &ArgMatches<'_>, name: &str, usual: u64) -> u64
-    ensures { IsSaidOr 64 (one_of name.now (rows_in matches.now)) usual result }
-{
-    number_of(matches, name).unwrap_or(usual)
-}
-
-/// Whether a flag stands there.
-fn flag_of(matches: &ArgMatches<'_>, name: &str) -> bool
-    ensures { IsFlag (one_of name.now (rows_in matches.now)) result }
-{
-    matches.get_flag(name)
 }
 
 /// The configuration that the words ask for.

@@ -1,6 +1,6 @@
 use Rattle.std.proofs.Common.{codes, sym}
 use Rattle.clap.specs.Words.{found_of}
-use Rattle.kp_command_line.proofs.RunWordsLemmas.{first_is, its_rows}
+use Rattle.kp_command_line.proofs.OptionWordsLemmas.{first_is, its_rows}
 use Rattle.kp_command_line.proofs.command_line.file_of.Goals as goal
 
 pub returns-clause-file : goal.returns-clause-file

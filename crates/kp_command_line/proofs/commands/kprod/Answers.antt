@@ -5,6 +5,7 @@ use Rattle.clap.specs.Simple.{app_of_fields}
 use Rattle.clap.specs.declared.builder.command.Command.{Command}
 use Rattle.clap.specs.declared.builder.command.Command.TheOpen.{Command-F}
 use Rattle.kp_command_line.specs.Commands.{bare_app, pack_app, replay_app}
+use Rattle.kp_command_line.specs.RunCommand.{run_app}
 use Rattle.kp_command_line.proofs.commands.kprod.Goals as goal
 
 -- the settings of the program
@@ -26,6 +27,8 @@ returns c =
     c.in_ok-program.ensures.shape c.in_ok-pack.ensures.local ∙ ap₂ with_subcommand program_is (ap (λ (a : App). a.top) c.in_ok-pack.ensures.app) in
     let replaying : app_of c.in_ok-program-2.program ≡ with_subcommand (with_subcommand bare_app pack_app.top) replay_app.top =
     c.in_ok-program-2.ensures.shape c.in_ok-replay.ensures.local ∙ ap₂ with_subcommand packing (ap (λ (a : App). a.top) c.in_ok-replay.ensures.app) in
-    IfOk-weaker c.subcommand-3.result _ _
-    (λ m h. h.shape c.in_ok-run.ensures.local ∙ ap₂ with_subcommand replaying (ap (λ (a : App). a.top) c.in_ok-run.ensures.app))
-    c.subcommand-3.ensures
+    let running : app_of c.in_ok-program-3.program ≡ with_subcommand (with_subcommand (with_subcommand bare_app pack_app.top) replay_app.top) run_app.top =
+    c.in_ok-program-3.ensures.shape c.in_ok-run.ensures.local ∙ ap₂ with_subcommand replaying (ap (λ (a : App). a.top) c.in_ok-run.ensures.app) in
+    IfOk-weaker c.subcommand-4.result _ _
+    (λ m h. h.shape c.in_ok-send.ensures.local ∙ ap₂ with_subcommand running (ap (λ (a : App). a.top) c.in_ok-send.ensures.app))
+    c.subcommand-4.ensures

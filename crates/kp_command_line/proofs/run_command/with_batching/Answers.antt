@@ -1,5 +1,5 @@
 use Rattle.std.proofs.lemmas.Result.{IfOk-weaker}
-use Rattle.kp_command_line.proofs.RunCommandLemmas.{as_it_was, then}
+use Rattle.kp_command_line.proofs.OptionRulesLemmas.{as_it_was, then}
 use Rattle.kp_command_line.proofs.run_command.with_batching.Goals as goal
 
 pub returns : goal.returns

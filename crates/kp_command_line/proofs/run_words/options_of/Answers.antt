@@ -1,6 +1,6 @@
 use Rattle.std.proofs.Common.{codes}
 use Rattle.clap.specs.Words.{found_of}
-use Rattle.kp_command_line.proofs.RunWordsLemmas.{first_or}
+use Rattle.kp_command_line.proofs.OptionWordsLemmas.{first_or}
 use Rattle.kp_command_line.proofs.run_words.options_of.Goals as goal
 
 pub returns : goal.returns

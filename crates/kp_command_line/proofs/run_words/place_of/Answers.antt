@@ -1,6 +1,6 @@
 use Rattle.std.proofs.Common.{codes, sym, inl, inr}
 use Rattle.clap.specs.Words.{found_of}
-use Rattle.kp_command_line.proofs.RunWordsLemmas.{first_is, first_none, first_some}
+use Rattle.kp_command_line.proofs.OptionWordsLemmas.{first_is, first_none, first_some}
 use Rattle.kp_command_line.proofs.run_words.place_of.Goals as goal
 
 pub returns-in-None : goal.returns-in-None

@@ -1,6 +1,6 @@
 use Rattle.std.proofs.Common.{codes}
 use Rattle.clap.specs.Words.{found_of}
-use Rattle.kp_command_line.proofs.RunWordsLemmas.{first_none, first_some, its_rows}
+use Rattle.kp_command_line.proofs.OptionWordsLemmas.{first_none, first_some, its_rows}
 use Rattle.kp_command_line.proofs.run_words.wanted_of.Goals as goal
 
 pub returns-in_err-file-clause-run : goal.returns-in_err-file-clause-run

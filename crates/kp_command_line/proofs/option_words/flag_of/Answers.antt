@@ -1,7 +1,7 @@
 use Rattle.std.proofs.Common.{sym}
 use Rattle.clap.specs.Words.{found_of}
 use Rattle.clap.proofs.WalkLemmas.{one_text-rows}
-use Rattle.kp_command_line.proofs.run_words.flag_of.Goals as goal
+use Rattle.kp_command_line.proofs.option_words.flag_of.Goals as goal
 
 pub returns : goal.returns
 returns c =

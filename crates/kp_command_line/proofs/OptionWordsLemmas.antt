@@ -1,12 +1,12 @@
 -- What clap's getters read is what an option says.
-use Rattle.std.proofs.Common.{◌≡◌, ℕ, List, Option, Some, None, Result, Ok, Err, Bor, option_map, unwrap_or, refl, ap, sym, ◌∙◌}
+use Rattle.std.proofs.Common.{◌≡◌, ◌==◌, ℕ, List, [], ◌∷◌, Option, Some, None, Result, Ok, Err, Bor, arith, eqb-true, length, map, option_map, true, unwrap_or, refl, ap, sym, ◌∙◌}
 use Rattle.std.proofs.lemmas.Option.{same_Some}
 use Rattle.std.specs.Str.Parse.{ParsesUnsigned}
 use Rattle.clap.specs.declared.parser.matches.ArgMatches.{ArgMatches}
 use Rattle.clap.specs.declared.parser.matches.Found.{Found}
-use Rattle.clap.specs.Words.{ReadsOne, Row, Text, first_of, first_value, rows_of, subcommand_rows_of}
-use Rattle.clap.proofs.WalkLemmas.{first_value-rows}
-use Rattle.kp_command_line.specs.RunWords.{IsSaid}
+use Rattle.clap.specs.Words.{ReadsOne, Row, Text, all_of, first_of, first_value, matched_of, raw_values, rows_of, subcommand_rows_of}
+use Rattle.clap.proofs.WalkLemmas.{first_value-rows, raw_values-rows}
+use Rattle.kp_command_line.specs.OptionWords.{IsSaid}
 
 -- what reads a number as `parse` does
 pub said_by : {E : Type 0} (bits : ℕ) (gives : Text → Result ℕ E → Type 0) (text : Option Text) (r : Option ℕ)
@@ -47,3 +47,14 @@ pub its_rows : (matches : ArgMatches) (found : Found) (verb : Text) (rows : List
     → option_map (λ p. p.1) (subcommand_rows_of matches) ≡ Some (rows_of found) → subcommand_rows_of matches ≡ Some (verb, rows) → rows ≡ rows_of found
 its_rows matches found verb rows inner is =
     same_Some _ _ (sym (ap (option_map (λ (p : Text × List Row). p.1)) is) ∙ inner)
+
+-- and what `get_strs` answers is all that they have
+pub all_is : (found : Found) (name : Text) (r : Option (Bor (List (Bor Text)))) → option_map (λ s. map (λ v. v.now) s.now) r ≡ option_map raw_values (matched_of found name)
+    → all_of name (rows_of found) ≡ option_map (λ s. map (λ v. v.now) s.now) r
+all_is found name r read = sym (raw_values-rows found name) ∙ sym read
+
+pub no_text : (text : Text) → (length text == 0) ≡ true → text ≡ []
+no_text [] empty = refl
+no_text (c ∷ text) empty =
+    let none = eqb-true (length (c ∷ text)) 0 empty in
+    absurd (omega (arith, none))
