@@ -10,19 +10,9 @@ use kp_wire::{
 };
 use std::alloc::Global;
 
-/// The text that a word spells: itself, or as in `a*3` its letters so many times.
-pub(crate) fn text_of(alloc: Global, word: &str) -> Result<Text, StepFault> {
-    let (letters, count) = word.split_once('*').unwrap_or((word, "1"));
-    let count: u32 = count.parse().map_err(|_| StepFault::NotUnderstood)?;
-    let mut text = String::new(alloc);
-    for _ in 0..count {
-        text.push_str(letters)?;
-    }
-    Ok(Text::new(text))
-}
-
 /// Tells how many bytes a text has as a STRING, and the first three of them.
-fn tell_string(alloc: Global, text: Text, came: &mut String) -> Done {
+fn tell_string(alloc: Global, word: &str, came: &mut String) -> Done {
+    let text = Text::from_str(alloc, word)?;
     let size = size_of_text(&text);
     write!(came, "{size:?}")?;
     if size.is_some() {
@@ -64,7 +54,7 @@ pub(crate) fn compute(
             let moment = Timestamp::from_millis(words.number()?);
             write!(came, "{:?}", moment.map(|moment| moment.millis()))?;
         }
-        "text_of" => tell_string(alloc, text_of(alloc, words.word()?)?, came)?,
+        "text_of" => tell_string(alloc, words.word()?, came)?,
         _ => return Ok(false),
     }
     Ok(true)

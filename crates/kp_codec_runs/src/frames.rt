@@ -1,7 +1,5 @@
 //! Requests and responses: their contents, which stand in a frame behind their size.
 
-use crate::computed::text_of;
-use crate::edits::number_of;
 use crate::fault::{Done, Fault, Left};
 use crate::told::{Told, put_hex};
 use kp_cases::{StepFault, Words};
@@ -91,16 +89,20 @@ fn broker(host: Text) -> Broker {
     }
 }
 
+fn count_of(word: &str) -> Result<usize, StepFault> {
+    word.parse().map_err(|_| StepFault::NotUnderstood)
+}
+
 /// Puts into a request what a word says: a client's name, the one topic, or a batch of so many zeros.
 fn set_in_request(alloc: Global, request: &mut Request, word: &str) -> Done {
     let (what, with) = word.split_once(':').ok_or(StepFault::NotUnderstood)?;
     match (what, &mut request.body) {
-        ("client", _) => request.client = Some(text_of(alloc, with)?),
+        ("client", _) => request.client = Some(Text::from_str(alloc, with)?),
         ("topic", RequestBody::Metadata(body)) => {
-            body.topics = Some(one(alloc, text_of(alloc, with)?)?);
+            body.topics = Some(one(alloc, Text::from_str(alloc, with)?)?);
         }
         ("batch", RequestBody::Produce(body)) => {
-            body.topics = one(alloc, zeros(alloc, number_of(with)?)?)?;
+            body.topics = one(alloc, zeros(alloc, count_of(with)?)?)?;
         }
         _ => return Err(StepFault::NotUnderstood),
     }
@@ -112,10 +114,10 @@ fn set_in_response(alloc: Global, response: &mut Response, word: &str) -> Done {
     let (what, with) = word.split_once(':').ok_or(StepFault::NotUnderstood)?;
     match (what, &mut response.body) {
         ("host", ResponseBody::Metadata(body)) => {
-            body.brokers = one(alloc, broker(text_of(alloc, with)?))?;
+            body.brokers = one(alloc, broker(Text::from_str(alloc, with)?))?;
         }
         ("partitions", ResponseBody::Produce(body)) => {
-            body.topics = one(alloc, answers(alloc, number_of(with)?)?)?;
+            body.topics = one(alloc, answers(alloc, count_of(with)?)?)?;
         }
         _ => return Err(StepFault::NotUnderstood),
     }

@@ -4,25 +4,21 @@
 #![tactic(auto)]
 
 mod computed;
-mod edits;
 mod fault;
 mod fields;
 mod frames;
 mod putting;
 mod records;
 mod splitting;
-mod sweeps;
 mod told;
 
 use crate::computed::compute;
-use crate::edits::edited;
 use crate::fault::Done;
 use crate::frames::tell_frame;
 use crate::putting::Putting;
 use crate::records::{Held, tell_head};
 use crate::splitting::Splitting;
-use crate::sweeps::tell_words;
-use crate::told::{put_hex, tell_at_once};
+use crate::told::{tell, tell_at_once};
 use kp_cases::{Player, Words, play_files};
 use std::alloc::Global;
 use std::io;
@@ -52,10 +48,9 @@ impl Codecs {
 fn play_bytes(alloc: Global, step: &str, words: &mut Words<'_>, came: &mut String) -> Done {
     match step {
         "frame" => tell_frame(alloc, words, came),
-        "edited" => Ok(put_hex(came, &edited(alloc, words)?)?),
-        "head" => tell_head(alloc, &edited(alloc, words)?, came),
+        "head" => tell_head(alloc, &words.bytes()?, came),
         "at_once" => tell_at_once(alloc, words.word()?, &words.bytes()?, came),
-        kind => tell_words(alloc, kind, words, came),
+        kind => tell(alloc, kind, &words.bytes()?, came),
     }
 }
 

@@ -1,6 +1,5 @@
 //! Streams of frames, in pieces.
 
-use crate::edits::number_of;
 use crate::fault::{Done, Left, Played};
 use crate::told::{Told, put_hex};
 use kp_cases::{StepFault, Words, refused};
@@ -29,15 +28,11 @@ pub(crate) fn read_stream<'a>(bytes: &'a [u8], told: &mut Told) -> Left<'a> {
     Ok(bytes.get(given..).unwrap_or(&[]))
 }
 
-/// A splitter that is given a stream, piece by piece. A numbered frame has its number as content, from 0.
+/// A splitter that is given a stream, piece by piece.
 #[derive(Drop)]
 pub(crate) struct Splitting {
     alloc: Global,
     splitter: Splitter,
-    /// How many numbered frames went in.
-    fed: u16,
-    /// How many came out.
-    given: u16,
 }
 
 impl Splitting {
@@ -45,8 +40,6 @@ impl Splitting {
         Splitting {
             alloc,
             splitter: Splitter::new(alloc),
-            fed: 0,
-            given: 0,
         }
     }
 
@@ -76,29 +69,6 @@ impl Splitting {
         Ok(())
     }
 
-    /// So many numbered frames, one behind the other.
-    fn numbered(&mut self, count: u16) -> Result<Vec<u8>, StepFault> {
-        let mut frames = Vec::new(self.alloc);
-        for _ in 0..count {
-            frames.extend_from_slice(&[0, 0, 0, 2])?;
-            frames.extend_from_slice(&self.fed.to_be_bytes())?;
-            self.fed = self.fed.wrapping_add(1);
-        }
-        Ok(frames)
-    }
-
-    /// Feeds so many numbered frames, in pieces of these lengths and what is left behind them.
-    fn feed_numbered(&mut self, words: &mut Words<'_>, came: &mut String) -> Done {
-        let frames = self.numbered(words.number()?)?;
-        let mut left = frames.as_slice();
-        for word in words.rest().split_whitespace() {
-            let (piece, rest) = left.split_at_checked(number_of(word)?).ok_or("too long")?;
-            self.feed(piece, came)?;
-            left = rest;
-        }
-        self.feed(left, came)
-    }
-
     /// Tells the content of the next frame.
     fn tell_next(&mut self, came: &mut String) -> Done {
         let waited = self.splitter.rest_len();
@@ -109,23 +79,11 @@ impl Splitting {
         }
     }
 
-    /// Takes the next frame, and says where it has not the next number.
-    fn take_numbered(&mut self, came: &mut String) -> Done {
-        let number = self.given.to_be_bytes();
-        self.given = self.given.wrapping_add(1);
-        match self.splitter.next_frame() {
-            Ok(Some(content)) if content.as_slice() == number.as_slice() => Ok(()),
-            _ => Ok(came.push_str("another")?),
-        }
-    }
-
     /// Plays a step about a stream; false where it is none.
     pub(crate) fn play(&mut self, step: &str, words: &mut Words<'_>, came: &mut String) -> Played {
         match step {
             "feed" => self.feed_words(words, came)?,
-            "feed_numbered" => self.feed_numbered(words, came)?,
             "next" => self.tell_next(came)?,
-            "next_numbered" => self.take_numbered(came)?,
             "waits" => write!(came, "{}", self.splitter.rest_len())?,
             _ => return Ok(false),
         }

@@ -1,6 +1,6 @@
 //! What is read of bytes, by the word for it: told as text, and written again.
 
-use crate::fault::{Fault, Left};
+use crate::fault::{Done, Fault, Left};
 use crate::fields::read_field;
 use crate::frames::{api_of, request, response};
 use crate::records::read_records;
@@ -80,36 +80,33 @@ fn read<'a>(kind: &str, bytes: &'a [u8], told: &mut Told) -> Left<'a> {
     }
 }
 
-/// Tells what stands at the front of the bytes, or the fault there. Gives the bytes behind it.
-pub(crate) fn tell<'a>(
-    alloc: Global,
-    kind: &str,
-    bytes: &'a [u8],
-    came: &mut String,
-) -> Result<&'a [u8], StepFault> {
+/// Tells the bytes that are left behind what was read, where there are some.
+fn put_rest(came: &mut String, rest: &[u8]) -> Result<(), AllocError> {
+    if rest.is_empty() {
+        return Ok(());
+    }
+    came.push_str(" and ")?;
+    put_hex(came, rest)?;
+    came.push_str(" behind")
+}
+
+/// Tells what stands at the front of the bytes and what is left behind it, or the fault there.
+pub(crate) fn tell(alloc: Global, kind: &str, bytes: &[u8], came: &mut String) -> Done {
     let mut told = Told::new(alloc)?;
     match read(kind, bytes, &mut told) {
         Ok(rest) => {
             let len = bytes.len().saturating_sub(rest.len());
             told.tell(bytes.get(..len).unwrap_or(&[]), came)?;
-            Ok(rest)
+            Ok(put_rest(came, rest)?)
         }
         Err(Fault::Step(fault)) => Err(fault),
         Err(fault) if fault.wants_memory() => Err(StepFault::OutOfMemory),
-        Err(fault) => {
-            write!(came, "{fault}")?;
-            Ok(&[])
-        }
+        Err(fault) => Ok(write!(came, "{fault}")?),
     }
 }
 
 /// Tells the fault of bytes that are refused before any memory is taken: where memory is refused to their reader, that.
-pub(crate) fn tell_at_once(
-    alloc: Global,
-    kind: &str,
-    bytes: &[u8],
-    came: &mut String,
-) -> Result<(), StepFault> {
+pub(crate) fn tell_at_once(alloc: Global, kind: &str, bytes: &[u8], came: &mut String) -> Done {
     let mut told = Told::new(alloc)?;
     match read(kind, bytes, &mut told) {
         Ok(_) => came.push_str("none")?,

@@ -1,84 +1,35 @@
-//! Shows over sockets what no clause says of a driven producer: it gets ready, its records are delivered, it ends, and it does not
-//! spin. It, what looks up names for it, and the loopback broker have a thread each. Of each line of its input,
-//! `RECORDS PAUSE FAULTS`, so many records are sent, each once the one before it is told of and so many milliseconds later, while the
-//! broker does by this plan of faults, or by none (`-`).
+//! Publishes by a driven producer over sockets, while another thread looks up names for it. Of each line of its input, `RECORDS PAUSE
+//! PORT`, so many records are sent to a broker at this port, each once the one before it is told of and so many milliseconds later.
+//! It tells how many were accepted and delivered, and how often the producer was polled, and judges nothing.
 #![tactic(auto)]
 
-mod broker;
 mod plan;
 mod publishing;
 mod wrong;
 
-use kp_broker::Broker;
-use kp_drive::{HostNames, Resolver};
+use kp_drive::HostNames;
 use plan::Plan;
 use publishing::{Account, publish};
 use std::alloc::AllocGlobal;
 use std::io;
-use std::net::{Ipv4Addr, Net, SocketAddr, TcpListener, TcpStream};
+use std::net::{Net, TcpListener, TcpStream};
 use std::random::RandomSource;
 use std::sync::Wait;
-use std::sync::atomic::AtomicBool;
 use std::thread::{self, Threads};
 use std::time::Clock;
 use wrong::Wrong;
 
-/// Runs all three threads.
-fn run<R>(rt: &R, plan: Plan<'_>) -> Result<Account, Wrong>
-where
-    R: Wait + Threads + Clock + RandomSource + AllocGlobal + Sync,
-    R: Net<Listener = TcpListener, Stream = TcpStream>,
-{
-    let listener = TcpListener::bind(rt, SocketAddr::from((Ipv4Addr::LOCALHOST, 0)))?;
-    let address = listener.local_addr()?;
-    let mut broker = Broker::new(rt.alloc(), "t", 1, address.port())?;
-    run_over(rt, plan, &listener, address, &mut broker)
-}
-
-/// Runs all three threads, over a broker that listens.
-fn run_over<R>(
-    rt: &R,
-    plan: Plan<'_>,
-    listener: &TcpListener,
-    address: SocketAddr,
-    broker: &mut Broker,
-) -> Result<Account, Wrong>
+/// Publishes, while another thread looks up names.
+fn run<R>(rt: &R, plan: Plan) -> Result<Account, Wrong>
 where
     R: Wait + Threads + Clock + RandomSource + AllocGlobal + Sync,
     R: Net<Listener = TcpListener, Stream = TcpStream>,
 {
     let (hosts, resolver) = HostNames::new(rt.alloc())?;
-    let over = AtomicBool::new(false);
-    let over = &over;
-    let (served, account) = thread::join(
-        rt,
-        || broker::serve_all(rt, listener, broker, over, plan.faults),
-        move || {
-            let account = publish_named(rt, plan, hosts, resolver, address.port());
-            broker::end(rt, address, over);
-            account
-        },
-    );
-    served?;
-    account
-}
-
-/// Publishes, while another thread looks up names.
-fn publish_named<R>(
-    rt: &R,
-    plan: Plan<'_>,
-    hosts: HostNames,
-    resolver: Resolver,
-    port: u16,
-) -> Result<Account, Wrong>
-where
-    R: Wait + Threads + Clock + RandomSource + AllocGlobal + Sync,
-    R: Net<Listener = TcpListener, Stream = TcpStream>,
-{
     let (resolved, account) = thread::join(
         rt,
         move || resolver.run(rt),
-        move || publish(rt, plan, hosts, port),
+        move || publish(rt, plan, hosts),
     );
     resolved?;
     account
@@ -95,21 +46,11 @@ where
     };
     match run(rt, plan) {
         Err(wrong) => println!(rt; "{line}: {wrong}"),
-        Ok(account) => tell_came(rt, line, plan, account),
+        Ok(account) => println!(rt;
+            "accepted {}, delivered {}, polled {} times",
+            account.accepted, account.delivered, account.polls
+        ),
     }
-}
-
-/// Says what came of a run.
-fn tell_came<R: Print>(rt: &R, line: &str, plan: Plan<'_>, account: Account) -> io::Result<()> {
-    let often = if account.polls > plan.most_polls() {
-        "too often"
-    } else {
-        "seldom enough"
-    };
-    println!(rt;
-        "{line}: accepted {}, delivered {}, polled {often}",
-        account.accepted, account.delivered
-    )
 }
 
 fn main(rt: HostRuntime) -> io::Result<()> {

@@ -152,18 +152,13 @@ fn driven<'r, R: Net + Clock>(
 }
 
 /// Sends the records and waits for their reports.
-pub(crate) fn publish<R>(
-    rt: &R,
-    plan: Plan<'_>,
-    hosts: HostNames,
-    port: u16,
-) -> Result<Account, Wrong>
+pub(crate) fn publish<R>(rt: &R, plan: Plan, hosts: HostNames) -> Result<Account, Wrong>
 where
     R: Wait + Clock + RandomSource + AllocGlobal,
     R: Net<Listener = TcpListener, Stream = TcpStream>,
 {
     let mut runtime = LocalRuntime::new(rt)?;
-    let drive = driven(rt, rt.alloc(), runtime.handle(), hosts, port)?;
+    let drive = driven(rt, rt.alloc(), runtime.handle(), hosts, plan.port)?;
     let pause = runtime.handle().time().sleep_until(Instant::now(rt)?)?;
     let publishing = Publishing {
         rt,

@@ -1,6 +1,5 @@
 //! What goes wrong in a run.
 
-use kp_broker::{BrokerFault, PlanFault};
 use std::alloc::{AllocError, AllocFailed};
 use std::io;
 use thiserror::Error;
@@ -34,17 +33,5 @@ impl From<io::Error> for Wrong {
             io::ErrorKind::OutOfMemory => Wrong::OutOfMemory,
             _ => Wrong::Network,
         }
-    }
-}
-
-impl From<BrokerFault> for Wrong {
-    fn from(_fault: BrokerFault) -> Wrong {
-        Wrong::OutOfMemory
-    }
-}
-
-impl From<PlanFault> for Wrong {
-    fn from(_fault: PlanFault) -> Wrong {
-        Wrong::Words
     }
 }

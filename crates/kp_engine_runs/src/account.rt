@@ -2,7 +2,6 @@
 
 use crate::scene::Scene;
 use crate::tally::Tally;
-use kp_connection::Stream;
 use kp_core::Core;
 use kp_engine::{Held, Parts};
 use kp_lanes::{Intake, Sender};
@@ -56,7 +55,7 @@ fn count_lane(intake: &mut Intake, tally: &mut Tally) {
     }
 }
 
-impl<S: Stream> Scene<S> {
+impl Scene {
     /// Ends the engine and takes it apart: whether each record that was sent has one report, which was fetched, or is to be, was
     /// held back or left in the core, or comes back as an item.
     pub(crate) fn has_each_once(self) -> bool {

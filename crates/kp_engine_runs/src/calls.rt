@@ -4,20 +4,13 @@ use kp_cases::StepFault;
 use kp_connection::script::Step;
 use std::alloc::Global;
 
-/// The most bytes that move at a call; `all` for as many as there are.
-pub(crate) fn most_of(word: &str) -> Result<usize, StepFault> {
-    match word {
-        "all" => Ok(usize::MAX),
-        number => number.parse().map_err(|_| StepFault::NotUnderstood),
-    }
-}
-
 fn call_of(word: &str) -> Result<Step, StepFault> {
     match word {
         "wait" => Ok(Step::Wait),
         "fail" => Ok(Step::Fail),
         "end" => Ok(Step::End),
-        most => Ok(Step::Move(most_of(most)?)),
+        "all" => Ok(Step::Move(usize::MAX)),
+        most => Ok(Step::Move(most.parse().map_err(|_| StepFault::NotUnderstood)?)),
     }
 }
 

@@ -1,7 +1,6 @@
 //! The steps of cases.
 
 use crate::calls::calls_of;
-use crate::cutting::cut;
 use crate::scene::Scene;
 use crate::setting::Setting;
 use crate::texts::{put_calls, put_held, put_stop};
@@ -14,13 +13,13 @@ use std::random::RandomSource;
 pub(crate) struct Engines<'a, R> {
     rt: &'a R,
     setting: Setting,
-    scene: Option<Scene<Script>>,
+    scene: Option<Scene>,
     /// The core of an engine, as it showed itself when it was last looked at.
     core: String,
 }
 
 /// From now on the stream gives the answer that the batch of this request stands at this offset.
-fn answer(scene: &Scene<Script>, correlation: u32, offset: i64) -> Result<(), StepFault> {
+fn answer(scene: &Scene, correlation: u32, offset: i64) -> Result<(), StepFault> {
     let stored = "0000000100017400000001000000000000";
     let no_time = "ffffffffffffffff00000000";
     let digits = format!(in scene.alloc;
@@ -31,7 +30,7 @@ fn answer(scene: &Scene<Script>, correlation: u32, offset: i64) -> Result<(), St
 
 /// What the senders do and are told, and what goes over the stream.
 fn play_ends(
-    scene: &mut Scene<Script>,
+    scene: &mut Scene,
     step: &str,
     words: &mut Words<'_>,
     came: &mut String,
@@ -60,7 +59,7 @@ fn play_ends(
 
 /// What polls do, and what is to be seen of the engine.
 fn play_engine(
-    scene: &mut Scene<Script>,
+    scene: &mut Scene,
     step: &str,
     words: &mut Words<'_>,
     came: &mut String,
@@ -72,7 +71,6 @@ fn play_engine(
             put_calls(came, scene.engine.last_turn().ok_or("no calls are kept")?)?;
             put_stop(came, stop)?;
         }
-        "noise" => scene.hear(words, came)?,
         "connect" => came.push_str(if scene.connect()? { "" } else { "no need" })?,
         "end" => write!(came, "{}", scene.engine.end())?,
         "calls" => write!(
@@ -107,7 +105,7 @@ impl<'a, R: RandomSource + AllocGlobal> Engines<'a, R> {
         Ok(())
     }
 
-    fn scene(&mut self) -> Result<&mut Scene<Script>, StepFault> {
+    fn scene(&mut self) -> Result<&mut Scene, StepFault> {
         Ok(self.scene.as_mut().ok_or("no engine")?)
     }
 
@@ -159,7 +157,6 @@ impl<R: RandomSource + AllocGlobal> Player for Engines<'_, R> {
             "engine" => self.open(words),
             "account" => self.account(came),
             _ if self.is_refused() => Err(StepFault::Stopped),
-            "cut" => cut(self.rt, self.setting, words, came),
             "core" => self.compare_core(came),
             "held" => self.take_apart(came),
             _ => play_ends(self.scene()?, step, words, came),

@@ -4,16 +4,13 @@
 mod account;
 mod calls;
 mod clock;
-mod cutting;
 mod engines;
-mod noise;
 mod opening;
 mod scene;
 mod setting;
 mod shared;
 mod tally;
 mod texts;
-mod town;
 
 use crate::engines::Engines;
 use kp_cases::play_files;

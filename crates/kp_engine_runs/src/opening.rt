@@ -5,8 +5,8 @@ ghost use Rattle.kp_engine.specs.Opening.{MayTurn};
 
 use crate::clock::Ticking;
 use crate::setting::Setting;
+use crate::shared::Shared;
 use kp_cases::StepFault;
-use kp_connection::Stream;
 use kp_core::{Core, Names};
 use kp_engine::Engine;
 use kp_lanes::{Closer, Intake, OpenFault, Sender, open_lanes};
@@ -75,13 +75,13 @@ fn ends_of(
 }
 
 /// The engine, made of the values that come back where memory is refused.
-fn engine_of<S: Stream>(
+fn engine_of(
     alloc: Global,
     core: Core,
     intake: Intake,
-    stream: S,
+    stream: Shared,
     setting: Setting,
-) -> Result<Engine<S, Ticking>, StepFault>
+) -> Result<Engine<Shared, Ticking>, StepFault>
     requires { MayTurn core intake }
 {
     let clock = Ticking::new(setting.step);
@@ -96,11 +96,11 @@ fn engine_of<S: Stream>(
 }
 
 /// An engine over this stream, with the senders that it serves.
-pub(crate) fn open<S: Stream>(
+pub(crate) fn open(
     alloc: Global,
     setting: Setting,
-    stream: S,
-) -> Result<(Engine<S, Ticking>, Vec<Sender>, Closer), StepFault> {
+    stream: Shared,
+) -> Result<(Engine<Shared, Ticking>, Vec<Sender>, Closer), StepFault> {
     let names = names_of(alloc)?;
     let (core, senders, intake, closer) = ends_of(alloc, setting, names)?;
     let engine = engine_of(alloc, core, intake, stream, setting)?;

@@ -10,7 +10,6 @@ use futures::task::Poll;
 use futures::test::MockTask;
 use kp_batch::{Record, Timestamp};
 use kp_cases::StepFault;
-use kp_connection::Stream;
 use kp_connection::script::{Script, Step};
 use kp_engine::{Engine, Stop};
 use kp_lanes::{Closer, Sender, Target};
@@ -21,11 +20,11 @@ use std::random::RandomSource;
 
 /// An engine over a stream, with the senders that it serves, and the task in which it is polled.
 #[derive(Drop)]
-pub(crate) struct Scene<S> {
+pub(crate) struct Scene {
     pub(crate) alloc: Global,
-    pub(crate) stream: Shared<S>,
+    pub(crate) stream: Shared,
     pub(crate) task: MockTask,
-    pub(crate) engine: Engine<Shared<S>, Ticking>,
+    pub(crate) engine: Engine<Shared, Ticking>,
     pub(crate) senders: Vec<Sender>,
     pub(crate) closer: Closer,
     pub(crate) tally: Tally,
@@ -52,13 +51,13 @@ fn task_of<R: RandomSource + AllocGlobal>(rt: &R) -> Result<MockTask, StepFault>
     }
 }
 
-impl<S: Stream> Scene<S> {
+impl Scene {
     /// A new engine over this stream.
     pub(crate) fn open<R: RandomSource + AllocGlobal>(
         rt: &R,
         setting: Setting,
-        stream: S,
-    ) -> Result<Scene<S>, StepFault> {
+        stream: Script,
+    ) -> Result<Scene, StepFault> {
         let alloc = rt.alloc();
         let task = task_of(rt)?;
         let stream = Shared::new(alloc, stream)?;
@@ -168,9 +167,7 @@ impl<S: Stream> Scene<S> {
         }
         Ok(())
     }
-}
 
-impl Scene<Script> {
     /// From now on the stream gives these bytes. Its reads and its writes go through these steps, again and again.
     pub(crate) fn play(
         &self,

@@ -3,6 +3,7 @@
 use futures::task::{Context, Poll};
 use kp_cases::StepFault;
 use kp_connection::Stream;
+use kp_connection::script::Script;
 use std::alloc::{AllocError, Global};
 use std::cell::{RefCell, RefMut};
 use std::io::{self, ErrorKind};
@@ -10,28 +11,28 @@ use std::rc::Rc;
 
 /// A stream that others have too. What its calls answer is not told.
 #[derive(Drop)]
-pub(crate) struct Shared<S> {
-    stream: Rc<RefCell<S>, Global>,
+pub(crate) struct Shared {
+    stream: Rc<RefCell<Script>, Global>,
 }
 
-impl<S: Stream> Shared<S> {
-    pub(crate) fn new(alloc: Global, stream: S) -> Result<Shared<S>, AllocError> {
+impl Shared {
+    pub(crate) fn new(alloc: Global, stream: Script) -> Result<Shared, AllocError> {
         let stream = Rc::new(alloc, RefCell::new(stream))?;
         Ok(Shared { stream })
     }
 
     /// The same stream, for another to have.
-    pub(crate) fn share(&self) -> Result<Shared<S>, AllocError> {
+    pub(crate) fn share(&self) -> Result<Shared, AllocError> {
         let stream = self.stream.clone()?;
         Ok(Shared { stream })
     }
 
-    pub(crate) fn lend(&self) -> Result<RefMut<'_, S>, StepFault> {
+    pub(crate) fn lend(&self) -> Result<RefMut<'_, Script>, StepFault> {
         Ok(self.stream.try_borrow_mut().map_err(|_| "it is in use")?)
     }
 }
 
-impl<S: Stream> Stream for Shared<S> {
+impl Stream for Shared {
     ghost answers = { λ _ _ _. Unit {0} };
 
     ghost answers_nothing = { λ _. tt };

@@ -1,14 +1,10 @@
 //! A core, and what the steps of a case do with it.
 
-use crate::answer::{
-    does_nothing, is_refused, item_back, item_in, put_answer, put_report, put_runs,
-};
-use crate::broker::Broker;
-use crate::item::{item_of, plain_item};
-use crate::reply::{init_reply_of, reply_of};
+use crate::answer::{does_nothing, is_refused, item_back, item_in};
+use crate::item::item_of;
 use crate::setting::core_of;
 use kp_cases::{StepFault, Words, refused, seen_of};
-use kp_core::{Answered, Asked, Core, Report};
+use kp_core::{Answered, Asked, Core};
 use kp_wire::Blob;
 use std::alloc::{AllocError, Global};
 use std::mem;
@@ -23,7 +19,6 @@ pub(crate) struct Scene {
     kept: u64,
     /// The calls that are to be made from a list.
     listed: Vec<Asked>,
-    broker: Broker,
 }
 
 impl Scene {
@@ -34,7 +29,6 @@ impl Scene {
             now: 0,
             kept: 0,
             listed: Vec::new(alloc),
-            broker: Broker::new(alloc)?,
         })
     }
 
@@ -47,15 +41,10 @@ impl Scene {
     ) -> Result<(), StepFault> {
         match step {
             "now" => self.now = words.number()?,
-            "feed" => self.feed(words.word()?, came)?,
-            "told" => self.tell(words.number()?, came)?,
-            "fetch" => self.tell_oldest(words.number()?, came)?,
+            "fetch" => self.fetch(words.number()?, came)?,
             "list" => self.list(words)?,
             "make-all" => self.make_all(came)?,
             "keep" => self.kept = seen_of(&self.core),
-            "produce" => self.broker.produce(&mut self.core, words)?,
-            "serve" => self.broker.serve(&mut self.core)?,
-            "answer" => self.broker.answer(&mut self.core)?,
             _ => self.call_or_look(step, words, came)?,
         }
         Ok(())
@@ -66,8 +55,6 @@ impl Scene {
         Ok(Some(match step {
             "append" => Asked::Append(item_of(self.alloc, self.now, words)?),
             "send" => Asked::Request(node_of(words)?, self.now),
-            "reply" => Asked::Reply(reply_of(self.alloc, words)?, self.now),
-            "reply-init" => Asked::Reply(init_reply_of(self.alloc, words)?, self.now),
             "hear" => Asked::Reply(Blob::new(words.rest_bytes()?), self.now),
             "tick" => Asked::Tick(node_of(words)?, self.now),
             "drop" => Asked::Disconnect(node_of(words)?, self.now),
@@ -114,58 +101,20 @@ impl Scene {
     }
 
     /// Tells what a call has answered, and again where memory was refused to that, since the call was made.
-    fn tell_answer(&self, answer: &Answered, came: &mut String) -> Result<(), StepFault> {
-        match put_answer(self.alloc, came, self.core.config(), answer) {
-            Err(StepFault::OutOfMemory) => {
+    fn tell_answer(&self, answer: &Answered, came: &mut String) -> Result<(), AllocError> {
+        match write!(came, "{answer:?}") {
+            Err(AllocError) => {
                 came.clear();
-                put_answer(self.alloc, came, self.core.config(), answer)
+                write!(came, "{answer:?}")
             }
             told => told,
         }
     }
 
-    /// Sender 0's first items for partition 0, with a value of one letter each, are appended.
-    fn feed(&mut self, letters: &str, came: &mut String) -> Result<(), StepFault> {
-        for (number, letter) in letters.char_indices() {
-            let value = letter.to_string(self.alloc)?;
-            let item = plain_item(self.alloc, 0, 0, number as u64, self.now, value.as_str())?;
-            self.call(Asked::Append(item), came)?;
-        }
-        Ok(())
-    }
-
-    /// The sender's oldest report, which is on an item of its own.
-    fn fetch(&mut self, sender: u32) -> Result<Option<Report>, StepFault> {
-        if sender as usize >= self.core.senders() {
-            return Err(StepFault::CannotBe("no such sender"));
-        }
-        match self.core.next_report(sender) {
-            Some(report) if report.sender != sender => {
-                Err(StepFault::CannotBe("another sender's report"))
-            }
-            found => Ok(found),
-        }
-    }
-
-    fn tell_oldest(&mut self, sender: u32, came: &mut String) -> Result<(), StepFault> {
-        match self.fetch(sender)? {
-            None => Ok(came.push_str("none")?),
-            Some(report) => put_report(came, &report),
-        }
-    }
-
-    /// All that the sender is told, in the order in which it is.
-    fn tell(&mut self, sender: u32, came: &mut String) -> Result<(), StepFault> {
-        for _ in 0..u64::MAX {
-            let Some(report) = self.fetch(sender)? else {
-                break;
-            };
-            if !came.is_empty() {
-                came.push_str(", ")?;
-            }
-            put_report(came, &report)?;
-        }
-        Ok(())
+    /// Tells the sender's oldest report.
+    fn fetch(&mut self, sender: u32, came: &mut String) -> Result<(), AllocError> {
+        let answer = self.core.make(Asked::Fetch(sender));
+        self.tell_answer(&answer, came)
     }
 
     fn list(&mut self, words: &mut Words<'_>) -> Result<(), StepFault> {
@@ -174,25 +123,11 @@ impl Scene {
         Ok(self.listed.push(asked)?)
     }
 
-    /// Makes the calls of the list. An answer that says nothing is `-`.
+    /// Makes the calls of the list.
     fn make_all(&mut self, came: &mut String) -> Result<(), StepFault> {
         let listed = mem::replace(&mut self.listed, Vec::new(self.alloc));
-        for answer in &self.core.make_all(listed)? {
-            self.put_listed(answer, came)?;
-        }
-        Ok(())
-    }
-
-    fn put_listed(&self, answer: &Answered, came: &mut String) -> Result<(), StepFault> {
-        if !came.is_empty() {
-            came.push_str("; ")?;
-        }
-        let size = came.len();
-        put_answer(self.alloc, came, self.core.config(), answer)?;
-        if came.len() == size {
-            came.push('-')?;
-        }
-        Ok(())
+        let answers = self.core.make_all(listed)?;
+        Ok(write!(came, "{answers:?}")?)
     }
 
     /// A step that looks at the core.
@@ -224,7 +159,6 @@ impl Scene {
             "may" => self.tell_may(words, came),
             "ids" => self.tell_ids(words.number()?, came),
             "audit" => self.tell_audit(words.number()?, came),
-            "in-turn" => self.broker.tell_turns(&self.core, words, came),
             _ => Err(StepFault::NotUnderstood),
         }
     }
@@ -273,10 +207,8 @@ impl Scene {
         if partition as usize >= self.core.partitions() {
             return Err(StepFault::CannotBe("no such partition"));
         }
-        match self.core.audit(partition) {
-            None => Ok(came.push_str("none")?),
-            Some(audit) => put_runs(came, audit),
-        }
+        write!(came, "{:?}", self.core.audit(partition))?;
+        Ok(())
     }
 }
 
