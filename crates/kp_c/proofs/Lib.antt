@@ -2,4 +2,3 @@ mod AsBox
 mod ReportLemmas
 mod BatchLemmas
 mod HeaderLemmas
-mod AddressLemmas

@@ -1,7 +1,6 @@
 pub mod Held
 pub mod Calls
 pub mod Values
-pub mod Addresses
 pub mod Making
 pub mod Connections
 pub mod Seeing

@@ -1,6 +1,6 @@
 -- A producer that was made.
 use Rattle.std.specs.Prelude.{◌≡◌, ℕ, List, Option, Some}
-use Rattle.kp_c.specs.Addresses.{AreAddresses, entries_of}
+use Rattle.kp_bootstrap.specs.Addresses.{AreAddresses, entries_of}
 use Rattle.kp_c.specs.Values.{cluster_of, config_of}
 use Rattle.kp_c.specs.declared.values.KpConfig.{KpConfig}
 use Rattle.kp_cluster.specs.Cluster.{new_cluster}

@@ -1,7 +1,6 @@
 //! The C face of a producer: `include/kp.h` declares it. Each call is one of `kp_embed`'s on the producer of a handle.
 #![tactic(auto)]
 
-mod addresses;
 mod connections;
 mod ending;
 mod handle;

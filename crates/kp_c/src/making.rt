@@ -6,10 +6,10 @@ ghost use Rattle.kp_c.specs.Making.{IsNew};
 ghost use Rattle.kp_c.specs.Values.{config_of};
 ghost use Rattle.kp_rules.specs.Opening.{NAME_LIMIT};
 
-use crate::addresses::read_addresses;
 use crate::handle::KpProducer;
 use crate::status::{OK, Refusal};
 use crate::values::KpConfig;
+use kp_bootstrap::read_addresses;
 use kp_embed::Embed;
 use kp_rules::Names;
 use kp_wire::Text;

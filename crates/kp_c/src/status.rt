@@ -3,6 +3,7 @@
 ghost use Rattle.std.specs.Prelude.{◌≡◌, ◌≢◌, pos, OnOk, OnErr};
 
 use kp_accum::ConfigFault;
+use kp_bootstrap::BootstrapFault;
 use kp_embed::{Fault, SendFault};
 use std::alloc::AllocError;
 
@@ -57,6 +58,17 @@ impl Refusal {
             Refusal::Address => 26,
             Refusal::TooManyAddresses => 27,
             Refusal::Config(fault) => config_status(fault),
+        }
+    }
+}
+
+impl From<BootstrapFault> for Refusal {
+    fn from(fault: BootstrapFault) -> Refusal {
+        match fault {
+            BootstrapFault::Empty => Refusal::NoAddress,
+            BootstrapFault::Address => Refusal::Address,
+            BootstrapFault::TooMany => Refusal::TooManyAddresses,
+            BootstrapFault::OutOfMemory => Refusal::OutOfMemory,
         }
     }
 }

@@ -9,7 +9,7 @@ use Rattle.kp_run.specs.Faults.{of_plan}
 use Rattle.kp_run.specs.Options.{Checks, RefusedFor}
 use Rattle.kp_options.specs.Places.{plan_text}
 use Rattle.kp_run.specs.Plans.{Plans}
-use Rattle.kp_run.specs.Topics.{IsTopic}
+use Rattle.kp_options.specs.Topics.{IsTopic}
 use Rattle.kp_run.specs.declared.fault.RunFault.{RunFault}
 use Rattle.kp_run.specs.declared.checked.Checked.{Checked}
 use Rattle.kp_options.specs.declared.options.Options.{Options}

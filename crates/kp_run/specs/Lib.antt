@@ -9,5 +9,4 @@ pub mod Runs
 pub mod Sending
 pub mod Served
 pub mod Settings
-pub mod Topics
 pub mod Theirs

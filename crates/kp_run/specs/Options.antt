@@ -7,7 +7,7 @@ use Rattle.kp_run.specs.declared.checked.Checked.{Checked}
 use Rattle.kp_options.specs.declared.options.Options.{Options}
 use Rattle.kp_options.specs.Places.{plan_text}
 use Rattle.kp_run.specs.Plans.{HasPlan, IsPlanOf, TakesMemory}
-use Rattle.kp_run.specs.Topics.{IsTopic}
+use Rattle.kp_options.specs.Topics.{IsTopic}
 
 -- The options have no fault.
 pub record AreFine (options : Options) (looked_at : Checked) : Type 0 where

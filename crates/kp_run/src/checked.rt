@@ -1,13 +1,12 @@
 //! Options that were looked at.
 
 ghost use Rattle.std.specs.Prelude.{◌≡◌, ◌≤◌, length};
-ghost use Rattle.kp_run.specs.declared.topic.TheConstants.{TOPIC_LIMIT};
+ghost use Rattle.kp_options.specs.declared.topic.TheConstants.{TOPIC_LIMIT};
 
 use crate::checks::{check_config, check_topic, plan_in};
 use crate::fault::RunFault;
-use crate::topic::TOPIC_LIMIT;
 use kp_broker::FaultPlan;
-use kp_options::Options;
+use kp_options::{Options, TOPIC_LIMIT};
 use std::alloc::Global;
 
 /// Options that were looked at, and have no fault.

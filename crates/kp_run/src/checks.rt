@@ -5,13 +5,12 @@ ghost use Rattle.kp_accum.specs.Config.{checked};
 ghost use Rattle.kp_options.specs.Places.{plan_text};
 ghost use Rattle.kp_run.specs.Options.{RefusedFor};
 ghost use Rattle.kp_run.specs.Plans.{HasPlan, IsPlanOf};
-ghost use Rattle.kp_run.specs.Topics.{IsTopic};
+ghost use Rattle.kp_options.specs.Topics.{IsTopic};
 
 use crate::fault::RunFault;
 use crate::plan::plan_of;
-use crate::topic::is_topic;
 use kp_broker::FaultPlan;
-use kp_options::Options;
+use kp_options::{Options, is_topic};
 use std::alloc::Global;
 
 /// Whether the topic is one that Kafka takes.

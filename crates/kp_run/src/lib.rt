@@ -14,7 +14,6 @@ mod running;
 mod sender_thread;
 mod settings;
 mod stamps;
-mod topic;
 
 pub use checked::Checked;
 pub use fault::RunFault;

@@ -2,10 +2,10 @@
 
 ghost use Rattle.std.specs.Prelude.{◌≡◌, ◌↔◌, IsTrue};
 ghost use Rattle.std.specs.List.{list_all};
-ghost use Rattle.kp_run.specs.Topics.{is_name_byte, IsTopic};
+ghost use Rattle.kp_options.specs.Topics.{is_name_byte, IsTopic};
 
 /// The most bytes of a topic's name.
-pub(crate) const TOPIC_LIMIT: usize = 249;
+pub const TOPIC_LIMIT: usize = 249;
 
 fn is_name_byte(b: u8) -> bool
     ensures { result ≡ is_name_byte b }
@@ -20,7 +20,7 @@ fn are_name_bytes(name: &[u8]) -> bool
 }
 
 /// Whether Kafka takes it as a topic's name.
-pub(crate) fn is_topic(name: &str) -> bool
+pub fn is_topic(name: &str) -> bool
     ensures { IsTrue result ↔ IsTopic name.now }
 {
     !name.is_empty()

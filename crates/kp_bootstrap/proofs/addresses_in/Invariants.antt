@@ -1,6 +1,6 @@
 use Rattle.std.proofs.Common.{take, length}
-use Rattle.kp_c.specs.Addresses.{AreAddresses, entries_of}
-use Rattle.kp_c.proofs.addresses.addresses_in.Given as goal
+use Rattle.kp_bootstrap.specs.Addresses.{AreAddresses, entries_of}
+use Rattle.kp_bootstrap.proofs.addresses_in.Given as goal
 
 abbrev pub invariant-loop-entry : goal.invariant-loop-entry
 invariant-loop-entry l = AreAddresses (take (length l.yielded) (entries_of l.text)) l.addresses.items

@@ -3,10 +3,10 @@ use Rattle.std.specs.Str.Iter.{split_text, split_has_more, split_pattern}
 use Rattle.std.proofs.lemmas.List.{length_push}
 use Rattle.std.proofs.lemmas.Iterator.Splits.{YieldsList-from_str_split}
 use Rattle.std.proofs.lemmas.Iterator.Consumers.{YieldsList-turn, YieldsList-end}
-use Rattle.kp_c.specs.Addresses.{AreAddresses, entries_of, none}
+use Rattle.kp_bootstrap.specs.Addresses.{AreAddresses, entries_of, none}
 use Rattle.kp_cluster.specs.declared.slot.Address.{Address}
-use Rattle.kp_c.proofs.AddressLemmas.{addresses_all, addresses_more}
-use Rattle.kp_c.proofs.addresses.addresses_in.Goals as goal
+use Rattle.kp_bootstrap.proofs.AddressLemmas.{addresses_all, addresses_more}
+use Rattle.kp_bootstrap.proofs.addresses_in.Goals as goal
 
 pub loop-entry-init : goal.loop-entry-init
 loop-entry-init c = subst (λ (xs : List Address). AreAddresses [] xs) (sym c.new-addresses.ensures.items) none

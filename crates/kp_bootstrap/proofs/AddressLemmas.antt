@@ -1,7 +1,7 @@
 -- Addresses that are read one after the other.
 use Rattle.std.proofs.Common.{◌≡◌, ℕ, ◌+◌, ◌<◌, ◌≤◌, List, [], ◌∷◌, ◌++◌, length, get_or, take, sym, ap, ◌∙◌, subst}
 use Rattle.std.proofs.lemmas.List.{take_all, take_more}
-use Rattle.kp_c.specs.Addresses.{AreAddresses, one_more, PutsAddress}
+use Rattle.kp_bootstrap.specs.Addresses.{AreAddresses, one_more, PutsAddress}
 use Rattle.kp_cluster.specs.declared.slot.Address.{Address}
 
 pub addresses_more : (entries : List (List ℕ)) (n : ℕ) (entry : List ℕ) (old new : List Address) → n < length entries → entry ≡ get_or entries n entry
