@@ -2,3 +2,5 @@ mod FormLemmas
 mod LatencyLemmas
 mod LedgerLemmas
 mod NearLemmas
+mod SenderLemmas
+mod StreamingLemmas

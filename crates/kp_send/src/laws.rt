@@ -1,8 +1,12 @@
 //! Laws of the definitions that this crate's contracts cite.
 
-ghost use Rattle.std.specs.Prelude.{List, ℕ, [], ◌∷◌, ◌++◌};
+ghost use Rattle.std.specs.Prelude.{Bool, List, ℕ, [], ◌∷◌, ◌++◌};
 ghost use Rattle.kp_send.specs.Latency.{Adds, IsNear, IsRanked, IsTableOf, Table};
 ghost use Rattle.kp_send.specs.Ledger.{Book, Call, entered_by, Follow, left_by, Moves};
+ghost use Rattle.kp_send.specs.Sender.{Account, IsFresh};
+ghost use Rattle.kp_send.specs.Streaming.{Goes, Passes};
+ghost use Rattle.kp_send.specs.declared.form.Form.{Form};
+ghost use Rattle.kp_send.specs.declared.texts.Texts.{Texts};
 
 /// Of the lines that waited and those that were entered by any calls, each has left once, or still waits; and no other
 /// has, or does.
@@ -22,4 +26,11 @@ pub fn a_latency_more_is_counted()
 pub fn a_percentile_is_near()
     ensures { (latencies : List ℕ) (table : Table) (rank told : ℕ)
         → IsTableOf latencies table → IsRanked table rank told → IsNear latencies rank told }
+{}
+
+/// By any calls on a new sender: the bytes that were taken are cut into lines, numbered in their order; each of these was told
+/// of once, by its number, or is on its way; and what is written is of those that were told of, in their order.
+pub fn each_line_is_told_of_once()
+    ensures { (form : Form) (delimiter : ℕ) (keeps : Bool) (a b : Account) (texts after : Texts) (taken : List ℕ)
+        → IsFresh form delimiter keeps a → Goes a texts taken b after → Passes a texts taken b after }
 {}

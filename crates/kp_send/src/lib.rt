@@ -7,7 +7,9 @@ mod form;
 mod latency;
 pub mod laws;
 mod ledger;
+mod sender;
 mod telling;
+mod texts;
 mod told;
 mod words;
 
@@ -15,5 +17,7 @@ pub use fault::LedgerFault;
 pub use form::Form;
 pub use latency::Latencies;
 pub use ledger::Ledger;
+pub use sender::Sender;
 pub use telling::{Keep, SAID_LIMIT, Tellings, keep_of};
+pub use texts::Texts;
 pub use told::{Fate, Sent, Told};
