@@ -1,0 +1,2 @@
+mod GoingLemmas
+mod PollLemmas

@@ -1,0 +1,146 @@
+//! A stream of lines, from its bytes to what became of each line.
+
+ghost use Rattle.std.specs.Prelude.{◌≡◌, ◌≤◌, Ok, length};
+ghost use Rattle.kp_accum.specs.Config.{checked};
+ghost use Rattle.kp_cluster.specs.declared.learning.TheConstants.{SLOT_LIMIT};
+ghost use Rattle.kp_rules.specs.Opening.{NAME_LIMIT};
+
+use crate::fault::PublishFault;
+use crate::files::Files;
+use crate::input::{Input, pieces, read_all};
+use crate::publishing::Publishing;
+use kp_cluster::Address;
+use kp_core::Names;
+use kp_drive::{Drive, EmbedConfig, HostNames, Sockets};
+use kp_send::{Form, Sender, Tellings};
+use std::alloc::AllocGlobal;
+use std::io::{Read, Write};
+use std::net::{Net, TcpListener, TcpStream};
+use std::random::RandomSource;
+use std::sync::Wait;
+use std::thread::{self, Threads};
+use std::time::Clock;
+use tokio::runtime::LocalRuntime;
+
+/// What is to be published, and how.
+#[derive(Drop)]
+pub struct Plan {
+    pub config: EmbedConfig,
+    pub names: Names,
+    /// Where a broker of the cluster may be.
+    pub bootstrap: Vec<Address>,
+    /// How long a connection may take to be made, in milliseconds, once its host was looked up.
+    pub setup_timeout_ms: u64,
+    pub form: Form,
+    /// What ends a line.
+    pub delimiter: u8,
+    ghost right: { checked config.producer ≡ Ok tt },
+    ghost topic: { length names.topic ≤ NAME_LIMIT },
+    ghost client: { length names.client ≤ NAME_LIMIT },
+    ghost some: { 1 ≤ length bootstrap.items },
+    ghost few: { length bootstrap.items ≤ SLOT_LIMIT },
+}
+
+/// Publishes what the input has up to its end: how many lines ended in which way, once each was told of.
+///
+/// What was delivered is written to files, as far as they are there; why others were not, to `err`.
+pub fn publish<R, I, F, E>(
+    rt: &R,
+    plan: Plan,
+    input: &mut I,
+    files: Files<F>,
+    err: &mut E,
+) -> Result<Tellings, PublishFault>
+where
+    R: Wait + Threads + Clock + RandomSource + AllocGlobal + Sync,
+    R: Net<Listener = TcpListener, Stream = TcpStream>,
+    I: Read + Send,
+    F: Write + Drop,
+    E: Write,
+{
+    let (hosts, resolver) = HostNames::new(rt.alloc())?;
+    let (resolved, published) = thread::join(
+        rt,
+        move || resolver.run(rt),
+        move || publish_named(rt, plan, hosts, input, files, err),
+    );
+    let tellings = published?;
+    resolved?;
+    Ok(tellings)
+}
+
+/// Publishes, while another thread looks up names.
+fn publish_named<R, I, F, E>(
+    rt: &R,
+    plan: Plan,
+    hosts: HostNames,
+    input: &mut I,
+    files: Files<F>,
+    err: &mut E,
+) -> Result<Tellings, PublishFault>
+where
+    R: Wait + Threads + Clock + RandomSource + AllocGlobal + Sync,
+    R: Net<Listener = TcpListener, Stream = TcpStream>,
+    I: Read + Send,
+    F: Write + Drop,
+    E: Write,
+{
+    let (to, from) = pieces(rt.alloc())?;
+    let (_, published) = thread::join(
+        rt,
+        move || read_all(rt, input, to),
+        move || publish_pieces(rt, plan, hosts, Input::of(rt.alloc(), from), files, err),
+    );
+    published
+}
+
+/// Publishes, while other threads look up names and read.
+fn publish_pieces<R, F, E>(
+    rt: &R,
+    plan: Plan,
+    hosts: HostNames,
+    input: Input,
+    files: Files<F>,
+    err: &mut E,
+) -> Result<Tellings, PublishFault>
+where
+    R: Wait + Clock + RandomSource + AllocGlobal,
+    R: Net<Listener = TcpListener, Stream = TcpStream>,
+    F: Write + Drop,
+    E: Write,
+{
+    let alloc = rt.alloc();
+    let mut seed = [0; 8];
+    rt.fill_bytes(&mut seed)?;
+    let mut runtime = LocalRuntime::new(rt)?;
+    let Plan {
+        config,
+        names,
+        bootstrap,
+        setup_timeout_ms,
+        form,
+        delimiter,
+    } = plan;
+    let keeps = files.undelivered.is_some() || files.unknown.is_some();
+    let sockets = Sockets::new(rt, runtime.handle().clone()?, hosts, setup_timeout_ms);
+    let drive = Drive::new(
+        alloc,
+        rt,
+        runtime.handle(),
+        sockets,
+        config,
+        names,
+        bootstrap,
+        u64::from_be_bytes(seed),
+    )?;
+    let publishing = Publishing {
+        rt,
+        alloc,
+        drive,
+        sender: Sender::new(alloc, form, delimiter, keeps),
+        input,
+        files,
+        err,
+    };
+    runtime.block_on(rt, publishing)?
+}
