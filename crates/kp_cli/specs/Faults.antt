@@ -1,7 +1,7 @@
 -- The line that a fault is told by, and the fault that a packing's, a run's or a replay's is told as.
 use Rattle.std.specs.Prelude.{ℕ, List, [], ◌++◌, codes, decimal}
 use Rattle.kp_cli.specs.declared.fault.Fault.{Fault}
-use Rattle.kp_cli.specs.declared.fault.Fault.TheVariants.{CannotRead, OutOfMemory, TooLarge, Topic, Plan, Config, Network, Handshake, BadLine, NoSuch, TooLong, NotText, CannotWrite}
+use Rattle.kp_cli.specs.declared.fault.Fault.TheVariants.{CannotRead, OutOfMemory, TooLarge, Topic, Plan, Config, Network, Handshake, BadLine, NoSuch, TooLong, NotText, Sends, CannotWrite}
 use Rattle.kp_offline.specs.declared.fault.PackFault.{PackFault}
 use Rattle.kp_offline.specs.declared.fault.PackFault.TheVariants as pack
 use Rattle.kp_accum.specs.Config.{number_of}
@@ -46,4 +46,5 @@ fault_line (BadLine line) = codes "kprod: line " ++ decimal line ++ codes ": not
 fault_line (NoSuch line) = codes "kprod: line " ++ decimal line ++ codes ": no such thing" ++ newline
 fault_line TooLong = codes "kprod: schedule too long" ++ newline
 fault_line NotText = codes "kprod: a word is not UTF-8" ++ newline
+fault_line Sends = codes "kprod: send is the program kprod_send, which ./kprod runs" ++ newline
 fault_line CannotWrite = []

@@ -12,8 +12,9 @@ use Rattle.kp_cli.specs.Faults.{of_run}
 use Rattle.kp_offline.specs.Lines.{lines}
 use Rattle.kp_cli.specs.RunText.{run_text}
 use Rattle.kp_command_line.specs.declared.command_line.Command.{Command}
-use Rattle.kp_command_line.specs.declared.command_line.Command.TheVariants.{Pack, Replay, Run}
+use Rattle.kp_command_line.specs.declared.command_line.Command.TheVariants.{Pack, Replay, Run, Send}
 use Rattle.kp_cli.specs.declared.fault.Fault.{Fault}
+use Rattle.kp_cli.specs.declared.fault.Fault.TheVariants.{Sends}
 
 -- ---- what is printed
 
@@ -43,8 +44,9 @@ LooksFirst options result =
     ((why : RunFault) × RefusedFor options why × (result ≡ Err (of_run why)))
     ⊎ ((looked_at : Checked) × AreFine options looked_at)
 
--- so it is with a run
+-- so it is with a run; to send lines as they come is left to another program
 abbrev pub Looks : Command → Result (Unit {0}) Fault → Type 0
 Looks (Pack file) result = Unit {0}
 Looks (Replay file) result = Unit {0}
 Looks (Run wanted) result = LooksFirst wanted.options result
+Looks (Send sending) result = result ≡ Err Sends

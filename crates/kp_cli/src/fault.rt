@@ -37,6 +37,8 @@ pub enum Fault<'a> {
     TooLong,
     /// A word of the call.
     NotText,
+    /// What sends lines as they come is a program of its own.
+    Sends,
     /// The output took no more. Nobody is told.
     CannotWrite,
 }
@@ -138,6 +140,9 @@ pub fn put_fault<W: Write>(err: &mut W, fault: Fault<'_>) -> io::Result<()>
         Fault::NoSuch(line) => put_line_fault(err, line, b": no such thing"),
         Fault::TooLong => err.write_all(b"kprod: schedule too long\n"),
         Fault::NotText => err.write_all(b"kprod: a word is not UTF-8\n"),
+        Fault::Sends => err.write_all(
+            b"kprod: send is the program kprod_send, which ./kprod runs\n",
+        ),
         Fault::CannotWrite => Ok(()),
     }
 }

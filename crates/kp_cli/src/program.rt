@@ -41,7 +41,7 @@ pub fn fail<E: Write>(fault: Fault<'_>, err: &mut E) -> u8
 {
     let _ = put_fault(err, fault);
     match fault {
-        Fault::NotText => USAGE,
+        Fault::NotText | Fault::Sends => USAGE,
         _ => FAULT,
     }
 }
@@ -171,6 +171,7 @@ where
         Command::Pack(file) => pack_file(rt, file, input, out),
         Command::Replay(file) => replay_file(rt, file, input, out),
         Command::Run(wanted) => run_file(rt, wanted, input, out, err),
+        Command::Send(_) => Err(Fault::Sends),
     }
 }
 

@@ -23,6 +23,9 @@ returns-in-TooLarge g c = rw c.in-TooLarge.is c.write_all-in-TooLarge.ensures.by
 pub returns-in-NotText : goal.returns-in-NotText
 returns-in-NotText g c = rw c.in-NotText.is c.write_all-in-NotText.ensures.bytes
 
+pub returns-in-Sends : goal.returns-in-Sends
+returns-in-Sends g c = rw c.in-Sends.is c.write_all-in-Sends.ensures.bytes
+
 pub returns-in-Config : goal.returns-in-Config
 returns-in-Config g c = rw c.in-Config.is c.put_numbered.ensures
 

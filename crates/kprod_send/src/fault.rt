@@ -1,0 +1,87 @@
+//! Why lines are not sent, or no more.
+
+use kp_accum::ConfigFault;
+use kp_bootstrap::BootstrapFault;
+use kp_publish::PublishFault;
+use std::alloc::AllocError;
+use std::io::{self, ErrorKind, Write};
+
+/// Why lines are not sent, or no more.
+#[derive(Clone, Copy, Debug, PartialEq, Eq)]
+pub(crate) enum Fault<'a> {
+    /// A word of the call.
+    NotText,
+    OutOfMemory,
+    /// What does not send lines as they come is another program.
+    Runs,
+    Topic,
+    Client,
+    Config(ConfigFault),
+    Brokers(BootstrapFault),
+    /// The file as the words named it.
+    CannotRead(&'a str),
+    CannotWrite(&'a str),
+    /// A file that is read can't be written too.
+    IsRead(&'a str),
+    Publish(PublishFault),
+}
+
+impl<'a> Fault<'a> {
+    /// Why the words could not be had.
+    pub(crate) fn of_words(error: &io::Error) -> Fault<'a> {
+        Fault::of(error, Fault::NotText)
+    }
+
+    /// Memory that was refused, or else this fault.
+    pub(crate) fn of(error: &io::Error, fault: Fault<'a>) -> Fault<'a> {
+        match error.kind() {
+            ErrorKind::OutOfMemory => Fault::OutOfMemory,
+            _ => fault,
+        }
+    }
+
+    /// The exit status: 2 for words that can't be meant, else 1.
+    pub(crate) fn status(self) -> u8 {
+        match self {
+            Fault::NotText
+            | Fault::Runs
+            | Fault::Topic
+            | Fault::Client
+            | Fault::Config(_)
+            | Fault::Brokers(
+                BootstrapFault::Empty | BootstrapFault::Address | BootstrapFault::TooMany,
+            )
+            | Fault::IsRead(_) => 2,
+            Fault::OutOfMemory
+            | Fault::Brokers(BootstrapFault::OutOfMemory)
+            | Fault::CannotRead(_)
+            | Fault::CannotWrite(_)
+            | Fault::Publish(_) => 1,
+        }
+    }
+}
+
+impl From<AllocError> for Fault<'_> {
+    fn from(_refused: AllocError) -> Self {
+        Fault::OutOfMemory
+    }
+}
+
+/// The fault's line. Nothing is allocated.
+pub(crate) fn put_fault<E: Write>(err: &mut E, fault: Fault<'_>) -> io::Result<()> {
+    match fault {
+        Fault::NotText => err.write_all(b"kprod: a word is not UTF-8\n"),
+        Fault::OutOfMemory => err.write_all(b"kprod: out of memory\n"),
+        Fault::Runs => err.write_all(b"kprod: pack, replay and run are the program kprod\n"),
+        Fault::Topic => err.write_all(
+            b"kprod: a topic's name has 1 to 249 letters, digits, dots, underscores and hyphens, and is not . or ..\n",
+        ),
+        Fault::Client => err.write_all(b"kprod: client.id has more than 249 bytes\n"),
+        Fault::Config(fault) => writeln!(err, "kprod: {fault}"),
+        Fault::Brokers(fault) => writeln!(err, "kprod: --broker: {fault}"),
+        Fault::CannotRead(file) => writeln!(err, "kprod: cannot read {file}"),
+        Fault::CannotWrite(file) => writeln!(err, "kprod: cannot write {file}"),
+        Fault::IsRead(file) => writeln!(err, "kprod: {file} is read, and can't be written too"),
+        Fault::Publish(fault) => writeln!(err, "kprod: {fault}"),
+    }
+}
