@@ -1,17 +1,13 @@
 -- Polls of what publishes.
-use Rattle.std.specs.Prelude.{◌≡◌, ℕ, List, [], ◌++◌, Option, true, map}
-use Rattle.std.specs.List.{flat_map}
-use Rattle.std.specs.List.Sorted.{IsPermutation}
-use Rattle.kp_lines.specs.declared.line.Line.{Line}
-use Rattle.kp_publish.specs.Files.{Adds, Shows}
+use Rattle.std.specs.Prelude.{◌≡◌, ℕ, List, [], ◌++◌, Bool, Option, true}
+use Rattle.kp_publish.specs.Files.{Shows}
 use Rattle.kp_publish.specs.declared.files.Files.{Files}
-use Rattle.kp_send.specs.Sender.{Account, is_done}
-use Rattle.kp_send.specs.Streaming.{Cuts, Goes, mark_of, open_marks, told_mark}
-use Rattle.kp_send.specs.Telling.{out_text}
-use Rattle.kp_send.specs.Texts.{counted_all, IsEmpty, undelivered_text, unknown_text}
+use Rattle.kp_send.specs.Sender.{Account, IsFresh, is_done}
+use Rattle.kp_send.specs.Streaming.{Goes}
+use Rattle.kp_send.specs.Texts.{IsEmpty}
+use Rattle.kp_send.specs.declared.form.Form.{Form}
 use Rattle.kp_send.specs.declared.telling.Tellings.{Tellings}
 use Rattle.kp_send.specs.declared.texts.Texts.{Texts}
-use Rattle.kp_send.specs.declared.told.Told.{Told}
 
 -- calls on the sender, by which some bytes of the input were taken
 abbrev pub GoesOn : Account → Texts → Account → Texts → Type 0
@@ -45,14 +41,9 @@ module _ {F : Type 0} (contents : F → Option (List ℕ)) where
     pub done : is_done last ≡ true
     pub counted : last.tellings ≡ tellings
 
-  -- What was taken of the input was cut into lines, numbered in their order, of which each was told of once, by its number; and the
-  -- files have gained the texts of these.
-  pub record IsTold (a : Account) (files : Files F) (taken : List ℕ) (b : Account) (files' : Files F) : Type 0 where
-    pub lines : List Line
-    pub told : List Told
-    pub cuts : Cuts a.cutting taken lines b.cutting
-    pub each : IsPermutation (map (mark_of a.keeps) lines) (map told_mark told)
-    pub tellings : b.tellings ≡ counted_all a.tellings told
-    pub offsets : Adds contents files.offsets (flat_map out_text told) files'.offsets
-    pub undelivered : Adds contents files.undelivered (flat_map (undelivered_text a.delimiter) told) files'.undelivered
-    pub unknown : Adds contents files.unknown (flat_map (unknown_text a.delimiter) told) files'.unknown
+  -- The same from a new sender on.
+  pub record IsPublishedAnew (form : Form) (delimiter : ℕ) (files : Files F) (tellings : Tellings) : Type 0 where
+    pub keeps : Bool
+    pub first : Account
+    pub fresh : IsFresh form delimiter keeps first
+    pub published : IsPublished first files tellings

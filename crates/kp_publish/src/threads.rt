@@ -1,8 +1,9 @@
 //! A stream of lines, from its bytes to what became of each line.
 
-ghost use Rattle.std.specs.Prelude.{◌≡◌, ◌≤◌, Ok, length};
+ghost use Rattle.std.specs.Prelude.{◌≡◌, ◌≤◌, IfOk, Ok, length};
 ghost use Rattle.kp_accum.specs.Config.{checked};
 ghost use Rattle.kp_cluster.specs.declared.learning.TheConstants.{SLOT_LIMIT};
+ghost use Rattle.kp_publish.specs.Publishing.{IsPublishedAnew};
 ghost use Rattle.kp_rules.specs.Opening.{NAME_LIMIT};
 
 use crate::fault::PublishFault;
@@ -57,6 +58,7 @@ where
     I: Read + Send,
     F: Write + Drop,
     E: Write,
+    ensures { IfOk result (λ tellings. IsPublishedAnew F.contents plan.form plan.delimiter files tellings) }
 {
     let (hosts, resolver) = HostNames::new(rt.alloc())?;
     let (resolved, published) = thread::join(
@@ -84,6 +86,7 @@ where
     I: Read + Send,
     F: Write + Drop,
     E: Write,
+    ensures { IfOk result (λ tellings. IsPublishedAnew F.contents plan.form plan.delimiter files tellings) }
 {
     let (to, from) = pieces(rt.alloc())?;
     let (_, published) = thread::join(
@@ -108,6 +111,7 @@ where
     R: Net<Listener = TcpListener, Stream = TcpStream>,
     F: Write + Drop,
     E: Write,
+    ensures { IfOk result (λ tellings. IsPublishedAnew F.contents plan.form plan.delimiter files tellings) }
 {
     let alloc = rt.alloc();
     let mut seed = [0; 8];
