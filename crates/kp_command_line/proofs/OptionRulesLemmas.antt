@@ -23,6 +23,14 @@ then {mid = mid} before adds is local = record {
   local = adds.globals ∙ ap (λ (g : Bool). (fields_of mid).has_globals || g) local ∙ or_false _ ∙ before.local;
 }
 
+-- some, and then some more
+pub further : {more most : App → App} {old mid new : Command} → TakesAlso more old mid → TakesAlso most mid new
+    → TakesAlso (λ app. most (more app)) old new
+further {most = most} before after = record {
+  shape = after.shape ∙ ap most before.shape;
+  local = after.local ∙ before.local;
+}
+
 -- one more name
 pub aliased : {r : Rule} (old new : Arg) (name : Bor Text) → rule_of old ≡ r → r.aliases ≡ [] → AddsAliases old new ((name, true) ∷ [])
     → rule_of new ≡ record r { aliases = name.now ∷ [] }

@@ -1,6 +1,6 @@
 -- What `send` takes, as clap sees it.
 use Rattle.std.specs.Prelude.{codes}
-use Rattle.clap.specs.Words.{App, Rule, new_app, new_rule, with_rule}
+use Rattle.clap.specs.Words.{App, Rule, Text, new_app, new_rule, with_rule}
 use Rattle.kp_command_line.specs.OptionRules.{any, flag_rule, number_rule, repeated_rule, required_rule, setting_rule, text_rule}
 
 -- the file, which is no option, and need not be said
@@ -9,9 +9,10 @@ lines_rule = record (new_rule (codes "file")) { value_names = 1 }
 
 abbrev pub with_place : App → App
 with_place app =
-    with_rule (with_rule (with_rule app lines_rule)
+    with_rule (with_rule (with_rule (with_rule app lines_rule)
     (required_rule (codes "broker")))
-    (required_rule (codes "topic"))
+    (required_rule (codes "topic")))
+    (text_rule (codes "config"))
 
 abbrev pub with_lines : App → App
 with_lines app =
@@ -26,6 +27,16 @@ with_files app =
     with_rule (with_rule (with_rule app (text_rule (codes "undelivered")))
     (text_rule (codes "unknown")))
     (text_rule (codes "offsets"))
+
+-- seconds, up to ten years
+abbrev pub seconds_rule : Text → Rule
+seconds_rule name = number_rule name 1 315360000
+
+abbrev pub with_progress : App → App
+with_progress app =
+    with_rule (with_rule (with_rule app (flag_rule (codes "quiet")))
+    (seconds_rule (codes "statistics")))
+    (seconds_rule (codes "give-up-after"))
 
 abbrev pub with_batches : App → App
 with_batches app =
@@ -52,4 +63,4 @@ with_connections app =
 
 abbrev pub send_app : App
 send_app =
-    with_connections (with_requests (with_batches (with_files (with_lines (with_place (new_app (codes "send")))))))
+    with_connections (with_requests (with_batches (with_progress (with_files (with_lines (with_place (new_app (codes "send"))))))))

@@ -50,6 +50,9 @@ module _ (rows : List Row) where
     pub undelivered : text_said sending.undelivered ≡ first_of (codes "undelivered") rows
     pub unknown : text_said sending.unknown ≡ first_of (codes "unknown") rows
     pub offsets : text_said sending.offsets ≡ first_of (codes "offsets") rows
+    pub quiet : IsFlag (one_of (codes "quiet") rows) sending.quiet
+    pub statistics : IsSaid 64 (one_of (codes "statistics") rows) sending.statistics
+    pub give_up_after : IsSaid 64 (one_of (codes "give-up-after") rows) sending.give_up_after
 
   -- the partition is above the last that Kafka numbers
   abbrev pub IsPastPartitions : Type 0

@@ -3,11 +3,14 @@
 ghost use Rattle.std.specs.Prelude.{◌≡◌, false, IfOk};
 ghost use Rattle.clap.specs.Words.{app_of, rule_of};
 ghost use Rattle.kp_command_line.specs.OptionRules.{IsLocal, TakesAlso};
-ghost use Rattle.kp_command_line.specs.SendCommand.{lines_rule, send_app, with_batches, with_connections, with_files, with_lines, with_place, with_requests};
+ghost use Rattle.kp_command_line.specs.SendCommand.{lines_rule, send_app, with_batches, with_connections, with_files, with_lines, with_place, with_progress, with_requests};
 
 use crate::option_rules::{flag, number, repeated_text, required_text, setting, text};
 use clap::{Arg, Command};
 use std::alloc::{AllocError, Global};
+
+/// The most seconds that an option takes: ten years.
+const LONGEST: u64 = 315_360_000;
 
 /// The file, which is no option.
 fn lines<'a>(alloc: Global) -> Arg<'a>
@@ -33,7 +36,14 @@ fn with_place<'a>(alloc: Global, command: Command<'a>) -> Result<Command<'a>, Al
     );
     let command = command.arg(brokers)?;
     let topic = required_text(alloc, "topic", "TOPIC", "The topic");
-    command.arg(topic)
+    let command = command.arg(topic)?;
+    let config = text(
+        alloc,
+        "config",
+        "FILE",
+        "Settings by Kafka's names, a line NAME=VALUE each, which count where no word says another",
+    );
+    command.arg(config)
 }
 
 /// How a line is made into a record.
@@ -102,6 +112,34 @@ fn with_files<'a>(alloc: Global, command: Command<'a>) -> Result<Command<'a>, Al
         "Gets the partition and the offset of each line that was delivered",
     );
     command.arg(offsets)
+}
+
+/// What is told of its progress, and how long it may take.
+fn with_progress<'a>(alloc: Global, command: Command<'a>) -> Result<Command<'a>, AllocError>
+    ensures { IfOk result (TakesAlso with_progress command.entry) }
+{
+    let quiet = flag(
+        alloc,
+        "quiet",
+        "Tells a terminal nothing of how far it has come",
+    );
+    let command = command.arg(quiet)?;
+    let statistics = number(
+        alloc,
+        "statistics",
+        1,
+        LONGEST,
+        "Each so many seconds a line of JSON on standard output tells how far it has come",
+    );
+    let command = command.arg(statistics)?;
+    let longest = number(
+        alloc,
+        "give-up-after",
+        1,
+        LONGEST,
+        "After so many seconds it is given up; lines that were sent and have no answer are unknown then",
+    );
+    command.arg(longest)
 }
 
 /// How records are batched.
@@ -240,6 +278,7 @@ pub(crate) fn send_command<'a>(alloc: Global) -> Result<Command<'a>, AllocError>
     let command = with_place(alloc, command)?;
     let command = with_lines(alloc, command)?;
     let command = with_files(alloc, command)?;
+    let command = with_progress(alloc, command)?;
     let command = with_batches(alloc, command)?;
     let command = with_requests(alloc, command)?;
     with_connections(alloc, command)

@@ -9,7 +9,7 @@ ghost use Rattle.kp_command_line.specs.OptionWords.{IsSaid, rows_in, text_said};
 ghost use Rattle.kp_command_line.specs.SendWords.{AsksForSend, AsksForSettings, IsDelimiter, IsPastPartitions, IsRefusedSend, NamesNoByte, headers_said};
 
 use crate::delimiter_words::{byte_named, is_header};
-use crate::option_words::{flag_of, number_or, small_number_of};
+use crate::option_words::{flag_of, number_of, number_or, small_number_of};
 use crate::sending::{LAST_PARTITION, Sending};
 use clap::ArgMatches;
 use kp_accum::Config;
@@ -152,5 +152,8 @@ pub(crate) fn sending_of<'a>(
         undelivered: matches.get_str("undelivered"),
         unknown: matches.get_str("unknown"),
         offsets: matches.get_str("offsets"),
+        quiet: flag_of(matches, "quiet"),
+        statistics: number_of(matches, "statistics"),
+        give_up_after: number_of(matches, "give-up-after"),
     })
 }

@@ -44,6 +44,12 @@ pub struct Sending<'a> {
     pub unknown: Option<&'a str>,
     /// The file for the places of the lines that were delivered, where one is said.
     pub offsets: Option<&'a str>,
+    /// Whether a terminal is told nothing of how far it has come.
+    pub quiet: bool,
+    /// Each so many seconds it is told how far it has come, where it is said.
+    pub statistics: Option<u64>,
+    /// After so many seconds it is given up, where it is said.
+    pub give_up_after: Option<u64>,
     ghost some_partition: { unwrap_or partition 0 ≤ LAST_PARTITION },
     ghost some_key_delimiter: { ForSome key_delimiter (λ text. 0 < length text.now) },
 }

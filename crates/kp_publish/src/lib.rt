@@ -5,12 +5,16 @@
 mod fault;
 mod files;
 mod input;
+mod moments;
 mod publishing;
 mod threads;
+mod watch;
+mod words;
 
 pub use fault::PublishFault;
 pub use files::Files;
 pub use threads::{Plan, publish};
+pub use watch::Telling;
 
 // What a caller names of the crates below.
 pub use kp_accum::Config;

@@ -7,11 +7,14 @@ ghost use Rattle.kp_publish.specs.Publishing.{GoesOn, IsPublished, Turns};
 
 use crate::fault::PublishFault;
 use crate::files::Files;
-use crate::input::Input;
+use crate::input::{Input, Piece};
+use crate::watch::Watch;
+use crate::words::put_refusal;
 use futures::Future;
 use futures::task::{Context, Poll};
 use kp_batch::Timestamp;
 use kp_drive::{HostNames, Named, Phase, SendFault, SocketDrive};
+use kp_rules::{Meaning, meaning_of};
 use kp_send::{Sender, Tellings, Texts};
 use kp_stamps::wall_stamp;
 use std::alloc::{AllocError, Global};
@@ -28,23 +31,50 @@ enum Next {
 
 /// Publishes what a thread reads, and is ready once each line was told of.
 #[derive(Drop)]
-pub(crate) struct Publishing<'r, R, F, E> {
+pub(crate) struct Publishing<'r, R, F, O, E> {
     pub(crate) rt: &'r R,
     pub(crate) alloc: Global,
     pub(crate) drive: SocketDrive<'r, R, HostNames, Named>,
     pub(crate) sender: Sender,
     pub(crate) input: Input,
+    /// How many lines wait for their reports at most.
+    pub(crate) limit: usize,
     pub(crate) files: Files<F>,
+    pub(crate) watch: Watch,
+    /// Whether it was said why nothing will be sent.
+    pub(crate) has_said_why: bool,
+    pub(crate) out: &'r mut O,
     pub(crate) err: &'r mut E,
 }
 
-impl<'r, R: Net + Clock, F: Write, E: Write> Publishing<'r, R, F, E> {
+impl<'r, R: Net + Clock, F: Write, O: Write, E: Write> Publishing<'r, R, F, O, E> {
+    /// The error code for which nothing will be sent, where brokers have answered one that does not get better.
+    fn refusal(&self) -> Option<i16> {
+        let producer = self.drive.producer();
+        match producer.statistics().refused {
+            Some(code) if producer.phase() != Phase::Ready && !may_get_better(code) => Some(code),
+            _ => None,
+        }
+    }
+
     /// Whether a line that is refused so is to stay the next one: there will be room, or a broker that is ready.
     fn stays(&self, fault: SendFault) -> bool {
         match fault {
             SendFault::BufferFull => true,
-            SendFault::NotReady => self.drive.producer().phase() != Phase::Failed,
+            SendFault::NotReady => {
+                self.drive.producer().phase() != Phase::Failed && self.refusal().is_none()
+            }
             _ => false,
+        }
+    }
+
+    /// Where no report will come by itself, since all that was accepted lingers, it goes out now.
+    fn press(&mut self)
+        ensures sender { self.new.sender ≡ self.old.sender }
+        ensures files { self.new.files ≡ self.old.files }
+    {
+        if self.drive.producer().statistics().requests_in_flight == 0 {
+            self.drive.flush();
         }
     }
 
@@ -53,12 +83,18 @@ impl<'r, R: Net + Clock, F: Write, E: Write> Publishing<'r, R, F, E> {
         ensures goes { OnOk result (GoesOn self.old.sender texts.old self.new.sender texts.new) }
         ensures files { self.new.files ≡ self.old.files }
     {
+        if self.sender.waiting() >= self.limit {
+            return Ok(Next::Waits);
+        }
         self.sender.reserve()?;
         let Some(record) = self.sender.next_record(stamp)? else {
             return Ok(Next::Gone);
         };
         match self.drive.send(self.sender.target(), record) {
-            Ok(ticket) => self.sender.accepted(ticket, texts)?,
+            Ok(ticket) => {
+                self.sender.accepted(ticket, texts)?;
+                self.watch.sent(ticket)?;
+            }
             Err((fault, _)) if self.stays(fault) => return Ok(Next::Waits),
             Err((fault, _)) => self.sender.refused(fault, texts)?,
         }
@@ -89,6 +125,7 @@ impl<'r, R: Net + Clock, F: Write, E: Write> Publishing<'r, R, F, E> {
         ensures kept { Keeps cx.old cx.new }
     {
         if self.send_piece(wall_stamp(self.rt), texts)? == Next::Waits {
+            self.press();
             return Ok(false);
         }
         if !self.sender.is_ready() {
@@ -98,6 +135,9 @@ impl<'r, R: Net + Clock, F: Write, E: Write> Publishing<'r, R, F, E> {
         match self.input.poll_piece(cx) {
             Poll::Pending => Ok(false),
             Poll::Ready(piece) => {
+                if let Some(Piece::Bytes(bytes)) = &piece {
+                    self.watch.came(bytes.len());
+                }
                 self.input.take_in(&mut self.sender, piece)?;
                 Ok(true)
             }
@@ -115,6 +155,7 @@ impl<'r, R: Net + Clock, F: Write, E: Write> Publishing<'r, R, F, E> {
                 return Ok(heard);
             };
             self.sender.told(&report, texts)?;
+            self.watch.told(&report);
             heard = true;
         }
         Ok(heard)
@@ -127,38 +168,121 @@ impl<'r, R: Net + Clock, F: Write, E: Write> Publishing<'r, R, F, E> {
         ensures kept { Keeps cx.old cx.new }
     {
         let mut texts = Texts::new(self.alloc);
+        self.watch.look(self.rt);
         let more = self.poll_input(cx, &mut texts)?;
         let turn = self.drive.poll_turn(cx);
         let heard = self.hear(&mut texts)?;
         self.files.write(&texts)?;
-        let _ = self.err.write_all(&texts.said);
-        if more || heard {
+        self.say(&texts.said)?;
+        let told = self.poll_watch(cx)?;
+        if more || heard || told {
             return Ok(Poll::Ready(()));
         }
         Ok(turn)
+    }
+
+    /// Says this, and why nothing will be sent, once that is known.
+    fn say(&mut self, said: &[u8]) -> Result<(), AllocError>
+        ensures sender { self.new.sender ≡ self.old.sender }
+        ensures files { self.new.files ≡ self.old.files }
+    {
+        let mut text = Vec::new(self.alloc);
+        if let (Some(code), false) = (self.refusal(), self.has_said_why) {
+            put_refusal(&mut text, code)?;
+            self.has_said_why = true;
+        }
+        text.extend_from_slice(said)?;
+        if !text.is_empty() {
+            self.watch.clear(self.err);
+            let _ = self.err.write_all(&text);
+        }
+        Ok(())
+    }
+
+    /// Tells how far the stream has come, where that is due: whether it was.
+    fn poll_watch(&mut self, cx: &mut Context<'_>) -> Result<bool, AllocError>
+        ensures sender { self.new.sender ≡ self.old.sender }
+        ensures files { self.new.files ≡ self.old.files }
+        ensures kept { Keeps cx.old cx.new }
+    {
+        let tellings = self.sender.tellings();
+        let waiting = self.sender.waiting();
+        let producer = self.drive.producer();
+        self.watch
+            .poll_due(cx, producer, tellings, waiting, self.out, self.err)
+    }
+
+    /// The line that is next is not sent any more, where one is.
+    fn leave_next(&mut self, texts: &mut Texts) -> Result<(), AllocError> {
+        if self.sender.next_record(wall_stamp(self.rt))?.is_some() {
+            self.sender.refused(SendFault::Closed, texts)?;
+        }
+        Ok(())
+    }
+
+    /// Gives up what is on its way, and tells of it.
+    fn leave(&mut self) -> Result<(), PublishFault> {
+        let mut texts = Texts::new(self.alloc);
+        self.drive.end();
+        self.hear(&mut texts)?;
+        self.leave_next(&mut texts)?;
+        self.files.write(&texts)?;
+        self.say(&texts.said)?;
+        Ok(self.say_end()?)
+    }
+
+    /// Why the stream ends before its input: its time is over, and each line that was taken is told of.
+    fn give_up(&mut self) -> PublishFault {
+        match self.leave() {
+            Ok(()) => {
+                let tellings = self.sender.tellings();
+                PublishFault::GivenUp(tellings.delivered.saturating_add(tellings.undelivered))
+            }
+            Err(fault) => fault,
+        }
+    }
+
+    /// Says what there is to say at the end.
+    fn say_end(&mut self) -> Result<(), AllocError>
+        ensures { self.new.sender ≡ self.old.sender }
+    {
+        let tellings = self.sender.tellings();
+        let mut said = Vec::new(self.alloc);
+        tellings.end(&mut said)?;
+        self.watch.clear(self.err);
+        let _ = self.err.write_all(&said);
+        let waiting = self.sender.waiting();
+        self.watch
+            .tell_statistics(self.drive.producer(), tellings, waiting, self.out)
     }
 
     /// Each line was told of: how many ended in which way.
     fn end(&mut self) -> Result<Tellings, PublishFault>
         ensures { IfOk result (λ tellings. self.old.sender.tellings ≡ tellings) }
     {
-        let tellings = self.sender.tellings();
-        let mut said = Vec::new(self.alloc);
-        tellings.end(&mut said)?;
-        let _ = self.err.write_all(&said);
+        self.say_end()?;
         if self.input.has_failed {
             return Err(PublishFault::Input);
         }
-        Ok(tellings)
+        Ok(self.sender.tellings())
     }
 }
 
-impl<R: Net + Clock, F: Write + Drop, E: Write> Future for Publishing<'_, R, F, E> {
+/// Whether brokers that have refused a producer with this code may take it later: they do not know its topic yet, or have no leader,
+/// or what gives producer ids is not ready.
+fn may_get_better(code: i16) -> bool {
+    meaning_of(code) == Meaning::Retry || matches!(code, 14 | 15 | 16 | 51)
+}
+
+impl<R: Net + Clock, F: Write + Drop, O: Write, E: Write> Future for Publishing<'_, R, F, O, E> {
     type Output = Result<Tellings, PublishFault>;
 
     ghost gives = { λ f r. IfOk r (IsPublished F.contents f.sender f.files) };
 
     fn poll(&mut self, cx: &mut Context<'_>) -> Poll<Result<Tellings, PublishFault>> {
+        if self.watch.is_over(cx) {
+            return Poll::Ready(Err(self.give_up()));
+        }
         let turn = match self.poll_turn(cx) {
             Ok(turn) => turn,
             Err(fault) => return Poll::Ready(Err(fault)),

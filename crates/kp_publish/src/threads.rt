@@ -10,6 +10,7 @@ use crate::fault::PublishFault;
 use crate::files::Files;
 use crate::input::{Input, pieces, read_all};
 use crate::publishing::Publishing;
+use crate::watch::{Telling, Watch};
 use kp_cluster::Address;
 use kp_core::Names;
 use kp_drive::{Drive, EmbedConfig, HostNames, Sockets};
@@ -23,6 +24,10 @@ use std::thread::{self, Threads};
 use std::time::Clock;
 use tokio::runtime::LocalRuntime;
 
+/// How many bytes of `buffer.memory` there are for each line that waits for its report, at least: what a short line takes is more
+/// than its bytes.
+const BYTES_A_LINE: u64 = 320;
+
 /// What is to be published, and how.
 #[derive(Drop)]
 pub struct Plan {
@@ -35,6 +40,7 @@ pub struct Plan {
     pub form: Form,
     /// What ends a line.
     pub delimiter: u8,
+    pub telling: Telling,
     ghost right: { checked config.producer ≡ Ok tt },
     ghost topic: { length names.topic ≤ NAME_LIMIT },
     ghost client: { length names.client ≤ NAME_LIMIT },
@@ -44,12 +50,15 @@ pub struct Plan {
 
 /// Publishes what the input has up to its end: how many lines ended in which way, once each was told of.
 ///
-/// What was delivered is written to files, as far as they are there; why others were not, to `err`.
-pub fn publish<R, I, F, E>(
+/// What was delivered is written to files, as far as they are there; why others were not, to `err`, and how far it has come to
+/// `err` and `out`, as the plan has it. Where its time is over, each line that was taken is told of, and what stands behind it is
+/// not sent.
+pub fn publish<R, I, F, O, E>(
     rt: &R,
     plan: Plan,
     input: &mut I,
     files: Files<F>,
+    out: &mut O,
     err: &mut E,
 ) -> Result<Tellings, PublishFault>
 where
@@ -57,6 +66,7 @@ where
     R: Net<Listener = TcpListener, Stream = TcpStream>,
     I: Read + Send,
     F: Write + Drop,
+    O: Write,
     E: Write,
     ensures { IfOk result (λ tellings. IsPublishedAnew F.contents plan.form plan.delimiter files tellings) }
 {
@@ -64,7 +74,7 @@ where
     let (resolved, published) = thread::join(
         rt,
         move || resolver.run(rt),
-        move || publish_named(rt, plan, hosts, input, files, err),
+        move || publish_named(rt, plan, hosts, input, files, out, err),
     );
     let tellings = published?;
     resolved?;
@@ -72,12 +82,13 @@ where
 }
 
 /// Publishes, while another thread looks up names.
-fn publish_named<R, I, F, E>(
+fn publish_named<R, I, F, O, E>(
     rt: &R,
     plan: Plan,
     hosts: HostNames,
     input: &mut I,
     files: Files<F>,
+    out: &mut O,
     err: &mut E,
 ) -> Result<Tellings, PublishFault>
 where
@@ -85,6 +96,7 @@ where
     R: Net<Listener = TcpListener, Stream = TcpStream>,
     I: Read + Send,
     F: Write + Drop,
+    O: Write,
     E: Write,
     ensures { IfOk result (λ tellings. IsPublishedAnew F.contents plan.form plan.delimiter files tellings) }
 {
@@ -92,24 +104,34 @@ where
     let (_, published) = thread::join(
         rt,
         move || read_all(rt, input, to),
-        move || publish_pieces(rt, plan, hosts, Input::of(rt.alloc(), from), files, err),
+        move || publish_pieces(
+            rt,
+            plan,
+            hosts,
+            Input::of(rt.alloc(), from),
+            files,
+            out,
+            err,
+        ),
     );
     published
 }
 
 /// Publishes, while other threads look up names and read.
-fn publish_pieces<R, F, E>(
+fn publish_pieces<R, F, O, E>(
     rt: &R,
     plan: Plan,
     hosts: HostNames,
     input: Input,
     files: Files<F>,
+    out: &mut O,
     err: &mut E,
 ) -> Result<Tellings, PublishFault>
 where
     R: Wait + Clock + RandomSource + AllocGlobal,
     R: Net<Listener = TcpListener, Stream = TcpStream>,
     F: Write + Drop,
+    O: Write,
     E: Write,
     ensures { IfOk result (λ tellings. IsPublishedAnew F.contents plan.form plan.delimiter files tellings) }
 {
@@ -124,8 +146,11 @@ where
         setup_timeout_ms,
         form,
         delimiter,
+        telling,
     } = plan;
+    let limit = usize::try_from(config.producer.buffer_memory / BYTES_A_LINE).unwrap_or(usize::MAX);
     let keeps = files.undelivered.is_some() || files.unknown.is_some();
+    let watch = Watch::new(alloc, rt, runtime.handle(), telling)?;
     let sockets = Sockets::new(rt, runtime.handle().clone()?, hosts, setup_timeout_ms);
     let drive = Drive::new(
         alloc,
@@ -143,7 +168,11 @@ where
         drive,
         sender: Sender::new(alloc, form, delimiter, keeps),
         input,
+        limit: limit.max(1),
         files,
+        watch,
+        has_said_why: false,
+        out,
         err,
     };
     runtime.block_on(rt, publishing)?

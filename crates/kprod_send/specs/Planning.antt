@@ -19,10 +19,23 @@ pub record IsFormOf (s : Sending) (f : Form) : Type 0 where
   pub key_delimiter : f.key_delimiter ≡ option_map (λ text. text.now) s.key_delimiter
   pub null_values : f.null_values ≡ s.null_values
 
-pub record IsPlanOf (s : Sending) (p : Plan) : Type 0 where
+abbrev seconds_of : Option Duration → Option ℕ
+seconds_of = option_map (λ d. as_nanos d)
+
+abbrev in_nanoseconds : Option ℕ → Option ℕ
+in_nanoseconds = option_map (λ seconds. seconds * 1000000000)
+
+-- what is told of its progress, to a terminal or to none
+pub record IsTellingOf (s : Sending) (is_terminal : Bool) (t : Telling) : Type 0 where
+  pub moves : t.moves ≡ is_terminal && not s.quiet
+  pub every : seconds_of t.every ≡ in_nanoseconds s.statistics
+  pub at_most : seconds_of t.at_most ≡ in_nanoseconds s.give_up_after
+
+pub record IsPlanOf (s : Sending) (is_terminal : Bool) (p : Plan) : Type 0 where
   pub topic : p.names.topic ≡ s.topic.now
   pub client : p.names.client ≡ s.client.now
   pub producer : p.config.producer ≡ s.config
   pub bootstrap : AreAddresses (entries_of s.brokers.now) p.bootstrap.items
   pub form : IsFormOf s p.form
   pub delimiter : p.delimiter ≡ s.delimiter
+  pub telling : IsTellingOf s is_terminal p.telling

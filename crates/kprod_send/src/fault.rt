@@ -2,6 +2,7 @@
 
 use kp_accum::ConfigFault;
 use kp_bootstrap::BootstrapFault;
+use kp_command_line::SettingsFault;
 use kp_publish::PublishFault;
 use std::alloc::AllocError;
 use std::io::{self, ErrorKind, Write};
@@ -11,6 +12,10 @@ use std::io::{self, ErrorKind, Write};
 pub(crate) enum Fault<'a> {
     /// A word of the call.
     NotText,
+    /// A file of settings that is no text.
+    NoSettings(&'a str),
+    /// What a file of settings says that can't be meant.
+    Settings(&'a str, SettingsFault<'a>),
     OutOfMemory,
     /// What does not send lines as they come is another program.
     Runs,
@@ -32,6 +37,14 @@ impl<'a> Fault<'a> {
         Fault::of(error, Fault::NotText)
     }
 
+    /// Why a file of settings could not be read.
+    pub(crate) fn of_settings(error: &io::Error, file: &'a str) -> Fault<'a> {
+        match error.kind() {
+            ErrorKind::InvalidData => Fault::NoSettings(file),
+            _ => Fault::of(error, Fault::CannotRead(file)),
+        }
+    }
+
     /// Memory that was refused, or else this fault.
     pub(crate) fn of(error: &io::Error, fault: Fault<'a>) -> Fault<'a> {
         match error.kind() {
@@ -44,6 +57,13 @@ impl<'a> Fault<'a> {
     pub(crate) fn status(self) -> u8 {
         match self {
             Fault::NotText
+            | Fault::NoSettings(_)
+            | Fault::Settings(
+                _,
+                SettingsFault::NoSetting(_)
+                | SettingsFault::Unknown(_, _)
+                | SettingsFault::Fixed(_, _),
+            )
             | Fault::Runs
             | Fault::Topic
             | Fault::Client
@@ -53,6 +73,7 @@ impl<'a> Fault<'a> {
             )
             | Fault::IsRead(_) => 2,
             Fault::OutOfMemory
+            | Fault::Settings(_, SettingsFault::OutOfMemory)
             | Fault::Brokers(BootstrapFault::OutOfMemory)
             | Fault::CannotRead(_)
             | Fault::CannotWrite(_)
@@ -67,10 +88,38 @@ impl From<AllocError> for Fault<'_> {
     }
 }
 
+/// The line of a fault in a file of settings.
+fn put_settings_fault<E: Write>(
+    err: &mut E,
+    file: &str,
+    fault: SettingsFault<'_>,
+) -> io::Result<()> {
+    match fault {
+        SettingsFault::NoSetting(line) => {
+            writeln!(err, "kprod: {file}, line {line}: a line is NAME=VALUE")
+        }
+        SettingsFault::Unknown(line, name) => {
+            writeln!(
+                err,
+                "kprod: {file}, line {line}: send has no setting {name}"
+            )
+        }
+        SettingsFault::Fixed(line, name) => {
+            writeln!(
+                err,
+                "kprod: {file}, line {line}: {name} can't have this value here"
+            )
+        }
+        SettingsFault::OutOfMemory => err.write_all(b"kprod: out of memory\n"),
+    }
+}
+
 /// The fault's line. Nothing is allocated.
 pub(crate) fn put_fault<E: Write>(err: &mut E, fault: Fault<'_>) -> io::Result<()> {
     match fault {
         Fault::NotText => err.write_all(b"kprod: a word is not UTF-8\n"),
+        Fault::NoSettings(file) => writeln!(err, "kprod: {file} is no text"),
+        Fault::Settings(file, fault) => put_settings_fault(err, file, fault),
         Fault::OutOfMemory => err.write_all(b"kprod: out of memory\n"),
         Fault::Runs => err.write_all(b"kprod: pack, replay and run are the program kprod\n"),
         Fault::Topic => err.write_all(

@@ -10,11 +10,11 @@ use crate::fault::{Fault, put_fault};
 use crate::sending::send;
 use clap::Error;
 use clap::error::ErrorKind;
-use kp_command_line::{Command, command_of};
-use std::env;
+use kp_command_line::{Command, command_of, settings_file, with_settings};
 use std::io::{self, Lock, Write};
 use std::process::ExitCode;
-use std::rt::Env;
+use std::rt::{Env, Files};
+use std::{env, fs};
 
 /// Each line was delivered.
 const DONE: u8 = 0;
@@ -33,6 +33,28 @@ fn words_of<R: Env + AllocGlobal>(rt: &R) -> io::Result<Vec<String>> {
 fn fail<E: Write>(fault: Fault<'_>, err: &mut E) -> u8 {
     let _ = put_fault(err, fault);
     fault.status()
+}
+
+/// The words with what the file of settings says that they name; or the exit status, where it can't be read or meant.
+fn settled<R: Files + AllocGlobal, E: Write>(
+    rt: &R,
+    words: Vec<String>,
+    err: &mut E,
+) -> Result<Vec<String>, u8> {
+    let Some(named) = settings_file(&words) else {
+        return Ok(words);
+    };
+    let Ok(file) = String::from_str(rt.alloc(), named) else {
+        return Err(fail(Fault::OutOfMemory, err));
+    };
+    let text = match fs::read_to_string(rt, &file) {
+        Ok(text) => text,
+        Err(error) => return Err(fail(Fault::of_settings(&error, &file), err)),
+    };
+    match with_settings(rt.alloc(), words, &text) {
+        Ok(words) => Ok(words),
+        Err(fault) => Err(fail(Fault::Settings(&file, fault), err)),
+    }
 }
 
 /// Ends a call whose words are no call, or ask for help.
@@ -58,9 +80,13 @@ fn main(rt: HostRuntime) -> ExitCode {
         Ok(words) => words,
         Err(error) => return ExitCode::from(fail(Fault::of_words(&error), err)),
     };
+    let words = match settled(&rt, words, err) {
+        Ok(words) => words,
+        Err(status) => return ExitCode::from(status),
+    };
     let status = match command_of(rt.alloc(), words.as_slice()) {
         Err(error) => refuse(&error, out, err),
-        Ok(Command::Send(sending)) => match send(&rt, &sending, input, err) {
+        Ok(Command::Send(sending)) => match send(&rt, &sending, input, out, err) {
             Ok(tellings) => tellings.status(),
             Err(fault) => fail(fault, err),
         },

@@ -1,23 +1,28 @@
 //! What the words ask to be published.
 
 ghost use Rattle.std.specs.Prelude.{◌≡◌, IfOk};
-ghost use Rattle.kprod_send.specs.Planning.{IsFormOf, IsPlanOf};
+ghost use Rattle.kprod_send.specs.Planning.{IsFormOf, IsPlanOf, IsTellingOf};
 
 use crate::fault::Fault;
 use kp_batch::Header;
 use kp_bootstrap::read_addresses;
 use kp_command_line::Sending;
 use kp_options::is_topic;
-use kp_publish::{ClusterConfig, EmbedConfig, Form, Names, Plan, Target};
+use kp_publish::{ClusterConfig, EmbedConfig, Form, Names, Plan, Target, Telling};
 use kp_wire::{Blob, Seq, Text};
 use std::alloc::{AllocError, Global};
+use std::time::Duration;
 
 /// The most bytes of a client's name.
 const CLIENT_LIMIT: usize = 249;
 
 /// What is to be published, or why it can't be.
-pub(crate) fn plan_of<'a>(alloc: Global, sending: &Sending<'a>) -> Result<Plan, Fault<'a>>
-    ensures { IfOk result (IsPlanOf sending.now) }
+pub(crate) fn plan_of<'a>(
+    alloc: Global,
+    sending: &Sending<'a>,
+    is_terminal: bool,
+) -> Result<Plan, Fault<'a>>
+    ensures { IfOk result (IsPlanOf sending.now is_terminal) }
 {
     if !is_topic(sending.topic) {
         return Err(Fault::Topic);
@@ -42,6 +47,7 @@ pub(crate) fn plan_of<'a>(alloc: Global, sending: &Sending<'a>) -> Result<Plan, 
         setup_timeout_ms: sending.setup_timeout_ms,
         form: form_of(alloc, sending)?,
         delimiter: sending.delimiter,
+        telling: telling_of(sending, is_terminal),
     })
 }
 
@@ -59,6 +65,17 @@ fn config_of(sending: &Sending<'_>) -> EmbedConfig
             keep_to_one: false,
         },
         open_timeout_ms: sending.config.delivery_timeout_ms,
+    }
+}
+
+/// What is told of its progress, to a terminal or to none.
+fn telling_of(sending: &Sending<'_>, is_terminal: bool) -> Telling
+    ensures { IsTellingOf sending.now is_terminal result }
+{
+    Telling {
+        moves: is_terminal && !sending.quiet,
+        every: sending.statistics.map(Duration::from_secs),
+        at_most: sending.give_up_after.map(Duration::from_secs),
     }
 }
 

@@ -5,7 +5,7 @@ use crate::planning::plan_of;
 use kp_command_line::Sending;
 use kp_publish::{Files as Written, Plan, PublishFault, Tellings, publish};
 use std::fs::File;
-use std::io::{Read, Write};
+use std::io::{IsTerminal, Read, Write};
 use std::net::{Net, TcpListener, TcpStream};
 use std::random::RandomSource;
 use std::rt::Files;
@@ -14,10 +14,11 @@ use std::thread::Threads;
 use std::time::Clock;
 
 /// Sends the lines of the file that the words name, or of the input.
-pub(crate) fn send<'a, R, I, E>(
+pub(crate) fn send<'a, R, I, O, E>(
     rt: &R,
     sending: &Sending<'a>,
     input: &mut I,
+    out: &mut O,
     err: &mut E,
 ) -> Result<Tellings, Fault<'a>>
 where
@@ -25,38 +26,41 @@ where
     R: Net<Listener = TcpListener, Stream = TcpStream>,
     R::File: Send,
     I: Read + Send,
-    E: Write,
+    O: Write,
+    E: Write + IsTerminal,
 {
-    let plan = plan_of(rt.alloc(), sending)?;
+    let plan = plan_of(rt.alloc(), sending, err.is_terminal())?;
     if sending.file == "-" {
-        return send_bytes(rt, sending, plan, input, err);
+        return send_bytes(rt, sending, plan, input, out, err);
     }
     match File::open(rt, sending.file) {
-        Ok(mut file) => send_bytes(rt, sending, plan, &mut file, err),
+        Ok(mut file) => send_bytes(rt, sending, plan, &mut file, out, err),
         Err(error) => Err(Fault::of(&error, Fault::CannotRead(sending.file))),
     }
 }
 
 /// Sends the lines of these bytes.
-fn send_bytes<'a, R, I, E>(
+fn send_bytes<'a, R, I, O, E>(
     rt: &R,
     sending: &Sending<'a>,
     plan: Plan,
     input: &mut I,
+    out: &mut O,
     err: &mut E,
 ) -> Result<Tellings, Fault<'a>>
 where
     R: Files + Wait + Threads + Clock + RandomSource + AllocGlobal + Sync,
     R: Net<Listener = TcpListener, Stream = TcpStream>,
     I: Read + Send,
-    E: Write,
+    O: Write,
+    E: Write + IsTerminal,
 {
     let files = Written {
         offsets: make(rt, sending, sending.offsets)?,
         undelivered: make(rt, sending, sending.undelivered)?,
         unknown: make(rt, sending, sending.unknown)?,
     };
-    match publish(rt, plan, input, files, err) {
+    match publish(rt, plan, input, files, out, err) {
         Ok(tellings) => Ok(tellings),
         Err(fault) => Err(fault_of(sending, fault)),
     }
@@ -88,7 +92,7 @@ fn fault_of<'a>(sending: &Sending<'a>, fault: PublishFault) -> Fault<'a> {
         PublishFault::Unknown => sending.unknown,
         PublishFault::Input => return Fault::CannotRead(sending.file),
         PublishFault::OutOfMemory => return Fault::OutOfMemory,
-        PublishFault::Network | PublishFault::Spent => None,
+        PublishFault::Network | PublishFault::GivenUp(_) | PublishFault::Spent => None,
     };
     match named {
         Some(name) => Fault::CannotWrite(name),

@@ -43,4 +43,7 @@ returns c =
       undelivered = sym (first_is found (codes "undelivered") c.get_str-3.result c.get_str-3.ensures);
       unknown = sym (first_is found (codes "unknown") c.get_str-4.result c.get_str-4.ensures);
       offsets = sym (first_is found (codes "offsets") c.get_str-5.result c.get_str-5.ensures);
+      quiet = c.flag_of-2.ensures;
+      statistics = c.number_of.ensures;
+      give_up_after = c.number_of-2.ensures;
     }
