@@ -5,7 +5,6 @@ mod broker_words;
 mod command_line;
 mod commands;
 mod delimiter_words;
-mod file_settings;
 mod option_rules;
 mod option_words;
 mod run_command;
@@ -15,6 +14,5 @@ mod send_words;
 mod sending;
 
 pub use command_line::{Command, command_of};
-pub use file_settings::{SettingsFault, settings_file, with_settings};
 pub use run_words::Wanted;
 pub use sending::{LAST_PARTITION, Sending};

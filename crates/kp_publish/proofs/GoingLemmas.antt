@@ -5,12 +5,12 @@ use Rattle.kp_embed.specs.declared.fault.SendFault.{SendFault}
 use Rattle.kp_embed.specs.declared.target.Ticket.{Ticket}
 use Rattle.kp_lines.specs.declared.line.Line.{Line}
 use Rattle.kp_rules.specs.declared.outcome.Report.{Report}
-use Rattle.kp_send.specs.Sender.{Accepts, Account, Finishes, Hears, Leaves, StaysButOrder, Takes}
+use Rattle.kp_send.specs.Sender.{Accepts, Account, Hears, Leaves, StaysButOrder}
 use Rattle.kp_send.specs.Streaming.{Calls, Goes}
 use Rattle.kp_send.specs.declared.texts.Texts.{Texts}
-use Rattle.kp_publish.specs.Publishing.{GoesOn, GoesSilently}
+use Rattle.kp_publish.specs.Publishing.{GoesOn}
 
-goes_more : (a : Account) (x : Texts) (t : List ℕ) (b : Account) (y : Texts) (u : List ℕ) (c : Account) (z : Texts)
+pub goes_more : (a : Account) (x : Texts) (t : List ℕ) (b : Account) (y : Texts) (u : List ℕ) (c : Account) (z : Texts)
     → Goes a x t b y → Goes b y u c z → Goes a x (t ++ u) c z
 goes_more a x t b y u c z first Goes.none = subst (λ (bytes : List ℕ). Goes a x bytes b y) (sym (append-nil t)) first
 goes_more a x t b y u c z first (Goes.one_more before more mid d between last so_far call) =
@@ -25,23 +25,15 @@ stays a x = ([], Goes.none)
 pub goes_on : (a b c : Account) (x y z : Texts) → GoesOn a x b y → GoesOn b y c z → GoesOn a x c z
 goes_on a b c x y z first later = (first.0 ++ later.0, goes_more a x first.0 b y later.0 c z first.1 later.1)
 
-one : (a b : Account) (x y : Texts) (taken : List ℕ) → Calls a x taken b y → GoesOn a x b y
-one a b x y taken call = ([] ++ taken, Goes.one_more [] taken a b x y Goes.none call)
+-- calls that take nothing of the stream
+pub reserves : (a b : Account) (x : Texts) → StaysButOrder a b → Goes a x [] b x
+reserves a b x r = Goes.one_more [] [] a b x x Goes.none (Calls.reserves b r)
 
-pub by_takes : (a b : Account) (chunk rest : List ℕ) → Takes a chunk rest b → GoesSilently a b
-by_takes a b chunk rest t texts = one a b texts texts t.taken (Calls.takes chunk rest b t)
+pub accepts : (a b : Account) (ticket : Ticket) (x y : Texts) → Accepts a ticket x y b → Goes a x [] b y
+accepts a b ticket x y h = Goes.one_more [] [] a b x y Goes.none (Calls.accepts ticket b y h)
 
-pub by_finishes : (a b : Account) → Finishes a b → GoesSilently a b
-by_finishes a b f texts = one a b texts texts [] (Calls.finishes b f)
-
-pub by_reserves : (a b : Account) (x : Texts) → StaysButOrder a b → GoesOn a x b x
-by_reserves a b x r = one a b x x [] (Calls.reserves b r)
-
-pub by_accepts : (a b : Account) (ticket : Ticket) (x y : Texts) → Accepts a ticket x y b → GoesOn a x b y
-by_accepts a b ticket x y h = one a b x y [] (Calls.accepts ticket b y h)
-
-pub by_leaves : (a b : Account) (fault : SendFault) (x y : Texts) → Leaves a fault x y b → GoesOn a x b y
-by_leaves a b fault x y h = one a b x y [] (Calls.leaves fault b y h)
+pub leaves : (a b : Account) (fault : SendFault) (x y : Texts) → Leaves a fault x y b → Goes a x [] b y
+leaves a b fault x y h = Goes.one_more [] [] a b x y Goes.none (Calls.leaves fault b y h)
 
 pub by_hears : (a b : Account) (report : Report) (x y : Texts) → Hears a report x y b → GoesOn a x b y
-by_hears a b report x y h = one a b x y [] (Calls.hears report b y h)
+by_hears a b report x y h = ([], Goes.one_more [] [] a b x y Goes.none (Calls.hears report b y h))

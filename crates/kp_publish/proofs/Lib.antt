@@ -1,2 +1,3 @@
+mod DrawingLemmas
 mod GoingLemmas
 mod PollLemmas

@@ -1,7 +1,9 @@
 -- Polls of what publishes.
 use Rattle.std.specs.Prelude.{◌≡◌, ℕ, List, [], ◌++◌, Bool, Option, true}
 use Rattle.kp_publish.specs.Files.{Shows}
+use Rattle.kp_publish.specs.Input.{rest_of}
 use Rattle.kp_publish.specs.declared.files.Files.{Files}
+use Rattle.kp_publish.specs.declared.input.Input.{Input}
 use Rattle.kp_send.specs.Sender.{Account, IsFresh, is_done}
 use Rattle.kp_send.specs.Streaming.{Goes}
 use Rattle.kp_send.specs.Texts.{IsEmpty}
@@ -13,9 +15,15 @@ use Rattle.kp_send.specs.declared.texts.Texts.{Texts}
 abbrev pub GoesOn : Account → Texts → Account → Texts → Type 0
 GoesOn a texts b after = (taken : List ℕ) × Goes a texts taken b after
 
+-- The bytes that were taken by such calls are the first of what was here and not taken, and of what came behind it; the others are here.
+pub record Draws (came : List ℕ) (i : Input) (a : Account) (texts : Texts) (j : Input) (b : Account) (after : Texts) : Type 0 where
+  pub taken : List ℕ
+  pub goes : Goes a texts taken b after
+  pub front : rest_of i ++ came ≡ taken ++ rest_of j
+
 -- the same, by which nothing was told
-abbrev pub GoesSilently : Account → Account → Type 0
-GoesSilently a b = (texts : Texts) → GoesOn a texts b texts
+abbrev pub DrawsSilently : List ℕ → Input → Account → Input → Account → Type 0
+DrawsSilently came i a j b = (texts : Texts) → Draws came i a texts j b texts
 
 module _ {F : Type 0} (contents : F → Option (List ℕ)) where
   -- A poll: the files have gained the texts of its calls.

@@ -1,8 +1,7 @@
 //! The input, as a thread reads it.
 
-ghost use Rattle.std.specs.Prelude.{◌≡◌, ◌≤◌, length, OnOk, true};
+ghost use Rattle.std.specs.Prelude.{◌≡◌, ◌≤◌, [], IsTrue, length, OnOk, true};
 ghost use Rattle.futures.specs.Task.{Keeps};
-ghost use Rattle.kp_publish.specs.Publishing.{GoesSilently};
 ghost use Rattle.kp_send.specs.Sender.{is_ready};
 
 use crate::fault::PublishFault;
@@ -44,6 +43,9 @@ pub(crate) struct Input {
 }
 
 impl Input {
+    ghost use Rattle.kp_publish.specs.Input.{bytes_in, rest_of};
+    ghost use Rattle.kp_publish.specs.Publishing.{DrawsSilently};
+
     /// What comes from there.
     pub(crate) fn of(alloc: Global, pieces: Receiver<Piece>) -> Input {
         Input {
@@ -55,14 +57,16 @@ impl Input {
     }
 
     /// Whether all that is here was taken.
-    pub(crate) fn is_empty(&self) -> bool {
+    pub(crate) fn is_empty(&self) -> bool
+        ensures { IsTrue result → rest_of self.now ≡ [] }
+    {
         self.taken == self.piece.len()
     }
 
     /// Gives a sender the next line of what is here, or its beginning.
     pub(crate) fn give_line(&mut self, sender: &mut Lines) -> Result<(), LineFault>
         requires { is_ready sender.old ≡ true }
-        ensures { OnOk result (GoesSilently sender.old sender.new) }
+        ensures { OnOk result (DrawsSilently [] self.old sender.old self.new sender.new) }
     {
         let rest = sender.take(&self.piece[self.taken..])?.len();
         self.taken = self.piece.len() - rest;
@@ -82,8 +86,9 @@ impl Input {
         sender: &mut Lines,
         piece: Option<Piece>,
     ) -> Result<(), PublishFault>
-        requires { is_ready sender.old ≡ true }
-        ensures { OnOk result (GoesSilently sender.old sender.new) }
+        requires ready { is_ready sender.old ≡ true }
+        requires taken { rest_of self.old ≡ [] }
+        ensures { OnOk result (DrawsSilently (bytes_in piece) self.old sender.old self.new sender.new) }
     {
         match piece {
             Some(Piece::Bytes(bytes)) => {

@@ -1,9 +1,13 @@
 //! The future that publishes.
 
-ghost use Rattle.std.specs.Prelude.{◌≡◌, IfOk, List, OnOk, ℕ};
+ghost use Rattle.std.specs.Prelude.{◌≡◌, [], IfOk, List, OnOk, true, ℕ};
 ghost use Rattle.futures.specs.Poll.{OnPending};
 ghost use Rattle.futures.specs.Task.{IsArmed, Keeps};
-ghost use Rattle.kp_publish.specs.Publishing.{GoesOn, IsPublished, Turns};
+ghost use Rattle.kp_publish.specs.Input.{rest_of};
+ghost use Rattle.kp_publish.specs.Publishing.{Draws, GoesOn, IsPublished, Turns};
+ghost use Rattle.kp_publish.specs.declared.publishing.Next.TheVariants.{Gone};
+ghost use Rattle.kp_send.specs.Sender.{is_ready};
+ghost use Rattle.kp_send.specs.Streaming.{Goes};
 
 use crate::fault::PublishFault;
 use crate::files::Files;
@@ -71,6 +75,7 @@ impl<'r, R: Net + Clock, F: Write, O: Write, E: Write> Publishing<'r, R, F, O, E
     /// Where no report will come by itself, since all that was accepted lingers, it goes out now.
     fn press(&mut self)
         ensures sender { self.new.sender ≡ self.old.sender }
+        ensures input { self.new.input ≡ self.old.input }
         ensures files { self.new.files ≡ self.old.files }
     {
         if self.drive.producer().statistics().requests_in_flight == 0 {
@@ -80,7 +85,8 @@ impl<'r, R: Net + Clock, F: Write, O: Write, E: Write> Publishing<'r, R, F, O, E
 
     /// Sends the line that is next, where one is.
     fn send_next(&mut self, stamp: Timestamp, texts: &mut Texts) -> Result<Next, AllocError>
-        ensures goes { OnOk result (GoesOn self.old.sender texts.old self.new.sender texts.new) }
+        ensures goes { OnOk result (Goes self.old.sender texts.old [] self.new.sender texts.new) }
+        ensures input { self.new.input ≡ self.old.input }
         ensures files { self.new.files ≡ self.old.files }
     {
         if self.sender.waiting() >= self.limit {
@@ -103,7 +109,8 @@ impl<'r, R: Net + Clock, F: Write, O: Write, E: Write> Publishing<'r, R, F, O, E
 
     /// Sends what is left of the piece, until a line stays the next one.
     fn send_piece(&mut self, stamp: Timestamp, texts: &mut Texts) -> Result<Next, PublishFault>
-        ensures goes { OnOk result (GoesOn self.old.sender texts.old self.new.sender texts.new) }
+        ensures draws { OnOk result (Draws [] self.old.input self.old.sender texts.old self.new.input self.new.sender texts.new) }
+        ensures all { IfOk result (λ next. next ≡ Gone → is_ready self.new.sender ≡ true → rest_of self.new.input ≡ []) }
         ensures files { self.new.files ≡ self.old.files }
     {
         for _ in 0..u64::MAX {
@@ -120,7 +127,7 @@ impl<'r, R: Net + Clock, F: Write, O: Write, E: Write> Publishing<'r, R, F, O, E
 
     /// Sends what has come: whether there may be more.
     fn poll_input(&mut self, cx: &mut Context<'_>, texts: &mut Texts) -> Result<bool, PublishFault>
-        ensures goes { OnOk result (GoesOn self.old.sender texts.old self.new.sender texts.new) }
+        ensures draws { OnOk result ((came : List ℕ) × Draws came self.old.input self.old.sender texts.old self.new.input self.new.sender texts.new) }
         ensures files { self.new.files ≡ self.old.files }
         ensures kept { Keeps cx.old cx.new }
     {

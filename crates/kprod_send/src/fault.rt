@@ -1,8 +1,8 @@
 //! Why lines are not sent, or no more.
 
+use crate::settings::SettingsFault;
 use kp_accum::ConfigFault;
 use kp_bootstrap::BootstrapFault;
-use kp_command_line::SettingsFault;
 use kp_publish::PublishFault;
 use std::alloc::AllocError;
 use std::io::{self, ErrorKind, Write};

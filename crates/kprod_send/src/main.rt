@@ -5,12 +5,14 @@
 mod fault;
 mod planning;
 mod sending;
+mod settings;
 
 use crate::fault::{Fault, put_fault};
 use crate::sending::send;
+use crate::settings::{settings_file, with_settings};
 use clap::Error;
 use clap::error::ErrorKind;
-use kp_command_line::{Command, command_of, settings_file, with_settings};
+use kp_command_line::{Command, command_of};
 use std::io::{self, Lock, Write};
 use std::process::ExitCode;
 use std::rt::{Env, Files};

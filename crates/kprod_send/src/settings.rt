@@ -7,7 +7,7 @@ use std::alloc::{AllocError, Global};
 
 /// Why a file of settings can't be meant: which line, from 1, and which name.
 #[derive(Clone, Copy, Debug, PartialEq, Eq)]
-pub enum SettingsFault<'t> {
+pub(crate) enum SettingsFault<'t> {
     /// The line is not `name=value`.
     NoSetting(u64),
     /// There is no setting of this name for `send`.
@@ -137,7 +137,7 @@ fn words_for(
 }
 
 /// The file of settings that the words of a call name, where they name one.
-pub fn settings_file(words: &[String]) -> Option<&str> {
+pub(crate) fn settings_file(words: &[String]) -> Option<&str> {
     let mut is_next = false;
     for word in words {
         let word = word.as_str();
@@ -154,7 +154,7 @@ pub fn settings_file(words: &[String]) -> Option<&str> {
 
 /// The words of a call, with what a file of settings says besides, as options behind the first two words; what the words say
 /// counts, and not the file.
-pub fn with_settings<'t>(
+pub(crate) fn with_settings<'t>(
     alloc: Global,
     words: Vec<String>,
     text: &'t str,
