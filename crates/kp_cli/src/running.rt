@@ -11,7 +11,8 @@ use crate::streams::write_whole;
 use kp_broker::Broker;
 use kp_core::Core;
 use kp_log::LogFault;
-use kp_run::{Came, Cause, Checked, run_lines};
+use kp_options::Options;
+use kp_run::{Came, Cause, Checked, is_too_large, run_lines};
 use kp_text::{put_audit, put_own, put_reports, put_totals};
 use std::alloc::{AllocError, AllocGlobal, Global};
 use std::io::Write;
@@ -21,6 +22,9 @@ use std::random::RandomSource;
 use std::sync::Wait;
 use std::thread::Threads;
 use std::time::Clock;
+
+/// Of how many lines that were left out it is said.
+const SAID_LIMIT: u64 = 10;
 
 /// A producer id as a log has it.
 fn log_id(id: u64) -> i64
@@ -185,7 +189,35 @@ fn tell_given_up<E: Write>(err: &mut E, came: &Came) {
     let _ = err.write_all(text.as_bytes());
 }
 
-/// Sends the lines, and prints what became of them; on `err` that the run was given up, where it was. What came of the run is
+/// Tells on `err` which lines were left out, since their records are too large: the first ones, and then how many more. Nothing is made
+/// of an `err` that fails.
+fn tell_left_out<R: Clock + AllocGlobal, E: Write>(
+    rt: &R,
+    options: &Options<'_>,
+    lines: &[&[u8]],
+    err: &mut E,
+) -> Result<(), AllocError> {
+    let (mut number, mut count) = (0u64, 0u64);
+    for line in lines {
+        number = number.saturating_add(1);
+        if is_too_large(rt, options, line)? {
+            count = count.saturating_add(1);
+            if count <= SAID_LIMIT {
+                let _ = writeln!(err, "line {number}: not sent: its record is too large");
+            }
+        }
+    }
+    if count > SAID_LIMIT {
+        let _ = writeln!(
+            err,
+            "more lines whose records are too large: {}",
+            count - SAID_LIMIT
+        );
+    }
+    Ok(())
+}
+
+/// Sends the lines, and prints what became of them; on `err` which were left out, and that the run was given up, where it was. What came of the run is
 /// left in memory: the program ends behind it, and to free the logs record by record would take as long as a tenth of the run.
 pub(crate) fn send_and_print<'a, R, O: Write, E: Write>(
     rt: &R,
@@ -201,6 +233,9 @@ where
 {
     let came = run_lines(rt, checked, lines)?;
     let options = checked.options();
+    if came.accepted < lines.len() as u64 && tell_left_out(rt, options, lines, err).is_err() {
+        return Err(Fault::OutOfMemory);
+    }
     tell_given_up(err, &came);
     let printed = print_run(rt.alloc(), &came, options.totals, out);
     let _left = ManuallyDrop::new(came);

@@ -21,17 +21,17 @@ at_the_end piece taken rest k within is =
     ∙ ap (drop (length taken)) is
     ∙ drop-append_seam taken rest
 
-pub by_takes : (i j : Input) (a b : Account) (rest : List ℕ) → i.taken ≤ length i.piece.items → j.piece ≡ i.piece → j.taken ≡ length i.piece.items - length rest
-    → Takes a (rest_of i) rest b → DrawsSilently [] i a j b
-by_takes i j a b rest within same place t texts =
+pub by_takes : (i j : Input) (a b : Account) (chunk rest : List ℕ) → i.taken ≤ length i.piece.items → j.piece ≡ i.piece
+    → j.taken ≡ length i.piece.items - length rest → chunk ≡ rest_of i → Takes a chunk rest b → DrawsSilently [] i a j b
+by_takes i j a b chunk rest within same place is t texts =
     let left : rest_of j ≡ rest =
-        ap (λ (n : ℕ). drop n j.piece.items) place
-        ∙ ap (λ (p : List ℕ). drop (length i.piece.items - length rest) p) (ap (λ p. p.items) same)
-        ∙ at_the_end i.piece.items t.taken rest i.taken within t.front in
+    ap (λ (n : ℕ). drop n j.piece.items) place
+    ∙ ap (λ (p : List ℕ). drop (length i.piece.items - length rest) p) (ap (λ p. p.items) same)
+    ∙ at_the_end i.piece.items t.taken rest i.taken within (sym is ∙ t.front) in
     record {
       taken = [] ++ t.taken;
-      goes = Goes.one_more [] t.taken a b texts texts Goes.none (Calls.takes (rest_of i) rest b t);
-      front = append-nil (rest_of i) ∙ t.front ∙ ap (λ (r : List ℕ). t.taken ++ r) (sym left);
+      goes = Goes.one_more [] t.taken a b texts texts Goes.none (Calls.takes chunk rest b t);
+      front = append-nil (rest_of i) ∙ sym is ∙ t.front ∙ ap (λ (r : List ℕ). t.taken ++ r) (sym left);
     }
 
 pub by_comes : (i j : Input) (a : Account) (came : List ℕ) → rest_of i ≡ [] → rest_of j ≡ came → DrawsSilently came i a j a
@@ -54,6 +54,18 @@ by_calls i j a b x y same goes = record {
   taken = [];
   goes = goes;
   front = append-nil (rest_of i) ∙ sym (ap rest_of same);
+}
+
+pub still : (came : List ℕ) (i j k : Input) (a b c : Account) (x y : Texts) → Draws came i a x j b y → k ≡ j → c ≡ b → Draws came i a x k c y
+still came i j k a b c x y d same unmoved =
+    subst (λ (input : Input). Draws came i a x input c y) (sym same)
+    (subst (λ (account : Account). Draws came i a x j account y) (sym unmoved) d)
+
+pub unmoved : (came : List ℕ) (i j k : Input) (a b : Account) (x y : Texts) → Draws came i a x j b y → rest_of k ≡ rest_of j → Draws came i a x k b y
+unmoved came i j k a b x y d same = record {
+  taken = d.taken;
+  goes = d.goes;
+  front = d.front ∙ ap (λ (r : List ℕ). d.taken ++ r) (sym same);
 }
 
 -- such calls as any

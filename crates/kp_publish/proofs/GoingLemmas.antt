@@ -26,6 +26,9 @@ pub goes_on : (a b c : Account) (x y z : Texts) → GoesOn a x b y → GoesOn b 
 goes_on a b c x y z first later = (first.0 ++ later.0, goes_more a x first.0 b y later.0 c z first.1 later.1)
 
 -- calls that take nothing of the stream
+pub none : (a : Account) (x : Texts) → Goes a x [] a x
+none a x = Goes.none
+
 pub reserves : (a b : Account) (x : Texts) → StaysButOrder a b → Goes a x [] b x
 reserves a b x r = Goes.one_more [] [] a b x x Goes.none (Calls.reserves b r)
 

@@ -48,6 +48,14 @@ module _ {F : Type 0} (contents : F → Option (List ℕ)) where
         },
       )
 
+  -- the same, where nothing has changed behind it
+  pub turn_still : (a b c d : Account) (f g h k m : Files F) (x y z : Texts) → IsEmpty x → GoesOn a x b y → g ≡ f → GoesOn b y c z → h ≡ g
+      → Shows contents h z k → d ≡ c → m ≡ k → (taken : List ℕ) × Turns contents a f taken d m
+  turn_still a b c d f g h k m x y z empty first same later still shows unmoved unwritten =
+      subst (λ (account : Account). (taken : List ℕ) × Turns contents a f taken account m) (sym unmoved)
+      (subst (λ (files : Files F). (taken : List ℕ) × Turns contents a f taken c files) (sym unwritten)
+      (turn a b c f g h k x y z empty first same later still shows))
+
   -- the last poll
   pub ended : {E : Type 0} (a : Account) (f : Files F) (t : List ℕ) (b : Account) (g : Files F) (result : Result Tellings E)
       → Turns contents a f t b g → true ≡ is_done b → IfOk result (λ tellings. b.tellings ≡ tellings) → IfOk result (IsPublished contents a f)

@@ -30,6 +30,14 @@ pub(crate) enum Piece {
     OutOfMemory,
 }
 
+/// How many bytes come with a piece, or with the end.
+pub(crate) fn len_of(piece: &Option<Piece>) -> usize {
+    match piece {
+        Some(Piece::Bytes(bytes)) => bytes.len(),
+        Some(Piece::Failed | Piece::OutOfMemory) | None => 0,
+    }
+}
+
 /// What a thread has read, as far as it is here.
 #[derive(Drop)]
 pub(crate) struct Input {
@@ -75,7 +83,8 @@ impl Input {
 
     /// The next piece, or None at the end.
     pub(crate) fn poll_piece(&mut self, cx: &mut Context<'_>) -> Poll<Option<Piece>>
-        ensures { Keeps cx.old cx.new }
+        ensures kept { Keeps cx.old cx.new }
+        ensures rest { rest_of self.new ≡ rest_of self.old }
     {
         self.pieces.poll_recv(cx)
     }

@@ -32,7 +32,8 @@ impl Moments {
     /// A record was accepted with this ticket, at this moment.
     pub(crate) fn sent(&mut self, ticket: Ticket, at: u64) -> Result<(), AllocError> {
         let partition = ticket.partition as usize;
-        while self.spans.len() <= partition {
+        let missing = (partition + 1).saturating_sub(self.spans.len());
+        for _ in 0..missing {
             self.spans.push(VecDeque::new(self.alloc))?;
         }
         match self.spans.get_mut(partition) {

@@ -11,7 +11,7 @@ ghost use Rattle.kp_send.specs.Streaming.{Goes};
 
 use crate::fault::PublishFault;
 use crate::files::Files;
-use crate::input::{Input, Piece};
+use crate::input::{Input, len_of};
 use crate::watch::Watch;
 use crate::words::put_refusal;
 use futures::Future;
@@ -131,9 +131,12 @@ impl<'r, R: Net + Clock, F: Write, O: Write, E: Write> Publishing<'r, R, F, O, E
         ensures files { self.new.files ≡ self.old.files }
         ensures kept { Keeps cx.old cx.new }
     {
-        if self.send_piece(wall_stamp(self.rt), texts)? == Next::Waits {
-            self.press();
-            return Ok(false);
+        match self.send_piece(wall_stamp(self.rt), texts)? {
+            Next::Gone => {}
+            Next::Waits => {
+                self.press();
+                return Ok(false);
+            }
         }
         if !self.sender.is_ready() {
             self.drive.close();
@@ -142,9 +145,7 @@ impl<'r, R: Net + Clock, F: Write, O: Write, E: Write> Publishing<'r, R, F, O, E
         match self.input.poll_piece(cx) {
             Poll::Pending => Ok(false),
             Poll::Ready(piece) => {
-                if let Some(Piece::Bytes(bytes)) = &piece {
-                    self.watch.came(bytes.len());
-                }
+                self.watch.came(len_of(&piece));
                 self.input.take_in(&mut self.sender, piece)?;
                 Ok(true)
             }

@@ -3,7 +3,7 @@
 ghost use Rattle.futures.specs.Task.{Keeps};
 
 use crate::moments::Moments;
-use crate::words::{Figures, Progress, put_progress};
+use crate::words::{Progress, put_progress, put_statistics};
 use futures::task::{Context, Poll};
 use kp_core::Report;
 use kp_drive::{Embed, Ticket};
@@ -139,7 +139,8 @@ impl Watch {
         if self.latencies.is_none() {
             return Ok(());
         }
-        self.moments.sent(ticket, self.passed())
+        let passed = self.passed();
+        self.moments.sent(ticket, passed)
     }
 
     /// A report came.
@@ -231,14 +232,10 @@ impl Watch {
         let Some(latencies) = &self.latencies else {
             return Ok(());
         };
-        let figures = Figures::of(
-            self.progress(tellings),
-            tellings,
-            waiting,
-            latencies,
-            producer,
-        );
-        let _ = out.write_all(&figures.line(self.alloc)?);
+        let mut text = Vec::new(self.alloc);
+        let now = self.progress(tellings);
+        put_statistics(&mut text, now, tellings, waiting, latencies, producer)?;
+        let _ = out.write_all(&text);
         let _ = out.flush();
         Ok(())
     }

@@ -4,9 +4,7 @@ use kp_drive::{Embed, Phase};
 use kp_rules::ErrorCode;
 use kp_send::{Latencies, Tellings};
 use kp_text::{end_line, put_named};
-use serde::Serialize;
-use serde_json::{Error, to_vec};
-use std::alloc::{AllocError, Global};
+use std::alloc::AllocError;
 
 /// What of a stream's progress moves, at a moment in microseconds from its beginning.
 #[derive(Clone, Copy, Debug)]
@@ -93,65 +91,52 @@ pub(crate) fn put_refusal(text: &mut Vec<u8>, code: i16) -> Result<(), AllocErro
     end_line(text)
 }
 
-/// What is told of a stream in a line of its own.
-#[derive(Drop, Serialize)]
-pub(crate) struct Figures {
-    pub(crate) elapsed_ms: u64,
-    pub(crate) read_bytes: u64,
-    pub(crate) delivered: u64,
-    pub(crate) undelivered: u64,
-    /// How many lines were sent and not told of.
-    pub(crate) waiting: u64,
-    pub(crate) buffer_used: u64,
-    pub(crate) requests_in_flight: u64,
-    pub(crate) nodes: u64,
-    pub(crate) is_ready: bool,
-    /// The error code by which Metadata or a producer id was last refused.
-    pub(crate) refused: Option<i16>,
-    /// From sending to report, in microseconds, to a 32nd.
-    pub(crate) latency_mean: Option<u64>,
-    pub(crate) latency_50: Option<u64>,
-    pub(crate) latency_95: Option<u64>,
-    pub(crate) latency_99: Option<u64>,
-    pub(crate) latency_max: u64,
-}
-
-impl Figures {
-    /// What is to be seen at this moment, in microseconds from the beginning.
-    pub(crate) fn of(
-        now: Progress,
-        tellings: Tellings,
-        waiting: usize,
-        latencies: &Latencies,
-        producer: &Embed,
-    ) -> Figures {
-        let seen = producer.statistics();
-        Figures {
-            elapsed_ms: now.passed / 1_000,
-            read_bytes: now.bytes,
-            delivered: tellings.delivered,
-            undelivered: tellings.undelivered,
-            waiting: waiting as u64,
-            buffer_used: seen.buffer_used,
-            requests_in_flight: seen.requests_in_flight,
-            nodes: seen.nodes,
-            is_ready: producer.phase() == Phase::Ready,
-            refused: seen.refused,
-            latency_mean: latencies.mean(),
-            latency_50: latencies.percentile(50),
-            latency_95: latencies.percentile(95),
-            latency_99: latencies.percentile(99),
-            latency_max: latencies.greatest(),
+/// A member of an object: its name with what stands around it, and its value, or null where there is none.
+fn put_member(text: &mut Vec<u8>, name: &[u8], value: Option<u64>) -> Result<(), AllocError> {
+    match value {
+        Some(value) => put_named(text, name, value),
+        None => {
+            text.extend_from_slice(name)?;
+            text.extend_from_slice(b"null")
         }
     }
+}
 
-    /// As a line of JSON.
-    pub(crate) fn line(&self, alloc: Global) -> Result<Vec<u8>, AllocError> {
-        let mut line = match to_vec(alloc, self) {
-            Ok(line) => line,
-            Err(_refused) => return Err(AllocError),
-        };
-        end_line(&mut line)?;
-        Ok(line)
+/// What is to be seen of the producer.
+fn put_producer(text: &mut Vec<u8>, producer: &Embed) -> Result<(), AllocError> {
+    let seen = producer.statistics();
+    put_named(text, b",\"buffer_used\":", seen.buffer_used)?;
+    put_named(text, b",\"requests_in_flight\":", seen.requests_in_flight)?;
+    put_named(text, b",\"nodes\":", seen.nodes)?;
+    match producer.phase() {
+        Phase::Ready => text.extend_from_slice(b",\"is_ready\":true")?,
+        Phase::Opening | Phase::Failed => text.extend_from_slice(b",\"is_ready\":false")?,
     }
+    match seen.refused {
+        Some(code) => put_named(text, b",\"refused\":", code),
+        None => text.extend_from_slice(b",\"refused\":null"),
+    }
+}
+
+/// How far a stream has come, as a line of JSON. Latencies are in microseconds, from sending to report, and told to a 32nd.
+pub(crate) fn put_statistics(
+    text: &mut Vec<u8>,
+    now: Progress,
+    tellings: Tellings,
+    waiting: usize,
+    latencies: &Latencies,
+    producer: &Embed,
+) -> Result<(), AllocError> {
+    put_named(text, b"{\"elapsed_ms\":", now.passed / 1_000)?;
+    put_named(text, b",\"read_bytes\":", now.bytes)?;
+    put_named(text, b",\"delivered\":", tellings.delivered)?;
+    put_named(text, b",\"undelivered\":", tellings.undelivered)?;
+    put_named(text, b",\"waiting\":", waiting)?;
+    put_producer(text, producer)?;
+    put_member(text, b",\"latency_mean\":", latencies.mean())?;
+    put_member(text, b",\"latency_50\":", latencies.percentile(50))?;
+    put_member(text, b",\"latency_95\":", latencies.percentile(95))?;
+    put_member(text, b",\"latency_99\":", latencies.percentile(99))?;
+    put_named(text, b",\"latency_max\":", latencies.greatest())?;
+    text.extend_from_slice(b"}\n")
 }

@@ -9,4 +9,5 @@ pub mod Runs
 pub mod Sending
 pub mod Served
 pub mod Settings
+pub mod Sizing
 pub mod Theirs

@@ -13,11 +13,13 @@ mod producing;
 mod running;
 mod sender_thread;
 mod settings;
+mod sizing;
 mod stamps;
 
 pub use checked::Checked;
 pub use fault::RunFault;
 pub use running::{Came, run_lines};
+pub use sizing::is_too_large;
 
 /// Why the last connection of a run was lost.
 pub use kp_client::Cause;
