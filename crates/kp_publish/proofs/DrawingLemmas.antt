@@ -1,8 +1,7 @@
 -- Bytes that were taken of what was here.
-use Rattle.std.proofs.Common.{◌≡◌, ◌∙◌, ℕ, ◌+◌, ◌-◌, ◌≤◌, List, [], ◌++◌, Option, Some, None, ap, arith, append_assoc, append-nil, drop, length, length-append, length-drop, subst, sym}
+use Rattle.std.proofs.Common.{◌≡◌, ◌∙◌, ℕ, ◌+◌, ◌-◌, ◌≤◌, List, [], ◌++◌, ap, arith, append_assoc, append-nil, drop, length, length-append, length-drop, subst, sym}
 use Rattle.std.proofs.Math.Seq.{drop-append_seam}
 use Rattle.std.proofs.lemmas.List.{drop-drop}
-use Rattle.kp_lines.specs.declared.line.Line.{Line}
 use Rattle.kp_publish.specs.Input.{rest_of}
 use Rattle.kp_publish.specs.Publishing.{Draws, DrawsSilently, GoesOn}
 use Rattle.kp_publish.specs.declared.input.Input.{Input}

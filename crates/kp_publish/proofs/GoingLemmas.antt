@@ -1,9 +1,7 @@
 -- Calls on a sender, one after the other.
-use Rattle.std.proofs.Common.{◌≡◌, ℕ, Bool, true, List, [], ◌++◌, Option, Some, None, subst, sym, append_assoc, append-nil}
-use Rattle.std.specs.Prelude.{OnOk, Result, Ok, Err, is_none, is_some}
+use Rattle.std.proofs.Common.{ℕ, List, [], ◌++◌, subst, sym, append_assoc, append-nil}
 use Rattle.kp_embed.specs.declared.fault.SendFault.{SendFault}
 use Rattle.kp_embed.specs.declared.target.Ticket.{Ticket}
-use Rattle.kp_lines.specs.declared.line.Line.{Line}
 use Rattle.kp_rules.specs.declared.outcome.Report.{Report}
 use Rattle.kp_send.specs.Sender.{Accepts, Account, Hears, Leaves, StaysButOrder}
 use Rattle.kp_send.specs.Streaming.{Calls, Goes}
