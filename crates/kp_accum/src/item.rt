@@ -36,6 +36,7 @@ impl Item {
     }
 
     /// The memory that it takes: the size of the batch that holds it alone; u64::MAX where that is above the limit.
+    #[inline]
     pub fn charge(&self) -> u64
         ensures value { result ≡ measured (charge_of self.now) }
         ensures exact { charge_of self.now ≤ SIZE_LIMIT → result ≡ charge_of self.now }

@@ -116,6 +116,7 @@ impl Pending {
     }
 
     /// Its size with the item, where the item joins it.
+    #[inline(always)]
     pub(crate) fn size_with(&self, config: &Config, item: &Item) -> Option<u64>
         requires { checked config.now ≡ Ok tt }
         ensures joins { is_some result ≡ joins config.now item.now self.now }
@@ -133,6 +134,7 @@ impl Pending {
     }
 
     /// Puts the item last, where the size with it is this, and it has this charge.
+    #[inline(always)]
     pub(crate) fn join(
         &mut self,
         size: u64,

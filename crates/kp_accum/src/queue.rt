@@ -41,6 +41,7 @@ impl Model for Queue {
 }
 
 /// The size of the last batch with the item, where the item joins it.
+#[inline(always)]
 fn last_size_with(batches: &VecDeque<Pending>, config: &Config, item: &Item) -> Option<u64>
     requires { checked config.now ≡ Ok tt }
     ensures some { IsSome result → 0 < length batches.now.items }
@@ -75,6 +76,7 @@ impl Queue {
 
     /// Puts the item, which has this charge, last: into the last batch, or into a new one. Where memory is refused, the
     /// item comes back.
+    #[inline(always)]
     pub fn append(
         &mut self,
         config: &Config,

@@ -167,6 +167,7 @@ pub fn record_size(body: &Record, timestamp_delta: i64, offset_delta: i32) -> u6
 }
 
 /// The size of the batch that holds the record alone; u64::MAX where it is above the limit.
+#[inline]
 pub fn charge(body: &Record) -> u64
     ensures { result ≡ measured (size_of_batch (body.now ∷ [])) }
 {

@@ -10,6 +10,7 @@ use kp_wire::{Blob, Seq, Text};
 use std::alloc::{AllocError, Global};
 
 /// The record of these parts.
+#[inline(always)]
 pub(crate) fn record_of(
     alloc: Global,
     timestamp_ms: i64,
@@ -35,6 +36,7 @@ pub(crate) fn record_of(
     })
 }
 
+#[inline]
 fn bytes_or_null(alloc: Global, is_there: bool, bytes: &[u8]) -> Result<Option<Blob>, AllocError>
     ensures { IfOk result (λ copy. copy ≡ given is_there bytes.now) }
 {

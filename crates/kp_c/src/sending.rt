@@ -133,6 +133,7 @@ fn send_each(
 }
 
 /// Accepts the value at the front of the bytes: what stands behind it.
+#[inline]
 fn send_first<'a>(
     alloc: Global,
     embed: &mut Embed,

@@ -95,6 +95,7 @@ impl Core {
     }
 
     /// Whether the item is of a sender and a partition that are there, and a request can hold it, and the memory too.
+    #[inline]
     pub fn may_append(&self, item: &Item) -> bool
         ensures { result ≡ may_append item.now self.now }
     {
@@ -112,6 +113,7 @@ impl Core {
     /// partition is fenced, its sender is told so at once. What is refused comes back: BufferFull where the memory does
     /// not hold it, and every batch is ready to go out then; OutOfMemory only where it is not BufferFull, and nothing
     /// has changed.
+    #[inline(always)]
     pub fn append(&mut self, item: Item) -> Result<(), (AppendFault, Item)>
         requires { may_append item self.old ≡ true }
         ensures step { Step self.old (Append item (answer_of result)) self.new }

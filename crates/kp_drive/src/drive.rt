@@ -109,7 +109,35 @@ impl<'r, R: Clock, K: Drop, S: Stream, D: Dial<Dialing = K, Stream = S>> Drive<'
         ensures clock { GoesOn self.old self.new }
         ensures links { links_of self.new ≡ links_of self.old }
     {
-        let now = self.clock.read(self.rt);
+        let now = self.look();
+        self.send_at(target, body, now)
+    }
+
+    /// Looks at the clock: the moment that it shows.
+    pub fn look(&mut self) -> u64
+        ensures moment { result ≡ moment_of self.new }
+        ensures clock { GoesOn self.old self.new }
+        ensures producer { producer_of self.new ≡ producer_of self.old }
+        ensures links { links_of self.new ≡ links_of self.old }
+        ensures timer { timer_of self.new ≡ timer_of self.old }
+    {
+        self.clock.read(self.rt)
+    }
+
+    /// As `send`, at this moment: for records that come together, behind one `look`.
+    pub fn send_at(
+        &mut self,
+        target: Target,
+        body: Record,
+        now: u64,
+    ) -> Result<Ticket, (SendFault, Record)>
+        ensures sends { IfOk result (λ t. Sends (producer_of self.old) now body t (producer_of self.new)) }
+        ensures to { IfOk result (λ t. GoesTo target t.partition) }
+        ensures back { IfErr result (λ refused. refused.1 ≡ body) }
+        ensures refused { IfErr result (λ refused. producer_of self.new ≡ producer_of self.old) }
+        ensures when { IfErr result (λ refused. Refuses (producer_of self.old) target now body refused.0) }
+        ensures only { OnlyProducer self.old self.new }
+    {
         self.host.embed.send(target, body, now)
     }
 

@@ -1,7 +1,8 @@
 -- What is to be seen of a producer.
-use Rattle.std.specs.Prelude.{if◌then◌else◌, ℕ, Bool, true, length, Option, Some, None}
+use Rattle.std.specs.Prelude.{if◌then◌else◌, ℕ, Bool, true, length, min, Option, Some, None}
 use Rattle.kp_embed.specs.declared.embed.Phase.{Phase}
 use Rattle.kp_embed.specs.declared.embed.Phase.TheVariants.{Opening, Ready, Failed}
+use Rattle.kp_rules.specs.Counts.{attempts_sent, batches_handed_over}
 use Rattle.kp_rules.specs.Flush.{is_flushed}
 use Rattle.kp_rules.specs.Partitions.{all_untold, used}
 use Rattle.kp_rules.specs.Records.{Core}
@@ -29,3 +30,13 @@ used_of (Some s) = used s
 abbrev pub in_flight_of : Option Core → ℕ
 in_flight_of None = 0
 in_flight_of (Some s) = length s.requests
+
+-- how many batches were handed over, up to what a u64 holds
+abbrev pub batches_of : Option Core → ℕ
+batches_of None = 0
+batches_of (Some s) = min (batches_handed_over s) 18446744073709551615
+
+-- how often batches went out, first or again, up to what a u64 holds
+abbrev pub attempts_of : Option Core → ℕ
+attempts_of None = 0
+attempts_of (Some s) = min (attempts_sent s) 18446744073709551615

@@ -1,6 +1,6 @@
 //! What the connections to nodes carry, node by node.
 
-ghost use Rattle.std.specs.Prelude.{◌≡◌, ◌≤◌, ◌<◌, [], length, Some, None, OnOk, OnErr};
+ghost use Rattle.std.specs.Prelude.{◌≡◌, ◌≤◌, ◌<◌, [], count_by, is_some, length, Some, None, OnOk, OnErr};
 ghost use Rattle.kp_embed.specs.Lines.{AtNode, NODE_LIMIT, SameLines, line_at};
 
 use crate::line::Line;
@@ -42,6 +42,13 @@ impl Lines {
         ensures limit { result ≤ NODE_LIMIT }
     {
         self.lines.len()
+    }
+
+    /// How many nodes have a connection.
+    pub(crate) fn open(&self) -> usize
+        ensures { result ≡ count_by is_some self.now }
+    {
+        self.lines.iter().filter(|line| line.is_some()).count()
     }
 
     /// There is a place for each of so many nodes.

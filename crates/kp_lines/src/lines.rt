@@ -68,6 +68,17 @@ impl Lines {
         Ok(Some((line, behind)))
     }
 
+    /// The next line is put into the memory of these bytes, which nobody wants any more, where none of it has come.
+    pub fn reuse(&mut self, bytes: Vec<u8>)
+        ensures { self.new ≡ self.old }
+    {
+        if self.begun.is_empty() {
+            let mut room = bytes;
+            room.clear();
+            self.begun = room;
+        }
+    }
+
     /// The stream ends here: its last line, where no delimiter stands behind it.
     pub fn finish(self) -> Option<Line>
         ensures { Ends self result }

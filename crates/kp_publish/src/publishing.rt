@@ -33,6 +33,14 @@ enum Next {
     Waits,
 }
 
+/// When lines are sent, by both clocks.
+#[derive(Clone, Copy, Debug)]
+struct Now {
+    stamp: Timestamp,
+    /// By the producer's clock.
+    moment: u64,
+}
+
 /// Publishes what a thread reads, and is ready once each line was told of.
 #[derive(Drop)]
 pub(crate) struct Publishing<'r, R, F, O, E> {
@@ -83,8 +91,20 @@ impl<'r, R: Net + Clock, F: Write, O: Write, E: Write> Publishing<'r, R, F, O, E
         }
     }
 
+    /// Looks at the clocks.
+    fn look(&mut self) -> Now
+        ensures sender { self.new.sender ≡ self.old.sender }
+        ensures input { self.new.input ≡ self.old.input }
+        ensures files { self.new.files ≡ self.old.files }
+    {
+        Now {
+            stamp: wall_stamp(self.rt),
+            moment: self.drive.look(),
+        }
+    }
+
     /// Sends the line that is next, where one is.
-    fn send_next(&mut self, stamp: Timestamp, texts: &mut Texts) -> Result<Next, AllocError>
+    fn send_next(&mut self, now: Now, texts: &mut Texts) -> Result<Next, AllocError>
         ensures goes { OnOk result (Goes self.old.sender texts.old [] self.new.sender texts.new) }
         ensures input { self.new.input ≡ self.old.input }
         ensures files { self.new.files ≡ self.old.files }
@@ -93,10 +113,13 @@ impl<'r, R: Net + Clock, F: Write, O: Write, E: Write> Publishing<'r, R, F, O, E
             return Ok(Next::Waits);
         }
         self.sender.reserve()?;
-        let Some(record) = self.sender.next_record(stamp)? else {
+        let Some(record) = self.sender.next_record(now.stamp)? else {
             return Ok(Next::Gone);
         };
-        match self.drive.send(self.sender.target(), record) {
+        match self
+            .drive
+            .send_at(self.sender.target(), record, now.moment)
+        {
             Ok(ticket) => {
                 self.sender.accepted(ticket, texts)?;
                 self.watch.sent(ticket)?;
@@ -108,13 +131,13 @@ impl<'r, R: Net + Clock, F: Write, O: Write, E: Write> Publishing<'r, R, F, O, E
     }
 
     /// Sends what is left of the piece, until a line stays the next one.
-    fn send_piece(&mut self, stamp: Timestamp, texts: &mut Texts) -> Result<Next, PublishFault>
+    fn send_piece(&mut self, now: Now, texts: &mut Texts) -> Result<Next, PublishFault>
         ensures draws { OnOk result (Draws [] self.old.input self.old.sender texts.old self.new.input self.new.sender texts.new) }
         ensures all { IfOk result (λ next. next ≡ Gone → is_ready self.new.sender ≡ true → rest_of self.new.input ≡ []) }
         ensures files { self.new.files ≡ self.old.files }
     {
         for _ in 0..u64::MAX {
-            if self.send_next(stamp, texts)? == Next::Waits {
+            if self.send_next(now, texts)? == Next::Waits {
                 return Ok(Next::Waits);
             }
             if self.input.is_empty() || !self.sender.is_ready() {
@@ -131,7 +154,8 @@ impl<'r, R: Net + Clock, F: Write, O: Write, E: Write> Publishing<'r, R, F, O, E
         ensures files { self.new.files ≡ self.old.files }
         ensures kept { Keeps cx.old cx.new }
     {
-        match self.send_piece(wall_stamp(self.rt), texts)? {
+        let now = self.look();
+        match self.send_piece(now, texts)? {
             Next::Gone => {}
             Next::Waits => {
                 self.press();

@@ -102,9 +102,35 @@ fn put_member(text: &mut Vec<u8>, name: &[u8], value: Option<u64>) -> Result<(),
     }
 }
 
+/// A mean as a number with one place behind the point, or null where there is none.
+fn put_mean(
+    text: &mut Vec<u8>,
+    name: &[u8],
+    sum: u64,
+    count: u64,
+) -> Result<(), AllocError> {
+    match sum.saturating_mul(10).checked_div(count) {
+        Some(tenths) => {
+            put_named(text, name, tenths / 10)?;
+            put_named(text, b".", tenths % 10)
+        }
+        None => put_member(text, name, None),
+    }
+}
+
+/// What went out: batches, and how often one of them went out again.
+fn put_batches(text: &mut Vec<u8>, delivered: u64, producer: &Embed) -> Result<(), AllocError> {
+    let batches = producer.batches_handed_over();
+    let resends = producer.attempts_sent().saturating_sub(batches);
+    put_named(text, b",\"batches\":", batches)?;
+    put_mean(text, b",\"records_per_batch\":", delivered, batches)?;
+    put_named(text, b",\"resends\":", resends)
+}
+
 /// What is to be seen of the producer.
 fn put_producer(text: &mut Vec<u8>, producer: &Embed) -> Result<(), AllocError> {
     let seen = producer.statistics();
+    put_named(text, b",\"connections\":", producer.connections())?;
     put_named(text, b",\"buffer_used\":", seen.buffer_used)?;
     put_named(text, b",\"requests_in_flight\":", seen.requests_in_flight)?;
     put_named(text, b",\"nodes\":", seen.nodes)?;
@@ -132,6 +158,7 @@ pub(crate) fn put_statistics(
     put_named(text, b",\"delivered\":", tellings.delivered)?;
     put_named(text, b",\"undelivered\":", tellings.undelivered)?;
     put_named(text, b",\"waiting\":", waiting)?;
+    put_batches(text, tellings.delivered, producer)?;
     put_producer(text, producer)?;
     put_member(text, b",\"latency_mean\":", latencies.mean())?;
     put_member(text, b",\"latency_50\":", latencies.percentile(50))?;

@@ -140,7 +140,8 @@ impl Sender {
         let Some(line) = self.next.take() else {
             return Ok(());
         };
-        match self.ledger.sent(ticket, sent(self.keeps, line)) {
+        let sent = sent(self.keeps, &mut self.lines, line);
+        match self.ledger.sent(ticket, sent) {
             Ok(()) => Ok(()),
             Err((_, sent)) => {
                 let told = Told::reported(sent, ticket.partition, Outcome::Unknown);
@@ -157,7 +158,7 @@ impl Sender {
         let Some(line) = self.next.take() else {
             return Ok(());
         };
-        let Sent { line, bytes } = sent(self.keeps, line);
+        let Sent { line, bytes } = sent(self.keeps, &mut self.lines, line);
         let told = Told::refused(line, fault, bytes);
         texts.tell(&mut self.tellings, &told, self.delimiter)
     }
@@ -194,13 +195,23 @@ impl Sender {
     }
 }
 
-/// A line whose record was accepted.
-fn sent(keeps: bool, line: Line) -> Sent
-    ensures { result ≡ sent_of keeps line }
+/// A line that is told of later. Where its bytes are not kept, the next line is put into their memory.
+fn sent(keeps: bool, lines: &mut Option<Lines>, line: Line) -> Sent
+    ensures sent { result ≡ sent_of keeps line }
+    ensures same { lines.new ≡ lines.old }
 {
     let Line { number, bytes } = line;
+    if keeps {
+        return Sent {
+            line: number,
+            bytes: Some(Blob::new(bytes)),
+        };
+    }
+    if let Some(lines) = lines {
+        lines.reuse(bytes);
+    }
     Sent {
         line: number,
-        bytes: if keeps { Some(Blob::new(bytes)) } else { None },
+        bytes: None,
     }
 }

@@ -42,25 +42,25 @@ at_once s (b ∷ bs) fits =
     ∙ sym (steps-sum 8 (8 * length bs) (bit_xor s (b + 256 * low_first bs)))
     ∙ ap (λ (n : ℕ). step_times n (bit_xor s (b + 256 * low_first bs))) (sym e)
 
--- each byte by its distance from the end
-unfoldable pub sliced : List ℕ → ℕ
-sliced [] = 0
-sliced (b ∷ bs) = bit_xor (step_times (8 * suc (length bs)) b) (sliced bs)
+-- each byte by its distance from the end, and n places more
+unfoldable pub sliced : ℕ → List ℕ → ℕ
+sliced n [] = 0
+sliced n (b ∷ bs) = bit_xor (step_times (8 * suc (length bs) + n) b) (sliced n bs)
 
-sliced_is : (bs : List ℕ) → AreBytes bs → step_times (8 * length bs) (low_first bs) ≡ sliced bs
+sliced_is : (n : ℕ) (bs : List ℕ) → AreBytes bs → step_times (8 * length bs + n) (low_first bs) ≡ sliced n bs
 unfolding low_first sliced
-sliced_is [] fits = steps-zero (8 * 0)
-sliced_is (b ∷ bs) fits =
-    let n : ℕ = 8 * length bs in
-    let e : 8 * suc (length bs) ≡ 8 + n = omega arith in
+sliced_is n [] fits = steps-zero (8 * 0 + n)
+sliced_is n (b ∷ bs) fits =
+    let k : ℕ = 8 * length bs + n in
+    let e : 8 * suc (length bs) + n ≡ 8 + k = omega arith in
     let m : ℕ = low_first bs in
-    let split : step_times (8 + n) (b + 256 * m) ≡ bit_xor (step_times (8 + n) b) (step_times n m) =
-    ap (step_times (8 + n)) (apart b m fits.0 ∙ xor_comm (m * 256) b)
-    ∙ steps-xor (8 + n) b (m * 256)
-    ∙ ap (bit_xor (step_times (8 + n) b)) (steps-sum 8 n (m * 256) ∙ ap (step_times n) (high_part m)) in
+    let split : step_times (8 + k) (b + 256 * m) ≡ bit_xor (step_times (8 + k) b) (step_times k m) =
+    ap (step_times (8 + k)) (apart b m fits.0 ∙ xor_comm (m * 256) b)
+    ∙ steps-xor (8 + k) b (m * 256)
+    ∙ ap (bit_xor (step_times (8 + k) b)) (steps-sum 8 k (m * 256) ∙ ap (step_times k) (high_part m)) in
     ap (λ (x : ℕ). step_times x (b + 256 * m)) e ∙ split
-    ∙ ap (λ (x : ℕ). bit_xor (step_times x b) (step_times n m)) (sym e)
-    ∙ ap (bit_xor (step_times (8 * suc (length bs)) b)) (sliced_is bs fits.1)
+    ∙ ap (λ (x : ℕ). bit_xor (step_times x b) (step_times k m)) (sym e)
+    ∙ ap (bit_xor (step_times (8 * suc (length bs) + n) b)) (sliced_is n bs fits.1)
 
 -- a number's lowest bytes
 unfoldable pub digits : ℕ → ℕ → List ℕ
@@ -111,17 +111,17 @@ digits-eight m =
     let seven : m / 281474976710656 / 256 ≡ m / 72057594037927936 = omega arith in
     rw (two, three, four, five, six, seven) refl
 
--- eight bytes at once, each by its own table
-pub eight_places : (m : ℕ) → m < 2 ^ 64
-    → bit_xor (bit_xor (bit_xor (bit_xor (bit_xor (bit_xor (bit_xor (step_times 64 (m % 256)) (step_times 56 (m / 256 % 256))) (step_times 48 (m / 65536 % 256))) (step_times 40 (m / 16777216 % 256))) (step_times 32 (m / 4294967296 % 256))) (step_times 24 (m / 1099511627776 % 256))) (step_times 16 (m / 281474976710656 % 256))) (step_times 8 (m / 72057594037927936 % 256))
-    ≡ step_times 64 m
+-- eight bytes at once, each by its own table, and n places more
+pub eight_places : (n m : ℕ) → m < 2 ^ 64
+    → bit_xor (bit_xor (bit_xor (bit_xor (bit_xor (bit_xor (bit_xor (step_times (64 + n) (m % 256)) (step_times (56 + n) (m / 256 % 256))) (step_times (48 + n) (m / 65536 % 256))) (step_times (40 + n) (m / 16777216 % 256))) (step_times (32 + n) (m / 4294967296 % 256))) (step_times (24 + n) (m / 1099511627776 % 256))) (step_times (16 + n) (m / 281474976710656 % 256))) (step_times (8 + n) (m / 72057594037927936 % 256))
+    ≡ step_times (64 + n) m
 unfolding sliced
-eight_places m h =
-    let e : 8 * length (digits 8 m) ≡ 64 = omega (arith, length-digits 8 m) in
-    let whole : sliced (digits 8 m) ≡ step_times 64 m =
-    sym (sliced_is (digits 8 m) (digits_fit 8 m)) ∙ ap (λ (n : ℕ). step_times n (low_first (digits 8 m))) e ∙ ap (step_times 64) (sym (digits_are 8 m h)) in
-    to_the_right (step_times 64 (m % 256)) (step_times 56 (m / 256 % 256)) (step_times 48 (m / 65536 % 256)) (step_times 40 (m / 16777216 % 256)) (step_times 32 (m / 4294967296 % 256)) (step_times 24 (m / 1099511627776 % 256)) (step_times 16 (m / 281474976710656 % 256)) (step_times 8 (m / 72057594037927936 % 256))
-    ∙ ap sliced (sym (digits-eight m)) ∙ whole
+eight_places n m h =
+    let e : 8 * length (digits 8 m) + n ≡ 64 + n = omega (arith, length-digits 8 m) in
+    let whole : sliced n (digits 8 m) ≡ step_times (64 + n) m =
+    sym (sliced_is n (digits 8 m) (digits_fit 8 m)) ∙ ap (λ (k : ℕ). step_times k (low_first (digits 8 m))) e ∙ ap (step_times (64 + n)) (sym (digits_are 8 m h)) in
+    to_the_right (step_times (64 + n) (m % 256)) (step_times (56 + n) (m / 256 % 256)) (step_times (48 + n) (m / 65536 % 256)) (step_times (40 + n) (m / 16777216 % 256)) (step_times (32 + n) (m / 4294967296 % 256)) (step_times (24 + n) (m / 1099511627776 % 256)) (step_times (16 + n) (m / 281474976710656 % 256)) (step_times (8 + n) (m / 72057594037927936 % 256))
+    ∙ ap (sliced n) (sym (digits-eight m)) ∙ whole
 
 -- the register after eight bytes is that after all their places
 pub eight_bytes : (s : ℕ) (xs : List ℕ) → 8 ≤ length xs → AreBytes xs

@@ -75,7 +75,7 @@ from_first : (k : ℕ) → k < 256 → get_or first_table k 0 ≡ step_times 8 k
 unfolding first_table
 from_first k low = begins_at 0 first_table k first_begins low ∙ (let z : 0 + k ≡ k = omega arith in ap (step_times 8) z)
 
-pub entry_is : (j k : ℕ) → j < 8 → k < 256 → get_or (get_or TABLES j []) k 0 ≡ step_times (8 * (j + 1)) k
+pub entry_is : (j k : ℕ) → j < 16 → k < 256 → get_or (get_or TABLES j []) k 0 ≡ step_times (8 * (j + 1)) k
 unfolding first_table further_tables
 entry_is zero k h low = from_first k low ∙ (let m : 8 ≡ 8 * (0 + 1) = omega arith in ap (λ (n : ℕ). step_times n k) m)
 entry_is (suc j) k h low = entry_of 0 first_table further_tables j k further_follow (omega arith) low (from_first k low ∙ (let m : 8 ≡ 8 * (0 + 1) = omega arith in ap (λ (n : ℕ). step_times n k) m))

@@ -14,6 +14,7 @@ use kp_batch::Record;
 use kp_rules::{Outcome, Reason};
 
 /// A record's moment is an int64, and the keys of its headers are texts: their types say so.
+#[inline]
 fn see_record(body: &Record)
     ensures { IsRecord body.now }
 {
@@ -24,6 +25,7 @@ fn see_record(body: &Record)
 }
 
 impl Core {
+    #[inline(always)]
     pub(super) fn append_item(&mut self, item: Item) -> Result<(), (AppendFault, Item)>
         requires { may_append item self.old ≡ true }
         ensures step { Step self.old (Append item (answer_of result)) self.new }
@@ -58,6 +60,7 @@ impl Core {
     }
 
     /// The item, which has this charge, joins its partition's queue, and has a place for its report.
+    #[inline(always)]
     fn enqueue(&mut self, item: Item, charge: u64) -> Result<(), (AppendFault, Item)>
         requires may { may_append item self.old ≡ true }
         requires is_its { charge ≡ charge_of item }

@@ -1,8 +1,8 @@
 //! Reports, flush, close and end, and what is to be seen of a producer.
 
-ghost use Rattle.std.specs.Prelude.{◌≡◌, true, length};
+ghost use Rattle.std.specs.Prelude.{◌≡◌, true, count_by, is_some, length};
 ghost use Rattle.kp_embed.specs.Ending.{Calls};
-ghost use Rattle.kp_embed.specs.Seeing.{flushed_of, in_flight_of, phase_of, untold_of, used_of};
+ghost use Rattle.kp_embed.specs.Seeing.{attempts_of, batches_of, flushed_of, in_flight_of, phase_of, untold_of, used_of};
 ghost use Rattle.kp_rules.specs.Calls.{Close, End, Fetch, Flush};
 
 use crate::calling;
@@ -88,6 +88,33 @@ impl Embed {
             Some(core) => core.flushed(),
             None => true,
         }
+    }
+
+    /// How many batches were handed over; the greatest number, where there were more.
+    pub fn batches_handed_over(&self) -> u64
+        ensures { result ≡ batches_of self.now.core }
+    {
+        match &self.core {
+            Some(core) => core.batches_handed_over(),
+            None => 0,
+        }
+    }
+
+    /// How often batches went out, first or again; the greatest number, where it was oftener.
+    pub fn attempts_sent(&self) -> u64
+        ensures { result ≡ attempts_of self.now.core }
+    {
+        match &self.core {
+            Some(core) => core.attempts_sent(),
+            None => 0,
+        }
+    }
+
+    /// How many connections are open.
+    pub fn connections(&self) -> usize
+        ensures { result ≡ count_by is_some self.now.lines }
+    {
+        self.lines.open()
     }
 
     pub fn statistics(&self) -> Statistics

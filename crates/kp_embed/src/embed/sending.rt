@@ -19,6 +19,7 @@ use kp_wire::partition_of_key;
 
 impl Embed {
     /// Accepts a record as the next one of its partition. What is refused comes back.
+    #[inline]
     pub fn send(
         &mut self,
         target: Target,
@@ -46,6 +47,7 @@ impl Embed {
     }
 
     /// The place of the record, where there is one.
+    #[inline]
     fn place_for(&self, target: Target, body: &Record) -> Result<Ticket, SendFault>
         ensures number { IfOk result (λ t. t.number ≡ slice_index self.now.counts t.partition) }
         ensures there { IfOk result (λ t. t.partition < length self.now.counts) }
@@ -84,6 +86,7 @@ impl Embed {
 
 impl Embed {
     /// The record joins its partition's queue with this ticket.
+    #[inline(always)]
     fn append(
         &mut self,
         ticket: Ticket,
@@ -133,6 +136,7 @@ impl Embed {
 }
 
 /// The core takes the item, or is as it was.
+#[inline(always)]
 fn append_to(core: &mut Core, item: Item) -> Result<(), (SendFault, Item)>
     ensures taken { OnOk result (Step core.old (Append item (Ok tt)) core.new) }
     ensures refused { OnErr result (core.new ≡ core.old) }
@@ -156,6 +160,7 @@ fn append_to(core: &mut Core, item: Item) -> Result<(), (SendFault, Item)>
 }
 
 /// Whether the memory for records that wait holds the item too.
+#[inline]
 fn has_room(core: &Core, item: &Item) -> bool
     requires { may_append item.now core.now ≡ true }
     ensures room { OnTrue result (would_exhaust item.now core.now ≡ false) }

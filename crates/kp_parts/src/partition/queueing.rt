@@ -15,6 +15,7 @@ use std::alloc::{AllocError, AllocFailed};
 impl Partition {
     /// Puts the item, which has this charge, last in the queue. The audit's place for it is made with it. Where memory is
     /// refused, or no more items can be counted, the item comes back.
+    #[inline(always)]
     pub fn enqueue(
         &mut self,
         config: &Config,

@@ -15,6 +15,7 @@ use std::alloc::AllocFailed;
 impl Partitions {
     /// Puts the item, which has this charge, last in its partition's queue. Where memory is refused, or no more items can
     /// be counted, the item comes back.
+    #[inline(always)]
     pub(crate) fn enqueue(
         &mut self,
         config: &Config,
