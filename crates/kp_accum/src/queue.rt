@@ -76,7 +76,7 @@ impl Queue {
 
     /// Puts the item, which has this charge, last: into the last batch, or into a new one. Where memory is refused, the
     /// item comes back.
-    #[inline(always)]
+    #[inline(never)]
     pub fn append(
         &mut self,
         config: &Config,

@@ -116,10 +116,7 @@ impl<'r, R: Net + Clock, F: Write, O: Write, E: Write> Publishing<'r, R, F, O, E
         let Some(record) = self.sender.next_record(now.stamp)? else {
             return Ok(Next::Gone);
         };
-        match self
-            .drive
-            .send_at(self.sender.target(), record, now.moment)
-        {
+        match self.drive.send_at(self.sender.target(), record, now.moment) {
             Ok(ticket) => {
                 self.sender.accepted(ticket, texts)?;
                 self.watch.sent(ticket)?;

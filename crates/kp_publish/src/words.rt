@@ -103,12 +103,7 @@ fn put_member(text: &mut Vec<u8>, name: &[u8], value: Option<u64>) -> Result<(),
 }
 
 /// A mean as a number with one place behind the point, or null where there is none.
-fn put_mean(
-    text: &mut Vec<u8>,
-    name: &[u8],
-    sum: u64,
-    count: u64,
-) -> Result<(), AllocError> {
+fn put_mean(text: &mut Vec<u8>, name: &[u8], sum: u64, count: u64) -> Result<(), AllocError> {
     match sum.saturating_mul(10).checked_div(count) {
         Some(tenths) => {
             put_named(text, name, tenths / 10)?;

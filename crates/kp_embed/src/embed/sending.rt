@@ -35,13 +35,15 @@ impl Embed {
     {
         let is_in_turn = matches!((target, &body.key), (Target::Any, None));
         match self.place_for(target, &body) {
-            Ok(ticket) => {
-                let sent = self.append(ticket, body, now);
-                if is_in_turn && sent.is_ok() {
-                    self.turn = ticket.partition.wrapping_add(1);
+            Ok(ticket) => match self.append(ticket, body, now) {
+                Ok(ticket) => {
+                    if is_in_turn {
+                        self.turn = ticket.partition.wrapping_add(1);
+                    }
+                    Ok(ticket)
                 }
-                sent
-            }
+                Err(refused) => Err(refused),
+            },
             Err(fault) => Err((fault, body)),
         }
     }
