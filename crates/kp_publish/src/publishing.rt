@@ -91,18 +91,6 @@ impl<'r, R: Net + Clock, F: Write, O: Write, E: Write> Publishing<'r, R, F, O, E
         }
     }
 
-    /// Looks at the clocks.
-    fn look(&mut self) -> Now
-        ensures sender { self.new.sender ≡ self.old.sender }
-        ensures input { self.new.input ≡ self.old.input }
-        ensures files { self.new.files ≡ self.old.files }
-    {
-        Now {
-            stamp: wall_stamp(self.rt),
-            moment: self.drive.look(),
-        }
-    }
-
     /// Sends the line that is next, where one is.
     fn send_next(&mut self, now: Now, texts: &mut Texts) -> Result<Next, AllocError>
         ensures goes { OnOk result (Goes self.old.sender texts.old [] self.new.sender texts.new) }
@@ -151,7 +139,10 @@ impl<'r, R: Net + Clock, F: Write, O: Write, E: Write> Publishing<'r, R, F, O, E
         ensures files { self.new.files ≡ self.old.files }
         ensures kept { Keeps cx.old cx.new }
     {
-        let now = self.look();
+        let now = Now {
+            stamp: wall_stamp(self.rt),
+            moment: self.drive.look(),
+        };
         match self.send_piece(now, texts)? {
             Next::Gone => {}
             Next::Waits => {

@@ -22,7 +22,7 @@ use std::random::RandomSource;
 use std::sync::Wait;
 use std::thread::{self, Threads};
 use std::time::Clock;
-use tokio::runtime::LocalRuntime;
+use tokio::runtime::Builder;
 
 /// How many bytes of `buffer.memory` there are for each line that waits for its report, at least: what a short line takes is more
 /// than its bytes.
@@ -128,7 +128,7 @@ fn publish_pieces<R, F, O, E>(
     err: &mut E,
 ) -> Result<Tellings, PublishFault>
 where
-    R: Wait + Clock + RandomSource + AllocGlobal,
+    R: Wait + Threads + Clock + RandomSource + AllocGlobal + Sync,
     R: Net<Listener = TcpListener, Stream = TcpStream>,
     F: Write + Drop,
     O: Write,
@@ -138,7 +138,7 @@ where
     let alloc = rt.alloc();
     let mut seed = [0; 8];
     rt.fill_bytes(&mut seed)?;
-    let mut runtime = LocalRuntime::new(rt)?;
+    let mut runtime = Builder::new_current_thread().build(rt)?;
     let Plan {
         config,
         names,
