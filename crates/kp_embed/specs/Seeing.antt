@@ -2,7 +2,7 @@
 use Rattle.std.specs.Prelude.{if◌then◌else◌, ℕ, Bool, true, length, min, Option, Some, None}
 use Rattle.kp_embed.specs.declared.embed.Phase.{Phase}
 use Rattle.kp_embed.specs.declared.embed.Phase.TheVariants.{Opening, Ready, Failed}
-use Rattle.kp_rules.specs.Counts.{attempts_sent, batches_handed_over}
+use Rattle.kp_rules.specs.Counts.{all_queued, attempts_sent, batches_handed_over}
 use Rattle.kp_rules.specs.Flush.{is_flushed}
 use Rattle.kp_rules.specs.Partitions.{all_untold, used}
 use Rattle.kp_rules.specs.Records.{Core}
@@ -40,3 +40,8 @@ batches_of (Some s) = min (batches_handed_over s) 18446744073709551615
 abbrev pub attempts_of : Option Core → ℕ
 attempts_of None = 0
 attempts_of (Some s) = min (attempts_sent s) 18446744073709551615
+
+-- how many records are queued, up to what a u64 holds
+abbrev pub queued_of : Option Core → ℕ
+queued_of None = 0
+queued_of (Some s) = min (all_queued s) 18446744073709551615

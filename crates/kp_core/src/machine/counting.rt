@@ -3,7 +3,7 @@
 ghost use Rattle.std.specs.Prelude.{◌≡◌, ◌<◌, length, min};
 ghost use Rattle.std.specs.List.{list_any};
 ghost use Rattle.std.specs.Option.{option_copied};
-ghost use Rattle.kp_rules.specs.Counts.{attempts_sent, batches_handed_over, batches_in_flight};
+ghost use Rattle.kp_rules.specs.Counts.{all_queued, attempts_sent, batches_handed_over, batches_in_flight};
 ghost use Rattle.kp_rules.specs.Flush.{is_flushed};
 ghost use Rattle.kp_rules.specs.Partitions.{all_untold, partition_at, used};
 ghost use Rattle.kp_core.specs.Busy.{busy_in, has_work_for};
@@ -118,6 +118,18 @@ impl Core {
         let mut sum: u64 = 0;
         for partition in self.partitions.all() {
             sum = sum.saturating_add(partition.attempts_sent());
+        }
+        sum
+    }
+
+    /// How many items are queued, in batches that were not handed over; the greatest number, where there are more.
+    #[tactic(auto, unfolding(kp_rules::specs::Counts::all_queued))]
+    pub fn items_queued(&self) -> u64
+        ensures { result ≡ min (all_queued self.now) u64.MAX }
+    {
+        let mut sum: u64 = 0;
+        for partition in self.partitions.all() {
+            sum = sum.saturating_add(partition.items_queued() as u64);
         }
         sum
     }

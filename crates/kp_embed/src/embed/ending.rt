@@ -2,7 +2,7 @@
 
 ghost use Rattle.std.specs.Prelude.{◌≡◌, true, count_by, is_some, length};
 ghost use Rattle.kp_embed.specs.Ending.{Calls};
-ghost use Rattle.kp_embed.specs.Seeing.{attempts_of, batches_of, flushed_of, in_flight_of, phase_of, untold_of, used_of};
+ghost use Rattle.kp_embed.specs.Seeing.{attempts_of, batches_of, flushed_of, in_flight_of, phase_of, queued_of, untold_of, used_of};
 ghost use Rattle.kp_rules.specs.Calls.{Close, End, Fetch, Flush};
 
 use crate::calling;
@@ -106,6 +106,16 @@ impl Embed {
     {
         match &self.core {
             Some(core) => core.attempts_sent(),
+            None => 0,
+        }
+    }
+
+    /// How many records are queued, in batches that were not handed over; the greatest number, where there are more.
+    pub fn records_queued(&self) -> u64
+        ensures { result ≡ queued_of self.now.core }
+    {
+        match &self.core {
+            Some(core) => core.items_queued(),
             None => 0,
         }
     }

@@ -1,8 +1,9 @@
 //! What is to be seen of a partition, and counted.
 
-ghost use Rattle.std.specs.Prelude.{◌≡◌};
+ghost use Rattle.std.specs.Prelude.{◌≡◌, length};
 ghost use Rattle.std.specs.Option.{option_copied};
 ghost use Rattle.kp_rules.specs.Counts.{in_flight};
+ghost use Rattle.kp_rules.specs.Partitions.{items_queued};
 
 use crate::partition::Partition;
 use kp_rules::Run;
@@ -27,6 +28,13 @@ impl Partition {
         ensures { result ≡ self.now.next_number }
     {
         self.next_number
+    }
+
+    /// How many items are queued, in batches that were not handed over.
+    pub fn items_queued(&self) -> usize
+        ensures { result ≡ length (items_queued self.now.queue) }
+    {
+        self.queued
     }
 
     /// How often its batches went out, first or again.
