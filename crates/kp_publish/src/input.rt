@@ -25,6 +25,8 @@ const PIECES: usize = 8;
 #[derive(Debug, Drop)]
 pub(crate) enum Piece {
     Bytes(Vec<u8>),
+    /// The input has ended.
+    End,
     /// Nothing more can be read.
     Failed,
     OutOfMemory,
@@ -34,7 +36,7 @@ pub(crate) enum Piece {
 pub(crate) fn len_of(piece: &Option<Piece>) -> usize {
     match piece {
         Some(Piece::Bytes(bytes)) => bytes.len(),
-        Some(Piece::Failed | Piece::OutOfMemory) | None => 0,
+        Some(Piece::End | Piece::Failed | Piece::OutOfMemory) | None => 0,
     }
 }
 
@@ -81,7 +83,7 @@ impl Input {
         Ok(())
     }
 
-    /// The next piece, or None at the end.
+    /// The next piece, or None where nobody reads any more.
     pub(crate) fn poll_piece(&mut self, cx: &mut Context<'_>) -> Poll<Option<Piece>>
         ensures kept { Keeps cx.old cx.new }
         ensures rest { rest_of self.new ≡ rest_of self.old }
@@ -89,7 +91,7 @@ impl Input {
         self.pieces.poll_recv(cx)
     }
 
-    /// A piece has come, or the input has ended.
+    /// A piece has come, or nobody reads any more, which is for want of memory where no end came before.
     pub(crate) fn take_in(
         &mut self,
         sender: &mut Lines,
@@ -105,9 +107,9 @@ impl Input {
                 self.piece = bytes;
                 return Ok(());
             }
-            Some(Piece::OutOfMemory) => return Err(PublishFault::OutOfMemory),
+            Some(Piece::OutOfMemory) | None => return Err(PublishFault::OutOfMemory),
             Some(Piece::Failed) => self.has_failed = true,
-            None => {}
+            Some(Piece::End) => {}
         }
         sender.finish();
         Ok(())
@@ -126,9 +128,7 @@ where
     I: Read,
 {
     for _ in 0..u64::MAX {
-        let Some(piece) = read_piece(rt.alloc(), input) else {
-            return;
-        };
+        let piece = read_piece(rt.alloc(), input);
         let goes_on = matches!(piece, Piece::Bytes(_));
         let sent = block_on(rt, pieces.send(piece));
         if !goes_on || !matches!(sent, Ok(Ok(()))) {
@@ -137,25 +137,25 @@ where
     }
 }
 
-/// What is there now, or none at the end.
-fn read_piece<I: Read>(alloc: Global, input: &mut I) -> Option<Piece> {
+/// What is there now, or the end.
+fn read_piece<I: Read>(alloc: Global, input: &mut I) -> Piece {
     let mut bytes = Vec::new(alloc);
     if bytes.resize(PIECE, 0).is_err() {
-        return Some(Piece::OutOfMemory);
+        return Piece::OutOfMemory;
     }
     for _ in 0..u64::MAX {
         match input.read(&mut bytes) {
-            Ok(0) => return None,
+            Ok(0) => return Piece::End,
             Ok(count) => {
                 bytes.truncate(count);
-                return Some(Piece::Bytes(bytes));
+                return Piece::Bytes(bytes);
             }
             Err(error) if error.kind() == ErrorKind::Interrupted => {}
             Err(error) if error.kind() == ErrorKind::OutOfMemory => {
-                return Some(Piece::OutOfMemory);
+                return Piece::OutOfMemory;
             }
-            Err(_) => return Some(Piece::Failed),
+            Err(_) => return Piece::Failed,
         }
     }
-    None
+    Piece::Failed
 }

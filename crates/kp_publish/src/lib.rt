@@ -6,6 +6,7 @@ mod fault;
 mod files;
 mod input;
 mod moments;
+mod pair;
 mod publishing;
 mod threads;
 mod watch;

@@ -26,6 +26,9 @@ use std::io::Write;
 use std::net::Net;
 use std::time::Clock;
 
+/// The least memory of records that are queued, in bytes, at which the input is not read on while reports come.
+const ENOUGH: u64 = 524_288;
+
 /// Whether a line is gone, or stays the next one.
 #[derive(Clone, Copy, Debug, PartialEq, Eq)]
 enum Next {
@@ -51,6 +54,8 @@ pub(crate) struct Publishing<'r, R, F, O, E> {
     pub(crate) input: Input,
     /// How many lines wait for their reports at most.
     pub(crate) limit: usize,
+    /// `batch.size`.
+    pub(crate) batch_size: u64,
     pub(crate) files: Files<F>,
     pub(crate) watch: Watch,
     /// Whether it was said why nothing will be sent.
@@ -77,6 +82,19 @@ impl<'r, R: Net + Clock, F: Write, O: Write, E: Write> Publishing<'r, R, F, O, E
                 self.drive.producer().phase() != Phase::Failed && self.refusal().is_none()
             }
             _ => false,
+        }
+    }
+
+    /// Whether so much is queued that no request waits for more lines: two batches for each partition, and `ENOUGH`. What is queued
+    /// for longer only leaves the processor's caches.
+    fn has_enough(&self) -> bool {
+        let producer = self.drive.producer();
+        let seen = producer.statistics();
+        let partitions = producer.partitions() as u64;
+        let batches = self.batch_size.saturating_mul(2).saturating_mul(partitions);
+        match seen.buffer_used.checked_div(seen.untold) {
+            Some(each) => each.saturating_mul(producer.records_queued()) >= batches.max(ENOUGH),
+            None => false,
         }
     }
 
@@ -152,6 +170,9 @@ impl<'r, R: Net + Clock, F: Write, O: Write, E: Write> Publishing<'r, R, F, O, E
         }
         if !self.sender.is_ready() {
             self.drive.close();
+            return Ok(false);
+        }
+        if self.has_enough() && self.watch.hears(cx) {
             return Ok(false);
         }
         match self.input.poll_piece(cx) {

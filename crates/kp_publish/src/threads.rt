@@ -9,6 +9,7 @@ ghost use Rattle.kp_rules.specs.Opening.{NAME_LIMIT};
 use crate::fault::PublishFault;
 use crate::files::Files;
 use crate::input::{Input, pieces, read_all};
+use crate::pair::Pair;
 use crate::publishing::Publishing;
 use crate::watch::{Telling, Watch};
 use kp_cluster::Address;
@@ -71,10 +72,24 @@ where
     ensures { IfOk result (λ tellings. IsPublishedAnew F.contents plan.form plan.delimiter files tellings) }
 {
     let (hosts, resolver) = HostNames::new(rt.alloc())?;
+    let pair = Pair::new();
+    let pair = &pair;
     let (resolved, published) = thread::join(
         rt,
-        move || resolver.run(rt),
-        move || publish_named(rt, plan, hosts, input, files, out, err),
+        move || {
+            if pair.begin_first(rt) {
+                resolver.run(rt)
+            } else {
+                Ok(())
+            }
+        },
+        move || {
+            if pair.begin_second() {
+                publish_named(rt, plan, hosts, input, files, out, err)
+            } else {
+                Err(PublishFault::OutOfMemory)
+            }
+        },
     );
     let tellings = published?;
     resolved?;
@@ -101,18 +116,23 @@ where
     ensures { IfOk result (λ tellings. IsPublishedAnew F.contents plan.form plan.delimiter files tellings) }
 {
     let (to, from) = pieces(rt.alloc())?;
+    let pair = Pair::new();
+    let pair = &pair;
     let (_, published) = thread::join(
         rt,
-        move || read_all(rt, input, to),
-        move || publish_pieces(
-            rt,
-            plan,
-            hosts,
-            Input::of(rt.alloc(), from),
-            files,
-            out,
-            err,
-        ),
+        move || {
+            if pair.begin_first(rt) {
+                read_all(rt, input, to);
+            }
+        },
+        move || {
+            if pair.begin_second() {
+                let input = Input::of(rt.alloc(), from);
+                publish_pieces(rt, plan, hosts, input, files, out, err)
+            } else {
+                Err(PublishFault::OutOfMemory)
+            }
+        },
     );
     published
 }
@@ -149,6 +169,7 @@ where
         telling,
     } = plan;
     let limit = usize::try_from(config.producer.buffer_memory / BYTES_A_LINE).unwrap_or(usize::MAX);
+    let batch_size = config.producer.batch_size;
     let keeps = files.undelivered.is_some() || files.unknown.is_some();
     let watch = Watch::new(alloc, rt, runtime.handle(), telling)?;
     let sockets = Sockets::new(rt, runtime.handle().clone()?, hosts, setup_timeout_ms);
@@ -169,6 +190,7 @@ where
         sender: Sender::new(alloc, form, delimiter, keeps),
         input,
         limit: limit.max(1),
+        batch_size,
         files,
         watch,
         has_said_why: false,

@@ -17,6 +17,9 @@ use tokio::time::Sleep;
 /// How often a terminal is told, in milliseconds.
 const PROGRESS: u64 = 250;
 
+/// For how long behind a report the input waits for the next ones, in milliseconds, where enough is queued.
+const PATIENCE: u64 = 100;
+
 /// What a terminal takes to begin its line anew.
 const ANEW: &[u8] = b"\r\x1b[K";
 
@@ -76,6 +79,10 @@ pub(crate) struct Watch {
     end: Option<Sleep>,
     /// What was told last of a line that moves, where one stands there.
     moving: Option<Progress>,
+    /// When a report came last.
+    heard: Option<Instant>,
+    /// Ends a wait for reports.
+    patience: Sleep,
 }
 
 impl Watch {
@@ -114,6 +121,8 @@ impl Watch {
             statistics,
             end,
             moving: None,
+            heard: None,
+            patience: handle.time().sleep_until(now)?,
         })
     }
 
@@ -146,11 +155,24 @@ impl Watch {
     /// A report came.
     pub(crate) fn told(&mut self, report: &Report) {
         let passed = self.passed();
+        self.heard = Some(self.now);
         if let Some(latencies) = &mut self.latencies {
             if let Some(at) = self.moments.told(report) {
                 latencies.add(passed.saturating_sub(at));
             }
         }
+    }
+
+    /// Whether reports come, so that what is queued goes out soon. While they do, the next look is no later than they would be missed.
+    pub(crate) fn hears(&mut self, cx: &mut Context<'_>) -> bool
+        ensures { Keeps cx.old cx.new }
+    {
+        let Some(heard) = self.heard else {
+            return false;
+        };
+        self.patience
+            .reset(later(heard, Duration::from_millis(PATIENCE)));
+        self.patience.poll_elapsed(cx).is_pending()
     }
 
     /// Whether the stream's time is over.
