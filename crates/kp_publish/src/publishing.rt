@@ -26,7 +26,7 @@ use std::io::Write;
 use std::net::Net;
 use std::time::Clock;
 
-/// The least memory of records that are queued, in bytes, at which the input is not read on while reports come.
+/// The least memory of records that are queued, in bytes, at which the input is not read on at once.
 const ENOUGH: u64 = 524_288;
 
 /// Whether a line is gone, or stays the next one.
@@ -172,7 +172,7 @@ impl<'r, R: Net + Clock, F: Write, O: Write, E: Write> Publishing<'r, R, F, O, E
             self.drive.close();
             return Ok(false);
         }
-        if self.has_enough() && self.watch.hears(cx) {
+        if self.has_enough() && self.watch.is_early(cx) {
             return Ok(false);
         }
         match self.input.poll_piece(cx) {

@@ -17,8 +17,8 @@ use tokio::time::Sleep;
 /// How often a terminal is told, in milliseconds.
 const PROGRESS: u64 = 250;
 
-/// For how long behind a report the input waits for the next ones, in milliseconds, where enough is queued.
-const PATIENCE: u64 = 100;
+/// How often the input is read on where enough is queued, in milliseconds.
+const PACE: u64 = 10;
 
 /// What a terminal takes to begin its line anew.
 const ANEW: &[u8] = b"\r\x1b[K";
@@ -79,10 +79,10 @@ pub(crate) struct Watch {
     end: Option<Sleep>,
     /// What was told last of a line that moves, where one stands there.
     moving: Option<Progress>,
-    /// When a report came last.
-    heard: Option<Instant>,
-    /// Ends a wait for reports.
-    patience: Sleep,
+    /// When a piece of the input came last.
+    came: Instant,
+    /// Ends a wait for the next one.
+    pace: Sleep,
 }
 
 impl Watch {
@@ -121,8 +121,8 @@ impl Watch {
             statistics,
             end,
             moving: None,
-            heard: None,
-            patience: handle.time().sleep_until(now)?,
+            came: now,
+            pace: handle.time().sleep_until(now)?,
         })
     }
 
@@ -141,6 +141,7 @@ impl Watch {
     /// So many bytes of the input have come.
     pub(crate) fn came(&mut self, bytes: usize) {
         self.bytes = self.bytes.saturating_add(bytes as u64);
+        self.came = self.now;
     }
 
     /// A record was accepted with this ticket.
@@ -155,7 +156,6 @@ impl Watch {
     /// A report came.
     pub(crate) fn told(&mut self, report: &Report) {
         let passed = self.passed();
-        self.heard = Some(self.now);
         if let Some(latencies) = &mut self.latencies {
             if let Some(at) = self.moments.told(report) {
                 latencies.add(passed.saturating_sub(at));
@@ -163,16 +163,13 @@ impl Watch {
         }
     }
 
-    /// Whether reports come, so that what is queued goes out soon. While they do, the next look is no later than they would be missed.
-    pub(crate) fn hears(&mut self, cx: &mut Context<'_>) -> bool
+    /// Whether it is too early to read the input on, where enough is queued.
+    pub(crate) fn is_early(&mut self, cx: &mut Context<'_>) -> bool
         ensures { Keeps cx.old cx.new }
     {
-        let Some(heard) = self.heard else {
-            return false;
-        };
-        self.patience
-            .reset(later(heard, Duration::from_millis(PATIENCE)));
-        self.patience.poll_elapsed(cx).is_pending()
+        let next = later(self.came, Duration::from_millis(PACE));
+        self.pace.reset(next);
+        self.pace.poll_elapsed(cx).is_pending()
     }
 
     /// Whether the stream's time is over.
