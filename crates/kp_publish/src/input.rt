@@ -105,14 +105,19 @@ impl Input {
             Some(Piece::Bytes(bytes)) => {
                 self.taken = 0;
                 self.piece = bytes;
-                return Ok(());
+                Ok(())
             }
-            Some(Piece::OutOfMemory) | None => return Err(PublishFault::OutOfMemory),
-            Some(Piece::Failed) => self.has_failed = true,
-            Some(Piece::End) => {}
+            Some(Piece::End) => {
+                sender.finish();
+                Ok(())
+            }
+            Some(Piece::Failed) => {
+                self.has_failed = true;
+                sender.finish();
+                Ok(())
+            }
+            Some(Piece::OutOfMemory) | None => Err(PublishFault::OutOfMemory),
         }
-        sender.finish();
-        Ok(())
     }
 }
 

@@ -151,8 +151,13 @@ impl<'r, R: Net + Clock, F: Write, O: Write, E: Write> Publishing<'r, R, F, O, E
         Ok(Next::Waits)
     }
 
-    /// Sends what has come: whether there may be more.
-    fn poll_input(&mut self, cx: &mut Context<'_>, texts: &mut Texts) -> Result<bool, PublishFault>
+    /// Sends what has come, and takes in the next piece unless that is early and enough is queued: whether there may be more.
+    fn poll_input(
+        &mut self,
+        cx: &mut Context<'_>,
+        is_early: bool,
+        texts: &mut Texts,
+    ) -> Result<bool, PublishFault>
         ensures draws { OnOk result ((came : List ℕ) × Draws came self.old.input self.old.sender texts.old self.new.input self.new.sender texts.new) }
         ensures files { self.new.files ≡ self.old.files }
         ensures kept { Keeps cx.old cx.new }
@@ -172,7 +177,7 @@ impl<'r, R: Net + Clock, F: Write, O: Write, E: Write> Publishing<'r, R, F, O, E
             self.drive.close();
             return Ok(false);
         }
-        if self.has_enough() && self.watch.is_early(cx) {
+        if is_early && self.has_enough() {
             return Ok(false);
         }
         match self.input.poll_piece(cx) {
@@ -210,7 +215,8 @@ impl<'r, R: Net + Clock, F: Write, O: Write, E: Write> Publishing<'r, R, F, O, E
     {
         let mut texts = Texts::new(self.alloc);
         self.watch.look(self.rt);
-        let more = self.poll_input(cx, &mut texts)?;
+        let is_early = self.watch.is_early(cx);
+        let more = self.poll_input(cx, is_early, &mut texts)?;
         let turn = self.drive.poll_turn(cx);
         let heard = self.hear(&mut texts)?;
         self.files.write(&texts)?;

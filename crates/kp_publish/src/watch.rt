@@ -163,7 +163,7 @@ impl Watch {
         }
     }
 
-    /// Whether it is too early to read the input on, where enough is queued.
+    /// Whether it is too early to take in the next piece of the input, where enough is queued.
     pub(crate) fn is_early(&mut self, cx: &mut Context<'_>) -> bool
         ensures { Keeps cx.old cx.new }
     {
