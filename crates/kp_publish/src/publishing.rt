@@ -12,6 +12,7 @@ ghost use Rattle.kp_send.specs.Streaming.{Goes};
 use crate::fault::PublishFault;
 use crate::files::Files;
 use crate::input::{Input, len_of};
+use crate::pair::Pair;
 use crate::watch::Watch;
 use crate::words::put_refusal;
 use futures::Future;
@@ -50,6 +51,8 @@ pub(crate) struct Publishing<'r, R, F, O, E> {
     pub(crate) rt: &'r R,
     pub(crate) alloc: Global,
     pub(crate) drive: SocketDrive<'r, R, HostNames, Named>,
+    /// What looks up names, and this.
+    pub(crate) lookups: &'r Pair,
     pub(crate) sender: Sender,
     pub(crate) input: Input,
     /// How many lines wait for their reports at most.
@@ -329,6 +332,10 @@ impl<R: Net + Clock, F: Write + Drop, O: Write, E: Write> Future for Publishing<
     fn poll(&mut self, cx: &mut Context<'_>) -> Poll<Result<Tellings, PublishFault>> {
         if self.watch.is_over(cx) {
             return Poll::Ready(Err(self.give_up()));
+        }
+        // What looks up names ends before this only where memory is refused to it.
+        if self.lookups.is_parted() {
+            return Poll::Ready(Err(PublishFault::OutOfMemory));
         }
         let turn = match self.poll_turn(cx) {
             Ok(turn) => turn,

@@ -77,15 +77,16 @@ where
     let (resolved, published) = thread::join(
         rt,
         move || {
-            if pair.begin_first(rt) {
-                resolver.run(rt)
-            } else {
-                Ok(())
+            if !pair.begin_first(rt) {
+                return Ok(());
             }
+            let resolved = resolver.run(rt);
+            pair.end();
+            resolved
         },
         move || {
-            if pair.begin_second() {
-                publish_named(rt, plan, hosts, input, files, out, err)
+            if pair.begin_second(rt) {
+                publish_named(rt, plan, hosts, pair, input, files, out, err)
             } else {
                 Err(PublishFault::OutOfMemory)
             }
@@ -101,6 +102,7 @@ fn publish_named<R, I, F, O, E>(
     rt: &R,
     plan: Plan,
     hosts: HostNames,
+    lookups: &Pair,
     input: &mut I,
     files: Files<F>,
     out: &mut O,
@@ -126,9 +128,9 @@ where
             }
         },
         move || {
-            if pair.begin_second() {
+            if pair.begin_second(rt) {
                 let input = Input::of(rt.alloc(), from);
-                publish_pieces(rt, plan, hosts, input, files, out, err)
+                publish_pieces(rt, plan, hosts, lookups, input, files, out, err)
             } else {
                 Err(PublishFault::OutOfMemory)
             }
@@ -142,6 +144,7 @@ fn publish_pieces<R, F, O, E>(
     rt: &R,
     plan: Plan,
     hosts: HostNames,
+    lookups: &Pair,
     input: Input,
     files: Files<F>,
     out: &mut O,
@@ -187,6 +190,7 @@ where
         rt,
         alloc,
         drive,
+        lookups,
         sender: Sender::new(alloc, form, delimiter, keeps),
         input,
         limit: limit.max(1),
