@@ -8,8 +8,10 @@ extern void *dlsym(void *, const char *);
 extern char *getenv(const char *);
 extern long atol(const char *);
 extern long write(int, const void *, size);
+extern int *__errno_location(void);
 
 #define NEXT ((void *)-1L) /* RTLD_NEXT */
+#define NO_MEMORY 12 /* ENOMEM, which the C library looks at */
 
 static long growths;
 
@@ -28,6 +30,7 @@ static int is_refused(void)
     if (refused == 0 || __atomic_add_fetch(&growths, 1, __ATOMIC_SEQ_CST) != refused)
         return 0;
     (void)write((int)number("REFUSED_GROWTH_TOLD"), "!", 1);
+    *__errno_location() = NO_MEMORY;
     return 1;
 }
 
