@@ -1,6 +1,6 @@
 -- Polls, one after the other.
 use Rattle.std.proofs.Common.{◌≡◌, ℕ, true, List, [], ◌++◌, Option, subst, sym, ◌∙◌, append_assoc, append-nil}
-use Rattle.std.specs.Prelude.{IfOk, Result, Ok, Err}
+use Rattle.std.specs.Prelude.{IfOk, is_some, Result, Ok, Err}
 use Rattle.kp_publish.specs.Files.{Shows}
 use Rattle.kp_publish.specs.Publishing.{GoesOn, IsPublished, Polls, Turns}
 use Rattle.kp_publish.specs.declared.files.Files.{Files}
@@ -34,27 +34,28 @@ module _ {F : Type 0} (contents : F → Option (List ℕ)) where
   }
 
   -- the calls of a poll, and what was written then
-  pub turn : (a b c : Account) (f g h k : Files F) (x y z : Texts) → IsEmpty x → GoesOn a x b y → g ≡ f → GoesOn b y c z → h ≡ g
+  pub turn : (a b c : Account) (f g h k : Files F) (x y z : Texts) → IsEmpty x → x.places ≡ is_some f.offsets → GoesOn a x b y → g ≡ f → GoesOn b y c z → h ≡ g
       → Shows contents h z k → (taken : List ℕ) × Turns contents a f taken c k
-  turn a b c f g h k x y z empty first same later still shows =
+  turn a b c f g h k x y z empty wanted first same later still shows =
       let all = goes_on a b c x y z first later in (
         all.0,
         record {
           nothing = x;
           texts = z;
           empty = empty;
+          wanted = wanted;
           goes = all.1;
           shows = subst (λ (files : Files F). Shows contents files z k) (still ∙ same) shows;
         },
       )
 
   -- the same, where nothing has changed behind it
-  pub turn_still : (a b c d : Account) (f g h k m : Files F) (x y z : Texts) → IsEmpty x → GoesOn a x b y → g ≡ f → GoesOn b y c z → h ≡ g
+  pub turn_still : (a b c d : Account) (f g h k m : Files F) (x y z : Texts) → IsEmpty x → x.places ≡ is_some f.offsets → GoesOn a x b y → g ≡ f → GoesOn b y c z → h ≡ g
       → Shows contents h z k → d ≡ c → m ≡ k → (taken : List ℕ) × Turns contents a f taken d m
-  turn_still a b c d f g h k m x y z empty first same later still shows unmoved unwritten =
+  turn_still a b c d f g h k m x y z empty wanted first same later still shows unmoved unwritten =
       subst (λ (account : Account). (taken : List ℕ) × Turns contents a f taken account m) (sym unmoved)
       (subst (λ (files : Files F). (taken : List ℕ) × Turns contents a f taken c files) (sym unwritten)
-      (turn a b c f g h k x y z empty first same later still shows))
+      (turn a b c f g h k x y z empty wanted first same later still shows))
 
   -- the last poll
   pub ended : {E : Type 0} (a : Account) (f : Files F) (t : List ℕ) (b : Account) (g : Files F) (result : Result Tellings E)

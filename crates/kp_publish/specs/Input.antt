@@ -15,3 +15,11 @@ bytes_in (Some End) = []
 bytes_in (Some Failed) = []
 bytes_in (Some OutOfMemory) = []
 bytes_in None = []
+
+-- nothing comes behind it
+abbrev pub IsEnd : Option Piece → Type 0
+IsEnd (Some (Bytes bytes)) = ⊥
+IsEnd (Some End) = Unit {0}
+IsEnd (Some Failed) = Unit {0}
+IsEnd (Some OutOfMemory) = ⊥
+IsEnd None = ⊥

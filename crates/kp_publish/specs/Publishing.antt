@@ -1,5 +1,5 @@
 -- Polls of what publishes.
-use Rattle.std.specs.Prelude.{◌≡◌, ℕ, List, [], ◌++◌, Bool, Option, true}
+use Rattle.std.specs.Prelude.{◌≡◌, ℕ, List, [], ◌++◌, Bool, Option, is_some, true}
 use Rattle.kp_publish.specs.Files.{Shows}
 use Rattle.kp_publish.specs.Input.{rest_of}
 use Rattle.kp_publish.specs.declared.files.Files.{Files}
@@ -31,6 +31,7 @@ module _ {F : Type 0} (contents : F → Option (List ℕ)) where
     pub nothing : Texts
     pub texts : Texts
     pub empty : IsEmpty nothing
+    pub wanted : nothing.places ≡ is_some files.offsets
     pub goes : Goes a nothing taken b texts
     pub shows : Shows contents files texts files'
 

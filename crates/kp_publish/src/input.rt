@@ -1,6 +1,6 @@
 //! The input, as a thread reads it.
 
-ghost use Rattle.std.specs.Prelude.{◌≡◌, ◌≤◌, [], IsTrue, length, OnOk, true};
+ghost use Rattle.std.specs.Prelude.{◌≡◌, ◌⊎◌, ◌≤◌, [], IsTrue, length, OnOk, true};
 ghost use Rattle.futures.specs.Task.{Keeps};
 ghost use Rattle.kp_send.specs.Sender.{is_ready};
 
@@ -53,7 +53,7 @@ pub(crate) struct Input {
 }
 
 impl Input {
-    ghost use Rattle.kp_publish.specs.Input.{bytes_in, rest_of};
+    ghost use Rattle.kp_publish.specs.Input.{bytes_in, IsEnd, rest_of};
     ghost use Rattle.kp_publish.specs.Publishing.{DrawsSilently};
 
     /// What comes from there.
@@ -99,7 +99,8 @@ impl Input {
     ) -> Result<(), PublishFault>
         requires ready { is_ready sender.old ≡ true }
         requires taken { rest_of self.old ≡ [] }
-        ensures { OnOk result (DrawsSilently (bytes_in piece) self.old sender.old self.new sender.new) }
+        ensures draws { OnOk result (DrawsSilently (bytes_in piece) self.old sender.old self.new sender.new) }
+        ensures ends { OnOk result ((sender.new ≡ sender.old) ⊎ IsEnd piece) }
     {
         match piece {
             Some(Piece::Bytes(bytes)) => {

@@ -216,7 +216,7 @@ impl<'r, R: Net + Clock, F: Write, O: Write, E: Write> Publishing<'r, R, F, O, E
         ensures armed { IfOk result (λ turn. OnPending turn (IsArmed cx.new)) }
         ensures kept { Keeps cx.old cx.new }
     {
-        let mut texts = Texts::new(self.alloc);
+        let mut texts = Texts::new(self.alloc, self.files.offsets.is_some());
         self.watch.look(self.rt);
         let is_early = self.watch.is_early(cx);
         let more = self.poll_input(cx, is_early, &mut texts)?;
@@ -272,7 +272,7 @@ impl<'r, R: Net + Clock, F: Write, O: Write, E: Write> Publishing<'r, R, F, O, E
 
     /// Gives up what is on its way, and tells of it.
     fn leave(&mut self) -> Result<(), PublishFault> {
-        let mut texts = Texts::new(self.alloc);
+        let mut texts = Texts::new(self.alloc, self.files.offsets.is_some());
         self.drive.end();
         self.hear(&mut texts)?;
         self.leave_next(&mut texts)?;

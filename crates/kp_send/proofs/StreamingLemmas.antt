@@ -16,8 +16,8 @@ use Rattle.kp_send.specs.Ledger.{Book, Entry, entry_of, refused, reported}
 use Rattle.kp_send.specs.Ledger as ledger
 use Rattle.kp_send.specs.Sender.{Accepts, Account, Finishes, IsLost, lines_of, sent_of, StaysButOrder, Takes, Tells as NowTells, those, Waits}
 use Rattle.kp_send.specs.Streaming.{Calls, Cuts, entry_mark, Goes, Mark, mark_of, next_marks, open_marks, Passes, told_mark}
-use Rattle.kp_send.specs.Telling.{counted, out_text, said_text}
-use Rattle.kp_send.specs.Texts.{counted_all, said_texts, undelivered_text, unknown_text, Writes}
+use Rattle.kp_send.specs.Telling.{counted, said_text}
+use Rattle.kp_send.specs.Texts.{counted_all, offset_text, said_texts, undelivered_text, unknown_text, Writes}
 use Rattle.kp_send.specs.declared.telling.Tellings.{Tellings}
 use Rattle.kp_send.specs.declared.texts.Texts.{Texts}
 use Rattle.kp_send.specs.declared.told.Told.{Told}
@@ -36,6 +36,7 @@ said_more t (one ∷ told) more =
 
 pub writes_none : (d : ℕ) (t : Tellings) (x : Texts) → Writes d t [] x x
 writes_none d t x = record {
+  places = refl;
   offsets = sym (append-nil x.offsets.items);
   said = sym (append-nil x.said.items);
   undelivered = sym (append-nil x.undelivered.items);
@@ -49,8 +50,11 @@ behind old between new a b whole first later is =
 pub writes_more : (d : ℕ) (t : Tellings) (told more : List Told) (x y z : Texts) → Writes d t told x y → Writes d (counted_all t told) more y z
     → Writes d t (told ++ more) x z
 writes_more d t told more x y z first later = record {
-  offsets = behind x.offsets.items y.offsets.items z.offsets.items (flat_map out_text told) (flat_map out_text more) (flat_map out_text (told ++ more))
-      first.offsets later.offsets (flat_map-append out_text told more);
+  places = later.places ∙ first.places;
+  offsets = behind x.offsets.items y.offsets.items z.offsets.items (flat_map (offset_text x.places) told) (flat_map (offset_text x.places) more)
+      (flat_map (offset_text x.places) (told ++ more)) first.offsets
+      (subst (λ (places : Bool). z.offsets.items ≡ y.offsets.items ++ flat_map (offset_text places) more) first.places later.offsets)
+      (flat_map-append (offset_text x.places) told more);
   said = behind x.said.items y.said.items z.said.items (said_texts t told) (said_texts (counted_all t told) more) (said_texts t (told ++ more))
       first.said later.said (said_more t told more);
   undelivered = behind x.undelivered.items y.undelivered.items z.undelivered.items (flat_map (undelivered_text d) told) (flat_map (undelivered_text d) more)

@@ -1,5 +1,5 @@
 -- What is to be written of lines.
-use Rattle.std.specs.Prelude.{◌≡◌, ℕ, List, [], ◌∷◌, ◌++◌, Option, Some, None}
+use Rattle.std.specs.Prelude.{◌≡◌, ℕ, Bool, if◌then◌else◌, List, [], ◌∷◌, ◌++◌, Option, Some, None}
 use Rattle.std.specs.List.{flat_map}
 use Rattle.kp_send.specs.Telling.{counted, keep_of, out_text, said_text}
 use Rattle.kp_send.specs.declared.telling.Keep.{Keep}
@@ -37,6 +37,10 @@ undelivered_text delimiter told = where_undelivered (keep_of told.fate) (line_te
 abbrev pub unknown_text : (delimiter : ℕ) → Told → List ℕ
 unknown_text delimiter told = where_unknown (keep_of told.fate) (line_text delimiter told.bytes)
 
+-- where a line stands that was delivered, if that is wanted
+abbrev pub offset_text : (places : Bool) → Told → List ℕ
+offset_text places told = if places then out_text told else []
+
 -- how many ended in which way, when these were told too
 abbrev pub counted_all : Tellings → List Told → Tellings
 counted_all t [] = t
@@ -49,7 +53,8 @@ said_texts t (told ∷ more) = said_text t told ++ said_texts (counted t told.fa
 
 -- The texts of these lines stand behind what was there, in the order in which they were told.
 pub record Writes (delimiter : ℕ) (t : Tellings) (told : List Told) (old new : Texts) : Type 0 where
-  pub offsets : new.offsets.items ≡ old.offsets.items ++ flat_map out_text told
+  pub places : new.places ≡ old.places
+  pub offsets : new.offsets.items ≡ old.offsets.items ++ flat_map (offset_text old.places) told
   pub said : new.said.items ≡ old.said.items ++ said_texts t told
   pub undelivered : new.undelivered.items ≡ old.undelivered.items ++ flat_map (undelivered_text delimiter) told
   pub unknown : new.unknown.items ≡ old.unknown.items ++ flat_map (unknown_text delimiter) told

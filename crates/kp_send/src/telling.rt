@@ -66,13 +66,19 @@ impl Tellings {
         ensures counted { OnOk result (self.new ≡ counted self.old told.now.fate) }
         ensures refused { OnErr result (self.new ≡ self.old) }
     {
+        put_place(told, out)?;
+        self.note(told, said)
+    }
+
+    /// As `tell`, where it is not wanted where lines stand that were delivered.
+    pub(crate) fn note(&mut self, told: &Told, said: &mut Vec<u8>) -> Result<(), AllocError>
+        ensures said { OnOk result
+            (said.new.items ≡ said.old.items ++ said_text self.old told.now) }
+        ensures counted { OnOk result (self.new ≡ counted self.old told.now.fate) }
+        ensures refused { OnErr result (self.new ≡ self.old) }
+    {
         match told.fate {
-            Fate::Reported(partition, Outcome::Delivered(offset)) => {
-                put_delivered(out, told.line, partition, Some(offset))?;
-                self.delivered = self.delivered.saturating_add(1);
-            }
-            Fate::Reported(partition, Outcome::DeliveredNoOffset) => {
-                put_delivered(out, told.line, partition, None)?;
+            Fate::Reported(_, Outcome::Delivered(_) | Outcome::DeliveredNoOffset) => {
                 self.delivered = self.delivered.saturating_add(1);
             }
             fate => {
@@ -100,5 +106,20 @@ impl Tellings {
         ensures { result ≡ status_of self.now }
     {
         u8::from(self.undelivered > 0)
+    }
+}
+
+/// Puts where a line stands behind the others, where it was delivered.
+pub(crate) fn put_place(told: &Told, out: &mut Vec<u8>) -> Result<(), AllocError>
+    ensures { OnOk result (out.new.items ≡ out.old.items ++ out_text told.now) }
+{
+    match told.fate {
+        Fate::Reported(partition, Outcome::Delivered(offset)) => {
+            put_delivered(out, told.line, partition, Some(offset))
+        }
+        Fate::Reported(partition, Outcome::DeliveredNoOffset) => {
+            put_delivered(out, told.line, partition, None)
+        }
+        _ => Ok(()),
     }
 }

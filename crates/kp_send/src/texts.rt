@@ -2,9 +2,9 @@
 
 ghost use Rattle.std.specs.Prelude.{◌≡◌, ◌++◌, ◌∷◌, [], OnErr, OnOk};
 ghost use Rattle.kp_send.specs.Telling.{counted};
-ghost use Rattle.kp_send.specs.Texts.{IsEmpty, line_text, Writes};
+ghost use Rattle.kp_send.specs.Texts.{IsEmpty, line_text, offset_text, Writes};
 
-use crate::telling::{Keep, Tellings, keep_of};
+use crate::telling::{Keep, Tellings, keep_of, put_place};
 use crate::told::Told;
 use kp_wire::Blob;
 use std::alloc::{AllocError, Global};
@@ -12,7 +12,9 @@ use std::alloc::{AllocError, Global};
 /// What is to be written of lines that were told of.
 #[derive(Debug, Drop)]
 pub struct Texts {
-    /// Where those stand that were delivered.
+    /// Whether it is wanted where those stand that were delivered.
+    pub places: bool,
+    /// Where they stand, if that is wanted.
     pub offsets: Vec<u8>,
     /// Why others were not.
     pub said: Vec<u8>,
@@ -23,11 +25,13 @@ pub struct Texts {
 }
 
 impl Texts {
-    /// Nothing is to be written.
-    pub fn new(alloc: Global) -> Texts
-        ensures { IsEmpty result }
+    /// Nothing is to be written. With `places` it is wanted where lines stand that were delivered.
+    pub fn new(alloc: Global, places: bool) -> Texts
+        ensures empty { IsEmpty result }
+        ensures places { result.places ≡ places }
     {
         Texts {
+            places,
             offsets: Vec::new(alloc),
             said: Vec::new(alloc),
             undelivered: Vec::new(alloc),
@@ -37,7 +41,8 @@ impl Texts {
 
     /// Nothing is to be written any more. What memory there is stays.
     pub fn clear(&mut self)
-        ensures { IsEmpty self.new }
+        ensures empty { IsEmpty self.new }
+        ensures places { self.new.places ≡ self.old.places }
     {
         self.offsets.clear();
         self.said.clear();
@@ -60,7 +65,8 @@ impl Texts {
             Some(Keep::Undelivered) => put_line(&mut self.undelivered, &told.bytes, delimiter)?,
             Some(Keep::Unknown) => put_line(&mut self.unknown, &told.bytes, delimiter)?,
         }
-        tellings.tell(told, &mut self.offsets, &mut self.said)
+        put_offset(self.places, told, &mut self.offsets)?;
+        tellings.note(told, &mut self.said)
     }
 }
 
@@ -73,4 +79,11 @@ fn put_line(out: &mut Vec<u8>, bytes: &Option<Blob>, delimiter: u8) -> Result<()
     };
     out.extend_from_slice(bytes.as_slice())?;
     Ok(out.push(delimiter)?)
+}
+
+/// Puts where a line stands behind the others, where that is wanted and it was delivered.
+fn put_offset(places: bool, told: &Told, out: &mut Vec<u8>) -> Result<(), AllocError>
+    ensures { OnOk result (out.new.items ≡ out.old.items ++ offset_text places told.now) }
+{
+    if places { put_place(told, out) } else { Ok(()) }
 }

@@ -17,5 +17,5 @@ returns-in_ok-take_in-in-Ready-clause-draws g c = (
       c.send_piece.new.self.sender c.take_in.new.sender c.args.texts.now c.send_piece.new.texts c.send_piece.new.texts
       (unmoved [] c.args.self.now.input c.send_piece.new.self.input c.poll_piece.new.self c.args.self.now.sender c.send_piece.new.self.sender
       c.args.texts.now c.send_piece.new.texts c.in_ok-send_piece.ensures.draws c.poll_piece.ensures.rest)
-      (c.in_ok-take_in-in-Ready.ensures c.send_piece.new.texts),
+      (c.in_ok-take_in-in-Ready.ensures.draws c.send_piece.new.texts),
 )
