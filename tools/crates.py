@@ -31,10 +31,22 @@ class Crate:
     def rlib(self):
         return f"{self.folder}/out/rlib/{self.name}.rlib"
 
+    def is_program(self):
+        return os.path.isfile(f"{self.folder}/src/main.rt")
+
     def words(self, kit, verb):
         """The prover's command that checks or builds the crate, in its folder."""
-        is_program = os.path.isfile(f"{self.folder}/src/main.rt")
-        words = [f"{kit}/bin/rattle", verb, "--crate-name", self.name, f"src/{'main' if is_program else 'lib'}.rt"]
+        root = f"src/{'main' if self.is_program() else 'lib'}.rt"
+        return [f"{kit}/bin/rattle", verb, "--crate-name", self.name, root, *self.words_of_libraries(kit), "--links", f"{self.name}="]
+
+    def words_as_source(self, kit, verb, root):
+        """The prover's command that checks a crate, src/lib.rt of the folder that it is called in, over this one as source."""
+        above = f"above_{self.name}"
+        return [f"{kit}/bin/rattle", verb, "--crate-name", above, "src/lib.rt", "--lib", f"{self.name}={root}", *self.words_of_libraries(kit)]
+
+    def words_of_libraries(self, kit):
+        """Where the prover finds the kit's libraries and the repository's, and the logic."""
+        words = []
         for name in ["std", *[it for it in self.needs if it not in self.all]]:
             words += ["--extern", f"{name}={kit}/rlibs/{name}.rlib"]
         words += ["-L", f"dependency={kit}/rlibs"]
@@ -44,7 +56,7 @@ class Crate:
         for it in self.below():
             words += ["-L", f"dependency={os.path.dirname(it.rlib())}"]
         words += ["--antt-project", f"{kit}/rattle/logic/antt-project.json", "--logic-built", f"{kit}/logic_built"]
-        return [*words, "--links", f"{self.name}="]
+        return words
 
 
 def crates_of(root, kind=Crate):
