@@ -1,6 +1,4 @@
 pub mod RecordLemmas
-pub mod GatherLemmas
-pub mod WholeLemmas
 pub mod RelativeLemmas
 pub mod BatchLemmas
 pub mod SizeLemmas

@@ -1,4 +1,3 @@
 pub mod Record
 pub mod Spelling
 pub mod Reading
-pub mod Gathering

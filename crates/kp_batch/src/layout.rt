@@ -4,7 +4,7 @@
 pub(crate) const LENGTH_AT: usize = 8;
 
 /// Where begins what the length counts.
-pub(crate) const LENGTH_END: usize = 12;
+pub const LENGTH_END: usize = 12;
 
 /// Where the checksum stands.
 pub(crate) const CHECKSUM_AT: usize = 17;
@@ -13,7 +13,7 @@ pub(crate) const CHECKSUM_AT: usize = 17;
 pub(crate) const COVERED_AT: usize = 21;
 
 /// Where the records begin.
-pub(crate) const RECORDS_AT: usize = 61;
+pub const RECORDS_AT: usize = 61;
 
 /// The only magic byte.
-pub(crate) const MAGIC: i8 = 2;
+pub const MAGIC: i8 = 2;

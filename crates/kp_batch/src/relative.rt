@@ -5,7 +5,7 @@ use kp_wire::{Blob, Seq};
 
 /// A record as it stands in a batch.
 #[derive(Debug, Drop)]
-pub(crate) struct RelativeRecord {
+pub struct RelativeRecord {
     pub timestamp_delta: i64,
     pub offset_delta: i32,
     pub key: Option<Blob>,

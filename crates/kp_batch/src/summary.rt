@@ -4,7 +4,7 @@ use crate::batch::BatchHead;
 
 /// The fields that no checksum covers.
 #[derive(Clone, Copy, Debug)]
-pub(crate) struct Front {
+pub struct Front {
     pub base_offset: i64,
     /// How many bytes stand behind this field.
     pub batch_length: i32,
@@ -15,7 +15,7 @@ pub(crate) struct Front {
 
 /// The fields between the checksum and the records.
 #[derive(Clone, Copy, Debug)]
-pub(crate) struct Summary {
+pub struct Summary {
     pub attributes: i16,
     pub last_offset_delta: i32,
     pub base_timestamp: i64,

@@ -3,9 +3,10 @@
 use crate::fault::{Done, Left, Played};
 use crate::told::{Told, put_hex};
 use kp_batch::{
-    AsRecord, Batch, BatchFault, BatchHead, Record, SIZE_LIMIT, batch_size, charge, read_batch,
-    record_size, write_batch,
+    AsRecord, Batch, BatchFault, BatchHead, Record, SIZE_LIMIT, batch_size, charge, record_size,
+    write_batch,
 };
+use kp_batch_reading::read_batch;
 use kp_cases::{StepFault, Words};
 use std::alloc::Global;
 

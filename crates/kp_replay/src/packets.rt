@@ -7,7 +7,7 @@ ghost use Rattle.kp_replay.specs.Packets.{AreParts, IsAsked, IsPart, Tells};
 ghost use Rattle.kp_replay.specs.Shown.{Each};
 
 use crate::line::{Line, SentPart};
-use kp_batch::read_batch;
+use kp_batch_reading::read_batch;
 use kp_frames::{PartitionProduceData, ProduceRequest, RequestBody, read_request};
 use kp_wire::Seq;
 use std::alloc::{AllocError, Global};

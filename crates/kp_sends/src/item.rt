@@ -1,7 +1,8 @@
 //! Items as words.
 
 use kp_accum::Item;
-use kp_batch::{BatchFault, Record, read_batch};
+use kp_batch::{BatchFault, Record};
+use kp_batch_reading::read_batch;
 use kp_cases::{StepFault, Words};
 use std::alloc::Global;
 

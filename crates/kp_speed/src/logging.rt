@@ -1,7 +1,8 @@
 //! Works of a partition log.
 
 use crate::samples::record_of;
-use kp_batch::{BatchHead, Record, SIZE_LIMIT, batch_size, read_batch, write_batch};
+use kp_batch::{BatchHead, Record, SIZE_LIMIT, batch_size, write_batch};
+use kp_batch_reading::read_batch;
 use kp_log::{PartitionLog, Stored};
 use std::alloc::{AllocError, Global};
 use std::mem;

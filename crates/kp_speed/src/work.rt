@@ -1,6 +1,7 @@
 //! The works whose cost is measured.
 
-use kp_batch::{BatchHead, Record, SIZE_LIMIT, Timestamp, batch_size, read_batch, write_batch};
+use kp_batch::{BatchHead, Record, SIZE_LIMIT, Timestamp, batch_size, write_batch};
+use kp_batch_reading::read_batch;
 use kp_wire::{Blob, Seq, crc32c};
 use std::alloc::{AllocError, Global};
 use std::mem;
