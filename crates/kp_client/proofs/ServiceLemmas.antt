@@ -30,14 +30,14 @@ use Rattle.kp_running.specs.Running.{GoesThrough, Reaches}
 use Rattle.kp_running.specs.declared.lasting.Over.{Over}
 use Rattle.kp_running.specs.declared.lasting.Over.TheVariants as kinds
 use Rattle.kp_running.proofs.LastingLemmas.{once_left}
+use Rattle.kp_settings.specs.declared.fault.ServiceFault.{ServiceFault}
+use Rattle.kp_settings.specs.declared.policy.Policy.{Policy}
 use Rattle.kp_client.specs.Ends.{EndsAs, HasEnded, MayEnd, WasServed, WasUnserved}
 use Rattle.kp_client.specs.Left.{parts_in}
 use Rattle.kp_client.specs.Policy.{limit_of}
 use Rattle.kp_client.specs.Serving.{ending_for, GivesUpFor, GoesOn, IsServing, LastGave, Serves}
-use Rattle.kp_client.specs.declared.fault.ServiceFault.{ServiceFault}
 use Rattle.kp_client.specs.declared.left.Ended.{Ended}
 use Rattle.kp_client.specs.declared.left.Ending.TheVariants.{Done}
-use Rattle.kp_client.specs.declared.policy.Policy.{Policy}
 use Rattle.kp_client.specs.declared.tended.Tended.{Tended}
 
 open_stopped : {S : Type 0} {wire : Wired S} {stop : Stop} → Open wire ≡ Stopped stop → ⊥

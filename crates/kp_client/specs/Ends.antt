@@ -14,13 +14,13 @@ use Rattle.kp_lanes.specs.declared.sender.Finished.{Finished}
 use Rattle.kp_rules.specs.Calls.{Call, End}
 use Rattle.kp_rules.specs.Records.{Core}
 use Rattle.kp_running.specs.Lasting.{IsSpent}
+use Rattle.kp_settings.specs.declared.policy.Policy.{Policy}
 use Rattle.kp_client.specs.Left.{ending_of, new_connections_of, parts_in}
 use Rattle.kp_client.specs.Policy.{limit_of}
 use Rattle.kp_client.specs.Serving.{LastGave, Serves}
 use Rattle.kp_client.specs.declared.left.Ended.{Ended}
 use Rattle.kp_client.specs.declared.left.Ending.{Ending}
 use Rattle.kp_client.specs.declared.left.Ending.TheVariants.{Done, GaveUp}
-use Rattle.kp_client.specs.declared.policy.Policy.{Policy}
 
 -- The same lanes, of which nothing more was taken or told: their ends may have seen more.
 pub record Looks (old new : Intake) : Type 0 where

@@ -2,7 +2,6 @@ pub mod Accounts
 pub mod Closing
 pub mod Connecting
 pub mod Ends
-pub mod Faults
 pub mod Fitting
 pub mod Left
 pub mod Opening
@@ -10,5 +9,4 @@ pub mod Policy
 pub mod Producer
 pub mod Service
 pub mod Serving
-pub mod Settings
 pub mod Statistics

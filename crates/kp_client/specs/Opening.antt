@@ -11,17 +11,17 @@ use Rattle.kp_rules.specs.Auditing.{opened}
 use Rattle.kp_rules.specs.Opening.{new_core}
 use Rattle.kp_rules.specs.Records.{Core}
 use Rattle.kp_rules.specs.declared.names.Names.{Names}
+use Rattle.kp_settings.specs.Settings.{limits_of}
+use Rattle.kp_settings.specs.declared.settings.Settings.{Settings}
 use Rattle.kp_client.specs.Closing.{lanes_closer}
 use Rattle.kp_client.specs.Policy.{none_made}
 use Rattle.kp_client.specs.Producer.{lane_of}
 use Rattle.kp_client.specs.Service.{again_of, core_of, hello_of, intake_of, partitions_of, way_of}
-use Rattle.kp_client.specs.Settings.{limits_of}
 use Rattle.kp_client.specs.declared.closer.Closer.{Closer}
 use Rattle.kp_client.specs.declared.connecting.Way.{Way}
 use Rattle.kp_client.specs.declared.opening.Opened.{Opened}
 use Rattle.kp_client.specs.declared.producer.Producer.{Producer}
 use Rattle.kp_client.specs.declared.service.Service.{Service}
-use Rattle.kp_client.specs.declared.settings.Settings.{Settings}
 
 -- the core of a producer before its first call, as its settings and the broker's hello have it
 abbrev pub first_core : Settings → Hello → Core

@@ -1,8 +1,8 @@
 -- How many new connections there may be, and the waits between them.
 use Rattle.std.specs.Prelude.{ℕ, ◌*◌, ◌<◌, ◌==◌, max, min, Option, Some, None, if◌then◌else◌}
+use Rattle.kp_settings.specs.declared.policy.Policy.{Policy}
+use Rattle.kp_settings.specs.declared.policy.Policy.TheVariants.{InAll, InARow, Unlimited}
 use Rattle.kp_client.specs.declared.again.Again.{Again}
-use Rattle.kp_client.specs.declared.policy.Policy.{Policy}
-use Rattle.kp_client.specs.declared.policy.Policy.TheVariants.{InAll, InARow, Unlimited}
 
 -- how many there may be, where there is a limit
 abbrev pub limit_of : Policy → Option ℕ

@@ -4,7 +4,7 @@ ghost use Rattle.std.specs.Prelude.{◌≡◌, ◌+◌, ◌-◌, ◌^◌, max, m
 ghost use Rattle.kp_running.specs.Lasting.{IsSpent};
 ghost use Rattle.kp_client.specs.Policy.{limit_of, made_after_reply, none_made, wait_after, MayMake};
 
-use crate::policy::Policy;
+use kp_settings::Policy;
 
 /// The wait before the second new connection in a row, in milliseconds.
 const SHORTEST: u64 = 10;

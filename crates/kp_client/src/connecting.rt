@@ -1,15 +1,14 @@
 //! Connections to a broker.
 
 ghost use Rattle.std.specs.Prelude.{◌≡◌, ◌≢◌, IfErr, IfOk, IfSome};
-ghost use Rattle.kp_client.specs.Faults.{IsLater};
+ghost use Rattle.kp_settings.specs.Faults.{IsLater};
 ghost use Rattle.kp_client.specs.Opening.{IsGreeting};
-ghost use Rattle.kp_client.specs.declared.fault.OpenFault.TheVariants.{Partitions};
+ghost use Rattle.kp_settings.specs.declared.fault.OpenFault.TheVariants.{Partitions};
 
-use crate::fault::OpenFault;
-use crate::settings::Settings;
 use kp_connection::{Handshake, Plain};
 use kp_core::Names;
 use kp_hello::{HandshakeFault, Hello};
+use kp_settings::{OpenFault, Settings};
 use std::alloc::AllocGlobal;
 use std::io;
 use std::net::{Net, SocketAddr};

@@ -2,22 +2,21 @@
 
 ghost use Rattle.std.specs.Prelude.{◌≡◌, ◌++◌, ◌∷◌, [], Ok, Err, OnOk, IfOk, IfErr, IfSome, All, length, map};
 ghost use Rattle.std.specs.Arc.{arc_value};
-ghost use Rattle.kp_client.specs.Faults.{IsLater, OfSettings};
+ghost use Rattle.kp_settings.specs.Faults.{IsLater, OfSettings};
 ghost use Rattle.kp_client.specs.Producer.{lane_of};
 ghost use Rattle.kp_client.specs.Service.{HasBell};
-ghost use Rattle.kp_client.specs.Settings.{checked_settings};
+ghost use Rattle.kp_settings.specs.Settings.{checked_settings};
 ghost use Rattle.kp_engine.specs.Opening.{MayTurn};
 ghost use Rattle.kp_client.specs.Opening.{IsGreeting, IsOpen, IsOpenSingle, IsWay};
 
 use crate::closer::Closer;
 use crate::connecting::{Way, expect_partitions, greet_until};
-use crate::fault::OpenFault;
 use crate::producer::Producer;
 use crate::service::Service;
-use crate::settings::Settings;
 use crate::shared::Shared;
 use kp_hello::Hello;
 use kp_lanes::{Sender, open_lanes};
+use kp_settings::{OpenFault, Settings};
 use std::alloc::{AllocError, AllocFailed, AllocGlobal, Global};
 use std::net::{Net, SocketAddr};
 use std::random::RandomSource;

@@ -14,9 +14,7 @@ ghost use Rattle.kp_running.specs.Lasting.{IsGoing};
 use crate::again::Again;
 use crate::connecting::Way;
 use crate::connector::Connector;
-use crate::fault::{OpenFault, ServiceFault};
 use crate::left::{Ended, Ending};
-use crate::settings::Settings;
 use crate::shared::Shared;
 use crate::tended::Tended;
 use kp_connection::{Plain, Stream};
@@ -25,6 +23,7 @@ use kp_engine::{Clock as Moments, Engine};
 use kp_hello::Hello;
 use kp_lanes::Intake;
 use kp_running::{Connecting, Millis, Over, Running};
+use kp_settings::{OpenFault, ServiceFault, Settings};
 use std::alloc::{AllocGlobal, Global};
 use std::net::Net;
 use std::random::RandomSource;
@@ -51,11 +50,11 @@ pub struct Service {
 impl Service {
     ghost use Rattle.std.specs.Prelude.{◌≤◌, [], Ok, All, length};
     ghost use Rattle.kp_lanes.specs.Intake.{intake_limits, passed_lists, told_lists};
-    ghost use Rattle.kp_client.specs.Faults.{IsLater};
+    ghost use Rattle.kp_settings.specs.Faults.{IsLater};
     ghost use Rattle.kp_client.specs.Opening.{first_core};
     ghost use Rattle.kp_client.specs.Policy.{none_made};
     ghost use Rattle.kp_client.specs.Service.{again_of, core_of, hello_of, intake_of, partitions_of, way_of};
-    ghost use Rattle.kp_client.specs.Settings.{checked_settings, limits_of};
+    ghost use Rattle.kp_settings.specs.Settings.{checked_settings, limits_of};
 
     pub(crate) fn new(
         alloc: Global,

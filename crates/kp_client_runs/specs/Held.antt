@@ -6,9 +6,9 @@ use Rattle.kp_client.specs.Producer.{Finishes}
 use Rattle.kp_client.specs.declared.left.Left.{Left}
 use Rattle.kp_client.specs.declared.producer.Producer.{Producer}
 use Rattle.kp_client.specs.declared.service.Service.{Service}
-use Rattle.kp_client.specs.declared.settings.Settings.{Settings}
 use Rattle.kp_client_laws.specs.Over.{IsOver}
 use Rattle.kp_lanes.specs.declared.sender.Finished.{Finished}
+use Rattle.kp_settings.specs.declared.settings.Settings.{Settings}
 
 -- What is left of each of the producers, in their order.
 pub record FinishEach (producers : List Producer) (finished : List Finished) : Type 0 where

@@ -3,11 +3,11 @@ use Rattle.std.specs.declared.io.ErrorKind.{ErrorKind}
 use Rattle.std.specs.declared.io.ErrorKind.TheVariants as kind
 use Rattle.kp_broker.specs.declared.plan.fault.PlanFault.{PlanFault}
 use Rattle.kp_broker.specs.declared.plan.fault.PlanFault.TheVariants as plan
-use Rattle.kp_client.specs.declared.fault.OpenFault.{OpenFault}
-use Rattle.kp_client.specs.declared.fault.OpenFault.TheVariants as opening
-use Rattle.kp_client.specs.declared.fault.ServiceFault.{ServiceFault}
-use Rattle.kp_client.specs.declared.fault.ServiceFault.TheVariants as service
 use Rattle.kp_hello.specs.declared.fault.HandshakeFault.TheVariants.{BadAnswer}
+use Rattle.kp_settings.specs.declared.fault.OpenFault.{OpenFault}
+use Rattle.kp_settings.specs.declared.fault.OpenFault.TheVariants as opening
+use Rattle.kp_settings.specs.declared.fault.ServiceFault.{ServiceFault}
+use Rattle.kp_settings.specs.declared.fault.ServiceFault.TheVariants as service
 use Rattle.kp_run.specs.declared.fault.RunFault.{RunFault}
 use Rattle.kp_run.specs.declared.fault.RunFault.TheVariants.{Topic, Plan, Config, Network, Handshake, OutOfMemory}
 

@@ -5,8 +5,8 @@ use Rattle.std.specs.declared.net.socket_addr.SocketAddr.{SocketAddr}
 use denote.Ref.{Bor}
 use Rattle.kp_broker.specs.Broker.{opened, Broker}
 use Rattle.kp_broker.specs.Plan.{Plan}
-use Rattle.kp_client.specs.declared.settings.Settings.{Settings}
 use Rattle.kp_rules.specs.declared.outcome.Report.{Report}
+use Rattle.kp_settings.specs.declared.settings.Settings.{Settings}
 use Rattle.kp_run.specs.Dealing.{asked, Deal}
 use Rattle.kp_run.specs.Gathered.{by_place}
 use Rattle.kp_run.specs.Portions.{Comes}

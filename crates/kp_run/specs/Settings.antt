@@ -1,10 +1,10 @@
 -- What a producer is opened with.
 use Rattle.std.specs.Prelude.{◌≡◌, ℕ, min}
 use Rattle.kp_accum.specs.declared.config.Config.{Config}
-use Rattle.kp_client.specs.declared.settings.Settings.{Settings}
-use Rattle.kp_client.specs.declared.policy.Policy.TheVariants.{InAll}
 use Rattle.kp_options.specs.Places.{expected_partitions}
 use Rattle.kp_options.specs.declared.options.Options.{Options}
+use Rattle.kp_settings.specs.declared.settings.Settings.{Settings}
+use Rattle.kp_settings.specs.declared.policy.Policy.TheVariants.{InAll}
 use Rattle.kp_run.specs.declared.settings.TheConstants.{CAPACITY, CLIENT, NEW_CONNECTIONS}
 
 -- the most that a record may take

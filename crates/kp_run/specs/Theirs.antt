@@ -10,10 +10,10 @@ use Rattle.kp_client.specs.Service.{core_of, intake_of}
 use Rattle.kp_client.specs.declared.left.Ended.{Ended}
 use Rattle.kp_client.specs.declared.left.Left.{Left}
 use Rattle.kp_client.specs.declared.service.Service.{Service}
-use Rattle.kp_client.specs.declared.settings.Settings.{Settings}
 use Rattle.kp_lanes.specs.Sender.{all_got, finished_number}
 use Rattle.kp_lanes.specs.declared.sender.Finished.{Finished}
 use Rattle.kp_rules.specs.declared.outcome.Report.{Report}
+use Rattle.kp_settings.specs.declared.settings.Settings.{Settings}
 use Rattle.kp_run.specs.Gathered.{account_in, account_of}
 use Rattle.kp_run.specs.declared.sender_thread.Job.{Job}
 

@@ -6,9 +6,9 @@ use Rattle.kp_lanes.specs.Intake.{intake_gate, lanes_of}
 use Rattle.kp_lanes.specs.Sender.{IsFresh, IsSenderOf}
 use Rattle.kp_lanes.specs.declared.intake.Intake.{Intake}
 use Rattle.kp_lanes.specs.declared.limits.Limits.{Limits}
+use Rattle.kp_settings.specs.Settings.{limits_of}
 use Rattle.kp_client.specs.Opening.{first_core, IsGreeting, IsWay}
 use Rattle.kp_client.specs.Service.{hello_of, intake_of}
-use Rattle.kp_client.specs.Settings.{limits_of}
 use Rattle.kp_client.specs.declared.connecting.Way.{Way}
 use Rattle.kp_client.proofs.OpeningLemmas.{all_of_lanes, numbers_of_lanes}
 use Rattle.kp_client.proofs.opening.open_known.Goals as goal

@@ -3,9 +3,9 @@ use Rattle.std.specs.Prelude.{slice_index_or}
 use Rattle.std.proofs.lemmas.List.{length-map}
 use Rattle.kp_lanes.specs.Intake.{lanes_of}
 use Rattle.kp_lanes.specs.Sender.{sender_id, sender_number, IsFresh, IsSenderOf}
+use Rattle.kp_settings.specs.Settings.{limits_of}
 use Rattle.kp_client.specs.Producer.{lane_of}
 use Rattle.kp_client.specs.Service.{hello_of, intake_of}
-use Rattle.kp_client.specs.Settings.{limits_of}
 use Rattle.kp_client.specs.declared.producer.Producer.{Producer}
 use Rattle.kp_client.proofs.SingleLemmas.{last_only, only_lane, only_of}
 use Rattle.kp_client.proofs.opening.open_single.Goals as goal

@@ -3,7 +3,7 @@ use Rattle.std.specs.Prelude.{All}
 use Rattle.kp_lanes.specs.Intake.{lanes_of}
 use Rattle.kp_client.specs.Left.{parts_in}
 use Rattle.kp_client.specs.Service.{hello_of, intake_of}
-use Rattle.kp_client.specs.Settings.{record_limit}
+use Rattle.kp_settings.specs.Settings.{record_limit}
 use Rattle.kp_run.specs.Dealing.{dealt}
 use Rattle.kp_run.specs.Jobs.{limits_in}
 use Rattle.kp_run.specs.Portions.{Comes, Gathered}

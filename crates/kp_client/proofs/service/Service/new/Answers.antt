@@ -1,7 +1,7 @@
 use Rattle.std.proofs.Common.{rules}
 use Rattle.kp_rules.specs.Opening.{MayOpen}
 use Rattle.std.proofs.Math.Nat.{min-le_left, min-le_right}
-use Rattle.kp_client.specs.Settings.{record_limit}
+use Rattle.kp_settings.specs.Settings.{record_limit}
 use Rattle.kp_client.proofs.FittingLemmas.{fits}
 use Rattle.kp_client.proofs.service.Service.new.Goals as goal
 

@@ -2,7 +2,7 @@
 
 ghost use Rattle.std.specs.Prelude.{◌≡◌, ◌*◌, IfOk};
 ghost use Rattle.std.specs.Duration.{as_nanos};
-ghost use Rattle.kp_client.specs.Settings.{checked_settings, default_settings, record_limit};
+ghost use Rattle.kp_settings.specs.Settings.{checked_settings, default_settings, record_limit};
 
 use crate::fault::OpenFault;
 use crate::policy::Policy;
@@ -86,14 +86,14 @@ impl Settings {
     }
 
     /// How long a connection may take to be made, and how long until it is known to a broker.
-    pub(crate) fn patience(&self) -> Duration
+    pub fn patience(&self) -> Duration
         ensures { as_nanos result ≡ self.now.config.request_timeout_ms * 1_000_000 }
     {
         Duration::from_millis(self.config.request_timeout_ms)
     }
 
     /// A copy of the names.
-    pub(crate) fn copy_names(&self, alloc: Global) -> Result<Names, AllocError>
+    pub fn copy_names(&self, alloc: Global) -> Result<Names, AllocError>
         ensures { IfOk result (λ names. names ≡ self.now.names) }
     {
         Ok(Names {

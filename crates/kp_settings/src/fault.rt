@@ -1,8 +1,8 @@
 //! Why a producer is not opened, and why its service ends without what it held.
 
 ghost use Rattle.std.specs.Prelude.{◌≡◌};
-ghost use Rattle.kp_client.specs.Faults.{of_error, of_handshake, of_lanes, of_loop};
-ghost use Rattle.kp_client.specs.declared.fault.OpenFault.TheVariants as opening;
+ghost use Rattle.kp_settings.specs.Faults.{of_error, of_handshake, of_lanes, of_loop};
+ghost use Rattle.kp_settings.specs.declared.fault.OpenFault.TheVariants as opening;
 
 use kp_accum::ConfigFault;
 use kp_hello::HandshakeFault;

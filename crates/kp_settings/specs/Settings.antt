@@ -5,10 +5,10 @@ use Rattle.kp_accum.specs.declared.fault.ConfigFault.{ConfigFault}
 use Rattle.kp_hello.specs.declared.hello.Hello.{Hello}
 use Rattle.kp_lanes.specs.declared.limits.Limits.{Limits}
 use Rattle.kp_rules.specs.Opening.{NAME_LIMIT}
-use Rattle.kp_client.specs.declared.fault.OpenFault.{OpenFault}
-use Rattle.kp_client.specs.declared.fault.OpenFault.TheVariants.{Topic, Client, Config}
-use Rattle.kp_client.specs.declared.policy.Policy.TheVariants.{Unlimited}
-use Rattle.kp_client.specs.declared.settings.Settings.{Settings}
+use Rattle.kp_settings.specs.declared.fault.OpenFault.{OpenFault}
+use Rattle.kp_settings.specs.declared.fault.OpenFault.TheVariants.{Topic, Client, Config}
+use Rattle.kp_settings.specs.declared.policy.Policy.TheVariants.{Unlimited}
+use Rattle.kp_settings.specs.declared.settings.Settings.{Settings}
 
 abbrev pub of_config : Result (Unit {0}) ConfigFault → Result (Unit {0}) OpenFault
 of_config (Ok done) = Ok done

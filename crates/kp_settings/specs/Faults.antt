@@ -7,10 +7,10 @@ use Rattle.kp_hello.specs.declared.fault.HandshakeFault.{HandshakeFault}
 use Rattle.kp_hello.specs.declared.fault.HandshakeFault.TheVariants as handshake
 use Rattle.kp_lanes.specs.declared.fault.OpenFault.{OpenFault as LanesFault}
 use Rattle.kp_lanes.specs.declared.fault.OpenFault.TheVariants as lanes
-use Rattle.kp_client.specs.declared.fault.OpenFault.{OpenFault}
-use Rattle.kp_client.specs.declared.fault.OpenFault.TheVariants.{Topic, Client, Config, Network, Handshake, Lanes, OutOfMemory}
-use Rattle.kp_client.specs.declared.fault.ServiceFault.{ServiceFault}
-use Rattle.kp_client.specs.declared.fault.ServiceFault.TheVariants as serving
+use Rattle.kp_settings.specs.declared.fault.OpenFault.{OpenFault}
+use Rattle.kp_settings.specs.declared.fault.OpenFault.TheVariants.{Topic, Client, Config, Network, Handshake, Lanes, OutOfMemory}
+use Rattle.kp_settings.specs.declared.fault.ServiceFault.{ServiceFault}
+use Rattle.kp_settings.specs.declared.fault.ServiceFault.TheVariants as serving
 
 -- ---- want of memory is want of memory, wherever it is met
 
