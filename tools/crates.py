@@ -1,4 +1,5 @@
-"""The crates that crates.txt lists, and the prover's commands over the libraries that `rt ci` left in crates/*/out."""
+"""The crates that crates.txt lists, the prover's commands over the libraries that `rt ci` left in crates/*/out, and processors."""
+import contextlib
 import os
 import subprocess
 
@@ -67,3 +68,14 @@ def crates_of(root, kind=Crate):
         if colon:
             crates[name.split()[0]] = kind(root, name.split()[0], needs.split(), crates)
     return crates
+
+
+def spread(processors, count):
+    """So many of these processors, far from each other: neighbours may be threads of one core, whether the system tells or not."""
+    cores = {}
+    for it in processors:
+        with contextlib.suppress(OSError), open(f"/sys/devices/system/cpu/cpu{it}/topology/thread_siblings_list", encoding="utf-8") as told:
+            cores.setdefault(told.read(), it)
+    apart = list(cores.values()) or processors
+    apart = apart[:: max(len(apart) // count, 1)]
+    return [*apart, *(it for it in processors if it not in apart)][:count]
