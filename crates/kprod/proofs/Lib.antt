@@ -1,0 +1,3 @@
+mod ReplayLemmas
+mod RunTextLemmas
+mod RunLooksLemmas

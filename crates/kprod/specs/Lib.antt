@@ -1,0 +1,4 @@
+pub mod Faults
+pub mod Replays
+pub mod RunText
+pub mod Runs

@@ -1,7 +1,14 @@
-//! The program `kprod`: the work of `kp_cli` at the process's own words and streams.
+//! The program `kprod`: it packs the lines of a file into one record batch, offers it to a partition log, and prints the log; it
+//! replays a schedule, and prints what comes of it; or it sends the lines to a broker from many threads, and prints what became of
+//! them. All but `main` is over any streams.
 #![tactic(auto)]
 
-use kp_cli::{kprod_with, refuse_words};
+mod fault;
+mod program;
+mod running;
+mod streams;
+
+use crate::program::{kprod_with, refuse_words};
 use std::env;
 use std::io::{self, Lock};
 use std::process::ExitCode;

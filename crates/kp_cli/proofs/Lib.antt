@@ -1,3 +1,0 @@
-mod ReplayLemmas
-mod RunTextLemmas
-mod RunLooksLemmas

@@ -1,6 +1,0 @@
-use Rattle.std.proofs.Common.{◌≡◌, ◌++◌}
-use Rattle.kp_cli.specs.RunText.{audit_at, of_each}
-use Rattle.kp_cli.proofs.running.put_audits.Given as goal
-
-abbrev pub invariant-loop-partition : goal.invariant-loop-partition
-invariant-loop-partition l = l.out.items ≡ l.initial.out.items ++ of_each (audit_at l.core) l.partition

@@ -1,4 +1,0 @@
-pub mod Faults
-pub mod Replays
-pub mod RunText
-pub mod Runs
