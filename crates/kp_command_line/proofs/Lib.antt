@@ -1,5 +1,4 @@
 mod BrokerWordsLemmas
 mod CommandLineLemmas
-mod DelimiterWordsLemmas
-mod OptionRulesLemmas
-mod OptionWordsLemmas
+pub mod OptionRulesLemmas
+pub mod OptionWordsLemmas

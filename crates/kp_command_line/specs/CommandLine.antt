@@ -1,10 +1,7 @@
 -- What words ask for.
-use Rattle.std.specs.Prelude.{◌≡◌, ◌⊎◌, Some, List, [], ◌∷◌, true, drop, codes}
-use Rattle.clap.specs.Words.{Row, Text, kind_of, subcommand_of, takes}
-use Rattle.clap.specs.declared.error.Error.{Error}
-use Rattle.clap.specs.declared.error.kind.ErrorKind.TheVariants.{OutOfMemory}
+use Rattle.std.specs.Prelude.{◌≡◌, Some, List, [], ◌∷◌, true, drop, codes}
+use Rattle.clap.specs.Words.{Row, Text, subcommand_of, takes}
 use Rattle.kp_command_line.specs.Commands.{kprod_app}
-use Rattle.kp_command_line.specs.SendWords.{AsksForSend, IsRefusedSend}
 use Rattle.kp_command_line.specs.declared.command_line.Command.{Command}
 use Rattle.kp_command_line.specs.declared.command_line.Command.TheVariants.{Pack, Replay, Run, Send}
 
@@ -27,21 +24,16 @@ abbrev pub Packs : Text → Command → Type 0
 Packs file (Pack given) = given.now ≡ file
 Packs file (Replay given) = ⊥
 Packs file (Run wanted) = ⊥
-Packs file (Send sending) = ⊥
+Packs file Send = ⊥
 
 abbrev pub Replays : Text → Command → Type 0
 Replays file (Replay given) = given.now ≡ file
 Replays file (Pack given) = ⊥
 Replays file (Run wanted) = ⊥
-Replays file (Send sending) = ⊥
+Replays file Send = ⊥
 
--- what these options of `send` ask for
-abbrev pub Sends : List Row → Command → Type 0
-Sends rows (Send sending) = AsksForSend rows sending
-Sends rows (Pack given) = ⊥
-Sends rows (Replay given) = ⊥
-Sends rows (Run wanted) = ⊥
-
--- memory is wanting, or these options of `send` can't be meant
-abbrev pub RefusesSend : List Row → Error → Type 0
-RefusesSend rows error = (kind_of error ≡ OutOfMemory) ⊎ IsRefusedSend rows
+abbrev pub Sends : Command → Type 0
+Sends Send = Unit {0}
+Sends (Pack given) = ⊥
+Sends (Replay given) = ⊥
+Sends (Run wanted) = ⊥

@@ -2,7 +2,6 @@
 use Rattle.std.specs.Prelude.{true, codes}
 use Rattle.clap.specs.Words.{App, Rule, new_app, new_rule, with_rule, with_subcommand}
 use Rattle.kp_command_line.specs.RunCommand.{run_app}
-use Rattle.kp_command_line.specs.SendCommand.{send_app}
 
 abbrev pub named_rule : Rule
 named_rule = record (new_rule (codes "file")) { value_names = 1; required = true }
@@ -12,6 +11,10 @@ pack_app = with_rule (new_app (codes "pack")) named_rule
 
 abbrev pub replay_app : App
 replay_app = with_rule (new_app (codes "replay")) named_rule
+
+-- its options are known by a program of its own
+abbrev pub send_app : App
+send_app = new_app (codes "send")
 
 abbrev pub bare_app : App
 bare_app =

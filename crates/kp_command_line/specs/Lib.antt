@@ -1,10 +1,7 @@
 pub mod BrokerWords
 pub mod CommandLine
 pub mod Commands
-pub mod DelimiterWords
 pub mod OptionRules
 pub mod OptionWords
 pub mod RunCommand
 pub mod RunWords
-pub mod SendCommand
-pub mod SendWords

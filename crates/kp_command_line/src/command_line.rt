@@ -2,13 +2,10 @@
 
 ghost use Rattle.std.specs.Prelude.{◌≡◌, Some, List, IfSome, MatchResult, codes, map, option_map};
 ghost use Rattle.clap.specs.Words.{Row, first_of, kind_of, subcommand_name_of, subcommand_rows_of};
-ghost use Rattle.kp_command_line.specs.CommandLine.{AskToPackInput, AskToReplayInput, AskToSend, Packs, RefusesSend, Replays, Sends};
-ghost use Rattle.kp_command_line.specs.OptionWords.{rows_in};
+ghost use Rattle.kp_command_line.specs.CommandLine.{AskToPackInput, AskToReplayInput, AskToSend, Packs, Replays, Sends};
 
 use crate::commands::kprod;
 use crate::run_words::{Wanted, wanted_of};
-use crate::send_words::{headers_of, sending_of};
-use crate::sending::Sending;
 use clap::error::ErrorKind;
 use clap::{ArgMatches, Error};
 use std::alloc::Global;
@@ -23,8 +20,8 @@ pub enum Command<'a> {
     Replay(&'a str),
     /// To send the lines of a file, and to print what became of each.
     Run(Wanted<'a>),
-    /// To send lines as they come.
-    Send(Sending<'a>),
+    /// To send lines as they come, which is the work of a program of its own.
+    Send,
 }
 
 /// The file of this command, where it is the one that the matches have.
@@ -45,24 +42,13 @@ fn run_of<'a>(alloc: Global, matches: &ArgMatches<'a>) -> Result<Command<'a>, Er
     }
 }
 
-/// What `send` is asked for by its matches.
-fn send_of<'a>(alloc: Global, matches: &ArgMatches<'a>) -> Result<Command<'a>, Error>
-    ensures { MatchResult result (Sends (rows_in matches.now)) (RefusesSend (rows_in matches.now)) }
-{
-    let headers = headers_of(alloc, matches)?;
-    match sending_of(matches, headers) {
-        Ok(sending) => Ok(Command::Send(sending)),
-        Err(message) => Err(kprod(alloc)?.error(ErrorKind::ValueValidation, message)?),
-    }
-}
-
-/// What `send` is asked for, where the matches are its own, and else the run that they ask for.
-fn sent_of<'a>(alloc: Global, matches: &ArgMatches<'a>) -> Result<Command<'a>, Error>
+/// To send, where the matches are those of `send`, and else the run that they ask for.
+fn sent_or_run<'a>(alloc: Global, matches: &ArgMatches<'a>) -> Result<Command<'a>, Error>
     ensures { (rows : List Row) → subcommand_rows_of matches.now ≡ Some (codes "send", rows)
-        → MatchResult result (Sends rows) (RefusesSend rows) }
+        → MatchResult result Sends (λ e. kind_of e ≡ ErrorKind.OutOfMemory) }
 {
     match matches.subcommand_matches("send") {
-        Some(matches) => send_of(alloc, matches),
+        Some(_) => Ok(Command::Send),
         None => run_of(alloc, matches),
     }
 }
@@ -74,7 +60,7 @@ pub fn command_of<'a, S: AsStr>(alloc: Global, words: &'a [S]) -> Result<Command
     ensures schedule { AskToReplayInput (map S.text words.entry.now)
         → MatchResult result (Replays (codes "-")) (λ e. kind_of e ≡ ErrorKind.OutOfMemory) }
     ensures send { (rows : List Row) → AskToSend (map S.text words.entry.now) rows
-        → MatchResult result (Sends rows) (RefusesSend rows) }
+        → MatchResult result Sends (λ e. kind_of e ≡ ErrorKind.OutOfMemory) }
 {
     let program = kprod(alloc)?;
     let matches = program.try_get_matches_from(words)?;
@@ -83,6 +69,6 @@ pub fn command_of<'a, S: AsStr>(alloc: Global, words: &'a [S]) -> Result<Command
     }
     match file_of(&matches, "replay") {
         Some(file) => Ok(Command::Replay(file)),
-        None => sent_of(alloc, &matches),
+        None => sent_or_run(alloc, &matches),
     }
 }

@@ -2,11 +2,10 @@
 
 ghost use Rattle.std.specs.Prelude.{◌≡◌, IfOk};
 ghost use Rattle.clap.specs.Words.{app_of};
-ghost use Rattle.kp_command_line.specs.Commands.{kprod_app, pack_app, replay_app};
+ghost use Rattle.kp_command_line.specs.Commands.{bare_app, kprod_app, pack_app, replay_app, send_app};
 ghost use Rattle.kp_command_line.specs.OptionRules.{IsLocal};
 
 use crate::run_command::run_command;
-use crate::send_command::send_command;
 use clap::{Arg, Command};
 use std::alloc::{AllocError, Global};
 
@@ -40,6 +39,26 @@ fn replay_command<'a>(alloc: Global) -> Result<Command<'a>, AllocError>
         .arg(file)
 }
 
+/// What sends, which is a program of its own that knows its options.
+fn send_command<'a>(alloc: Global) -> Command<'a>
+    ensures app { app_of result ≡ send_app }
+    ensures local { IsLocal result }
+{
+    Command::new(alloc, "send").about(
+        "Sends lines to a topic of a Kafka cluster, each once and in order, as they come",
+    )
+}
+
+/// The program with no command.
+pub fn bare_program<'a>(alloc: Global) -> Command<'a>
+    ensures { app_of result ≡ bare_app }
+{
+    Command::new(alloc, "kprod")
+        .about("Publishes lines to a Kafka broker, each once and in order")
+        .subcommand_required(true)
+        .disable_help_subcommand(true)
+}
+
 /// The program's commands and what they take.
 pub(crate) fn kprod<'a>(alloc: Global) -> Result<Command<'a>, AllocError>
     ensures { IfOk result (λ command. app_of command ≡ kprod_app) }
@@ -47,12 +66,8 @@ pub(crate) fn kprod<'a>(alloc: Global) -> Result<Command<'a>, AllocError>
     let pack = pack_command(alloc)?;
     let replay = replay_command(alloc)?;
     let run = run_command(alloc)?;
-    let send = send_command(alloc)?;
-    let program = Command::new(alloc, "kprod")
-        .about("Publishes lines to a Kafka broker, each once and in order")
-        .subcommand_required(true)
-        .disable_help_subcommand(true);
-    let program = program.subcommand(pack)?;
+    let send = send_command(alloc);
+    let program = bare_program(alloc).subcommand(pack)?;
     let program = program.subcommand(replay)?;
     let program = program.subcommand(run)?;
     program.subcommand(send)

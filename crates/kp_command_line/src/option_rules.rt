@@ -9,7 +9,7 @@ use clap::{Arg, ArgAction};
 use std::alloc::{AllocError, Global};
 
 /// An option that takes a number.
-pub(crate) fn number<'a>(
+pub fn number<'a>(
     alloc: Global,
     name: &'a str,
     least: u64,
@@ -27,7 +27,7 @@ pub(crate) fn number<'a>(
 }
 
 /// An option that takes any number, under a name of Kafka's and under a shorter one.
-pub(crate) fn setting<'a>(
+pub fn setting<'a>(
     alloc: Global,
     name: &'a str,
     short: &'a str,
@@ -40,7 +40,7 @@ pub(crate) fn setting<'a>(
 }
 
 /// An option that takes a text.
-pub(crate) fn text<'a>(alloc: Global, name: &'a str, value: &'a str, help: &'a str) -> Arg<'a>
+pub fn text<'a>(alloc: Global, name: &'a str, value: &'a str, help: &'a str) -> Arg<'a>
     ensures rule { rule_of result ≡ text_rule name.entry.now }
     ensures local { result.global ≡ false }
     ensures free { result.conflicts.items ≡ [] }
@@ -52,7 +52,7 @@ pub(crate) fn text<'a>(alloc: Global, name: &'a str, value: &'a str, help: &'a s
 }
 
 /// An option that takes a text, and that has to be there.
-pub(crate) fn required_text<'a>(
+pub fn required_text<'a>(
     alloc: Global,
     name: &'a str,
     value: &'a str,
@@ -65,7 +65,7 @@ pub(crate) fn required_text<'a>(
 }
 
 /// An option that takes a text each time that it is there.
-pub(crate) fn repeated_text<'a>(
+pub fn repeated_text<'a>(
     alloc: Global,
     name: &'a str,
     value: &'a str,
@@ -78,7 +78,7 @@ pub(crate) fn repeated_text<'a>(
 }
 
 /// An option that takes nothing.
-pub(crate) fn flag<'a>(alloc: Global, name: &'a str, help: &'a str) -> Arg<'a>
+pub fn flag<'a>(alloc: Global, name: &'a str, help: &'a str) -> Arg<'a>
     ensures rule { rule_of result ≡ flag_rule name.entry.now }
     ensures local { result.global ≡ false }
 {

@@ -49,4 +49,4 @@ abbrev pub Looks : Command → Result (Unit {0}) Fault → Type 0
 Looks (Pack file) result = Unit {0}
 Looks (Replay file) result = Unit {0}
 Looks (Run wanted) result = LooksFirst wanted.options result
-Looks (Send sending) result = result ≡ Err Sends
+Looks Send result = result ≡ Err Sends

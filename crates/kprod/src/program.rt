@@ -171,7 +171,7 @@ where
         Command::Pack(file) => pack_file(rt, file, input, out),
         Command::Replay(file) => replay_file(rt, file, input, out),
         Command::Run(wanted) => run_file(rt, wanted, input, out, err),
-        Command::Send(_) => Err(Fault::Sends),
+        Command::Send => Err(Fault::Sends),
     }
 }
 

@@ -5,7 +5,7 @@ use Rattle.std.specs.declared.time.Duration.{Duration}
 use Rattle.std.specs.Option.{option_map}
 use Rattle.kp_batch.specs.declared.record.Header.{Header}
 use Rattle.kp_bootstrap.specs.Addresses.{AreAddresses, entries_of}
-use Rattle.kp_command_line.specs.declared.sending.Sending.{Sending}
+use Rattle.kp_send_words.specs.declared.sending.Sending.{Sending}
 use Rattle.kp_embed.specs.declared.target.Target.{Target}
 use Rattle.kp_embed.specs.declared.target.Target.TheVariants.{Partition, Any}
 use Rattle.kp_publish.specs.declared.threads.Plan.{Plan}

@@ -17,8 +17,6 @@ pub(crate) enum Fault<'a> {
     /// What a file of settings says that can't be meant.
     Settings(&'a str, SettingsFault<'a>),
     OutOfMemory,
-    /// What does not send lines as they come is another program.
-    Runs,
     Topic,
     Client,
     Config(ConfigFault),
@@ -64,7 +62,6 @@ impl<'a> Fault<'a> {
                 | SettingsFault::Unknown(_, _)
                 | SettingsFault::Fixed(_, _),
             )
-            | Fault::Runs
             | Fault::Topic
             | Fault::Client
             | Fault::Config(_)
@@ -121,7 +118,6 @@ pub(crate) fn put_fault<E: Write>(err: &mut E, fault: Fault<'_>) -> io::Result<(
         Fault::NoSettings(file) => writeln!(err, "kprod: {file} is no text"),
         Fault::Settings(file, fault) => put_settings_fault(err, file, fault),
         Fault::OutOfMemory => err.write_all(b"kprod: out of memory\n"),
-        Fault::Runs => err.write_all(b"kprod: pack, replay and run are the program kprod\n"),
         Fault::Topic => err.write_all(
             b"kprod: a topic's name has 1 to 249 letters, digits, dots, underscores and hyphens, and is not . or ..\n",
         ),

@@ -12,7 +12,7 @@ use crate::sending::send;
 use crate::settings::{settings_file, with_settings};
 use clap::Error;
 use clap::error::ErrorKind;
-use kp_command_line::{Command, command_of};
+use kp_send_words::sending_asked;
 use std::io::{self, Lock, Write};
 use std::process::ExitCode;
 use std::rt::{Env, Files};
@@ -86,13 +86,12 @@ fn main(rt: HostRuntime) -> ExitCode {
         Ok(words) => words,
         Err(status) => return ExitCode::from(status),
     };
-    let status = match command_of(rt.alloc(), words.as_slice()) {
+    let status = match sending_asked(rt.alloc(), words.as_slice()) {
         Err(error) => refuse(&error, out, err),
-        Ok(Command::Send(sending)) => match send(&rt, &sending, input, out, err) {
+        Ok(sending) => match send(&rt, &sending, input, out, err) {
             Ok(tellings) => tellings.status(),
             Err(fault) => fail(fault, err),
         },
-        Ok(_) => fail(Fault::Runs, err),
     };
     ExitCode::from(status)
 }

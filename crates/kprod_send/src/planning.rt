@@ -6,7 +6,7 @@ ghost use Rattle.kprod_send.specs.Planning.{IsFormOf, IsPlanOf, IsTellingOf};
 use crate::fault::Fault;
 use kp_batch::Header;
 use kp_bootstrap::read_addresses;
-use kp_command_line::Sending;
+use kp_send_words::Sending;
 use kp_options::is_topic;
 use kp_publish::{ClusterConfig, EmbedConfig, Form, Names, Plan, Target, Telling};
 use kp_wire::{Blob, Seq, Text};

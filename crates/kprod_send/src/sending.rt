@@ -2,7 +2,7 @@
 
 use crate::fault::Fault;
 use crate::planning::plan_of;
-use kp_command_line::Sending;
+use kp_send_words::Sending;
 use kp_publish::{Files as Written, Plan, PublishFault, Tellings, publish};
 use std::fs::File;
 use std::io::{IsTerminal, Read, Write};

@@ -1,4 +1,4 @@
-use Rattle.std.proofs.Common.{◌≡◌, ◌∙◌, ap, arith, codes, inl, map, Some}
+use Rattle.std.proofs.Common.{◌≡◌, ◌∙◌, ap, arith, codes, map, Some}
 use Rattle.std.proofs.lemmas.Option.{none-some, same_Some}
 use Rattle.std.proofs.lemmas.Result.{err_from_is_err_and}
 use Rattle.clap.specs.Words.{is_simple}
@@ -12,7 +12,7 @@ returns-in_err-matches g c =
     record {
       input = λ asked. rw (left.1, left.2) (c.in_err-matches.ensures.passes (taken_asked (codes "pack") _ words pack_found c.in_ok-program.ensures asked));
       schedule = λ asked. rw (left.1, left.2) (c.in_err-matches.ensures.passes (taken_asked (codes "replay") _ words replay_found c.in_ok-program.ensures asked));
-      send = λ rows asked. rw (left.1, left.2) (inl (c.in_err-matches.ensures.passes (taken_sent _ words rows c.in_ok-program.ensures asked)));
+      send = λ rows asked. rw (left.1, left.2) (c.in_err-matches.ensures.passes (taken_sent _ words rows c.in_ok-program.ensures asked));
     }
 
 pub returns-in-Some : goal.returns-in-Some
@@ -68,5 +68,5 @@ returns g c =
           let matched = at.1 ∙ rows_asked (codes "replay") _ words replay_found c.in_ok-program.ensures asked in
           let file = c.in-None.ensures.file (rows_found (codes "replay") program) matched ∙ (replay_found program).file in
           absurd (none-some _ file);
-      send = λ rows asked. c.sent_of.ensures rows (rows_sent c.in_ok-matches.matches _ words rows c.in_ok-program.ensures asked at.1);
+      send = λ rows asked. c.sent_or_run.ensures rows (rows_sent c.in_ok-matches.matches _ words rows c.in_ok-program.ensures asked at.1);
     }

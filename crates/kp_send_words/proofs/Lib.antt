@@ -1,0 +1,2 @@
+mod AskingLemmas
+mod DelimiterWordsLemmas

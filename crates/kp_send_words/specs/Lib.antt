@@ -1,0 +1,4 @@
+pub mod Asking
+pub mod DelimiterWords
+pub mod SendCommand
+pub mod SendWords
