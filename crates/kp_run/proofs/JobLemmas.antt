@@ -6,7 +6,7 @@ use Rattle.kp_batch.specs.declared.record.Record.{Record}
 use Rattle.kp_lanes.specs.Limits.{charge_of}
 use Rattle.kp_lanes.specs.Outbox.{keyed_to, moved_on}
 use Rattle.kp_lanes.specs.declared.limits.Limits.{Limits}
-use Rattle.kp_run.specs.Dealing.{dealt_line, Deal, IsRecordOf}
+use Rattle.kp_dealing.specs.Dealing.{dealt_line, Deal, IsRecordOf}
 use Rattle.kp_run.specs.Jobs.{accepted_by, limits_in, number_of, turn_of, HasRun, HasSent, HasTried, Keeps, SameJob, SentNothing}
 use Rattle.kp_run.specs.Sending.{AreSent, IsLine}
 use Rattle.kp_run.specs.declared.sender_thread.Job.{Job}

@@ -13,7 +13,7 @@ use Rattle.kp_lanes.specs.declared.limits.Limits.{Limits}
 use Rattle.kp_client.specs.Producer.{lane_of}
 use Rattle.kp_client.specs.declared.producer.Producer.{Producer}
 use Rattle.kp_rules.specs.declared.outcome.Report.{Report}
-use Rattle.kp_run.specs.Dealing.{Deal}
+use Rattle.kp_dealing.specs.Dealing.{Deal}
 use Rattle.kp_run.specs.Jobs.{accepted_by, limits_in, number_of, producer_of, turn_of, HasRun, HasTried, IsIdle, IsJobOf, Keeps, SameJob, SameJobs}
 use Rattle.kp_run.specs.Portions.{whole, Comes, Gathered, Portion}
 use Rattle.kp_run.specs.Sending.{AreSent, HaveLines}

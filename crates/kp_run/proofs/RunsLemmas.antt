@@ -11,12 +11,13 @@ use Rattle.kp_broker.specs.Broker.{opened, Broker}
 use Rattle.kp_broker.specs.Plan.{Plan}
 use Rattle.kp_rules.specs.declared.outcome.Report.{Report}
 use Rattle.kp_settings.specs.declared.settings.Settings.{Settings}
-use Rattle.kp_run.specs.Dealing.{asked, dealt, Deal}
+use Rattle.kp_dealing.specs.Dealing.{asked, dealt, Deal}
+use Rattle.kp_dealing.specs.Sizing.{largest}
 use Rattle.kp_run.specs.Gathered.{by_place}
 use Rattle.kp_run.specs.Portions.{Comes}
 use Rattle.kp_run.specs.Runs.{CameOf, IsAt, IsBrokerAt, IsHere, IsProduced, IsProducedBy}
 use Rattle.kp_run.specs.Served.{ServesAll}
-use Rattle.kp_run.specs.Settings.{largest, AreSettingsOf}
+use Rattle.kp_run.specs.Settings.{AreSettingsOf}
 use Rattle.kp_run.specs.Theirs.{AreOfService}
 use Rattle.kp_run.specs.declared.fault.RunFault.{RunFault}
 use Rattle.kp_run.specs.declared.gathering.Produced.{Produced}

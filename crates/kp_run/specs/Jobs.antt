@@ -9,9 +9,14 @@ use Rattle.kp_lanes.specs.Sender.{accepted, got, limits_of, sender_number, turn,
 use Rattle.kp_lanes.specs.declared.limits.Limits.{Limits}
 use Rattle.kp_client.specs.Producer.{lane_of, SameProducer}
 use Rattle.kp_client.specs.declared.producer.Producer.{Producer}
-use Rattle.kp_run.specs.Dealing.{Deal}
+use Rattle.kp_dealing.specs.Dealing.{dealt, Deal}
 use Rattle.kp_run.specs.Sending.{AreSent, HaveLines}
 use Rattle.kp_run.specs.declared.sender_thread.Job.{Job}
+use Rattle.kp_run.specs.declared.sender_thread.Task.{Task}
+
+-- what a task deals out
+abbrev pub deal_of : Task → Deal
+deal_of task = dealt task.lines.now task.senders task.keyed
 
 abbrev pub producer_of : Job → Producer
 producer_of job = job.producer

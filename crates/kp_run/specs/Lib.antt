@@ -1,4 +1,3 @@
-pub mod Dealing
 pub mod Faults
 pub mod Gathered
 pub mod Jobs
@@ -9,5 +8,4 @@ pub mod Runs
 pub mod Sending
 pub mod Served
 pub mod Settings
-pub mod Sizing
 pub mod Theirs

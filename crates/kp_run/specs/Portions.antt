@@ -4,7 +4,7 @@ use Rattle.std.specs.List.{flat_map}
 use Rattle.kp_accum.specs.declared.item.Item.{Item}
 use Rattle.kp_engine.specs.Parts.{HaveReports}
 use Rattle.kp_rules.specs.declared.outcome.Report.{Report}
-use Rattle.kp_run.specs.Dealing.{Deal}
+use Rattle.kp_dealing.specs.Dealing.{Deal}
 use Rattle.kp_run.specs.Jobs.{accepted_by}
 use Rattle.kp_run.specs.Sending.{HaveLines}
 use Rattle.kp_run.specs.declared.sender_thread.Job.{Job}

@@ -7,11 +7,12 @@ use Rattle.kp_broker.specs.Broker.{opened, Broker}
 use Rattle.kp_broker.specs.Plan.{Plan}
 use Rattle.kp_rules.specs.declared.outcome.Report.{Report}
 use Rattle.kp_settings.specs.declared.settings.Settings.{Settings}
-use Rattle.kp_run.specs.Dealing.{asked, Deal}
+use Rattle.kp_dealing.specs.Dealing.{asked, Deal}
+use Rattle.kp_dealing.specs.Sizing.{largest}
 use Rattle.kp_run.specs.Gathered.{by_place}
 use Rattle.kp_run.specs.Portions.{Comes}
 use Rattle.kp_run.specs.Served.{ServesAll}
-use Rattle.kp_run.specs.Settings.{largest, AreSettingsOf}
+use Rattle.kp_run.specs.Settings.{AreSettingsOf}
 use Rattle.kp_run.specs.Theirs.{AreOfService}
 use Rattle.kp_run.specs.declared.checked.Checked.{Checked}
 use Rattle.kp_options.specs.declared.options.Options.{Options}

@@ -6,7 +6,7 @@ use Rattle.kp_lanes.specs.Entries.{IsNext}
 use Rattle.kp_lanes.specs.Limits.{charge_of}
 use Rattle.kp_lanes.specs.Outbox.{keyed_to, moved_on}
 use Rattle.kp_lanes.specs.declared.limits.Limits.{Limits}
-use Rattle.kp_run.specs.Dealing.{dealt_line, Deal, IsRecordOf}
+use Rattle.kp_dealing.specs.Dealing.{dealt_line, Deal, IsRecordOf}
 
 -- the record of line k of the sender
 pub record IsLine (deal : Deal) (sender k : ℕ) (body : Record) : Type 0 where

@@ -1,15 +1,10 @@
 -- What a producer is opened with.
-use Rattle.std.specs.Prelude.{◌≡◌, ℕ, min}
-use Rattle.kp_accum.specs.declared.config.Config.{Config}
+use Rattle.std.specs.Prelude.{◌≡◌}
 use Rattle.kp_options.specs.Places.{expected_partitions}
 use Rattle.kp_options.specs.declared.options.Options.{Options}
 use Rattle.kp_settings.specs.declared.settings.Settings.{Settings}
 use Rattle.kp_settings.specs.declared.policy.Policy.TheVariants.{InAll}
 use Rattle.kp_run.specs.declared.settings.TheConstants.{CAPACITY, CLIENT, NEW_CONNECTIONS}
-
--- the most that a record may take
-abbrev pub largest : Config → ℕ
-largest config = min config.max_request_size config.buffer_memory
 
 pub record AreSettingsOf (options : Options) (settings : Settings) : Type 0 where
   pub topic : settings.names.topic ≡ options.topic.now

@@ -5,7 +5,6 @@
 mod broker_thread;
 mod checked;
 mod checks;
-mod dealing;
 mod fault;
 mod gathering;
 mod plan;
@@ -13,13 +12,12 @@ mod producing;
 mod running;
 mod sender_thread;
 mod settings;
-mod sizing;
 mod stamps;
 
 pub use checked::Checked;
 pub use fault::RunFault;
+pub use kp_dealing::is_too_large;
 pub use running::{Came, run_lines};
-pub use sizing::is_too_large;
 
 /// Why the last connection of a run was lost.
 pub use kp_client::Cause;

@@ -6,12 +6,12 @@ ghost use Rattle.kp_lanes.specs.Intake.{lanes_of};
 ghost use Rattle.kp_client.specs.Ends.{HasEnded};
 ghost use Rattle.kp_client.specs.Left.{parts_in};
 ghost use Rattle.kp_client.specs.Service.{core_of, intake_of};
-ghost use Rattle.kp_run.specs.Dealing.{deal_of, dealt};
+ghost use Rattle.kp_dealing.specs.Dealing.{dealt};
+ghost use Rattle.kp_dealing.specs.Sizing.{largest};
 ghost use Rattle.kp_run.specs.Gathered.{by_place};
-ghost use Rattle.kp_run.specs.Jobs.{producer_of, HasRun, HasTried, HaveRun, IsIdle, SameJobs};
+ghost use Rattle.kp_run.specs.Jobs.{deal_of, producer_of, HasRun, HasTried, HaveRun, IsIdle, SameJobs};
 ghost use Rattle.kp_run.specs.Portions.{Comes};
 ghost use Rattle.kp_run.specs.Theirs.{AreOfService};
-ghost use Rattle.kp_run.specs.Settings.{largest};
 
 use crate::fault::RunFault;
 use crate::gathering::{Produced, gather};

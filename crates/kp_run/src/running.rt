@@ -1,9 +1,9 @@
 //! A run, from its lines to what became of them.
 
 ghost use Rattle.std.specs.Prelude.{◌≡◌, IfOk};
-ghost use Rattle.kp_run.specs.Dealing.{dealt};
+ghost use Rattle.kp_dealing.specs.Dealing.{dealt};
+ghost use Rattle.kp_dealing.specs.Sizing.{largest};
 ghost use Rattle.kp_run.specs.Runs.{CameOf, IsAt, IsHere, IsProduced, IsProducedBy};
-ghost use Rattle.kp_run.specs.Settings.{largest};
 ghost use Rattle.kp_run.specs.Served.{ServesAll};
 
 use crate::broker_thread::{Serving, end, serve_all};

@@ -4,14 +4,13 @@ ghost use Rattle.std.specs.Prelude.{◌≡◌, ◌+◌, ◌++◌, ◌∷◌, ◌
 ghost use Rattle.std.specs.Bool.{OnTrue};
 ghost use Rattle.kp_lanes.specs.Limits.{charge_of};
 ghost use Rattle.kp_lanes.specs.declared.fault.SendFault.TheVariants.{RecordTooLarge};
-ghost use Rattle.kp_run.specs.Dealing.{deal_of};
-ghost use Rattle.kp_run.specs.Jobs.{accepted_by, limits_in, HasRun, HasSent, HasTried, IsIdle, Keeps, SameJob, SentNothing};
+ghost use Rattle.kp_run.specs.Jobs.{accepted_by, deal_of, limits_in, HasRun, HasSent, HasTried, IsIdle, Keeps, SameJob, SentNothing};
 
-use crate::dealing::{dealt, record_of};
 use crate::stamps::Stamps;
 use kp_batch::Record;
 use kp_client::Producer;
 use kp_core::Report;
+use kp_dealing::{dealt, record_of};
 use kp_lanes::{FlushFault, SendFault, Target};
 use std::alloc::{AllocGlobal, Global};
 use std::sync::Wait;

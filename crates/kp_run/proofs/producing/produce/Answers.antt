@@ -4,10 +4,10 @@ use Rattle.kp_lanes.specs.Intake.{lanes_of}
 use Rattle.kp_client.specs.Left.{parts_in}
 use Rattle.kp_client.specs.Service.{hello_of, intake_of}
 use Rattle.kp_settings.specs.Settings.{record_limit}
-use Rattle.kp_run.specs.Dealing.{dealt}
+use Rattle.kp_dealing.specs.Dealing.{dealt}
 use Rattle.kp_run.specs.Jobs.{limits_in}
 use Rattle.kp_run.specs.Portions.{Comes, Gathered}
-use Rattle.kp_run.specs.Settings.{largest}
+use Rattle.kp_dealing.specs.Sizing.{largest}
 use Rattle.kp_run.specs.Theirs.{AreOfService, AreTheirs}
 use Rattle.kp_run.specs.declared.gathering.Produced.{Produced}
 use Rattle.kp_run.proofs.JobsLemmas.{all_keep, all_tried, comes, if_ok, jobs_limited, jobs_numbered, jobs_of_lanes}

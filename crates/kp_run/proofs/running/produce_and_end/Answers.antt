@@ -1,5 +1,5 @@
-use Rattle.kp_run.specs.Dealing.{dealt}
-use Rattle.kp_run.specs.Settings.{largest}
+use Rattle.kp_dealing.specs.Dealing.{dealt}
+use Rattle.kp_dealing.specs.Sizing.{largest}
 use Rattle.kp_run.proofs.RunsLemmas.{is_produced}
 use Rattle.kp_run.proofs.running.produce_and_end.Goals as goal
 

@@ -1,5 +1,4 @@
-use Rattle.kp_run.specs.Dealing.{deal_of}
-use Rattle.kp_run.specs.Jobs.{HasTried, SameJob}
+use Rattle.kp_run.specs.Jobs.{deal_of, HasTried, SameJob}
 use Rattle.kp_run.proofs.sender_thread.Job.send_all.Given as goal
 
 abbrev pub invariant-loop-k : goal.invariant-loop-k

@@ -1,5 +1,5 @@
 use Rattle.std.proofs.lemmas.Bool.{OnTrue_from}
-use Rattle.kp_run.specs.Dealing.{deal_of}
+use Rattle.kp_run.specs.Jobs.{deal_of}
 use Rattle.kp_run.proofs.JobLemmas.{is_line, ran, went_on, went_past}
 use Rattle.kp_run.proofs.sender_thread.Job.send_line.Goals as goal
 

@@ -1,7 +1,7 @@
 //! Lines that are too large to be sent.
 
 ghost use Rattle.std.specs.Prelude.{IfOk};
-ghost use Rattle.kp_run.specs.Sizing.{IsToldTooLarge};
+ghost use Rattle.kp_dealing.specs.Sizing.{IsToldTooLarge};
 
 use crate::dealing::record_of;
 use kp_batch::charge;

@@ -2,7 +2,7 @@
 
 ghost use Rattle.std.specs.Prelude.{◌≡◌, ◌≢◌, IfOk, map};
 ghost use Rattle.std.specs.Option.{option_map};
-ghost use Rattle.kp_run.specs.Dealing.{dealt_line, IsRecordOf, IsSplit, Splits};
+ghost use Rattle.kp_dealing.specs.Dealing.{dealt_line, IsRecordOf, IsSplit, Splits};
 
 use kp_batch::{Record, Timestamp};
 use kp_wire::{Blob, Seq};
@@ -10,7 +10,7 @@ use memchr::memchr;
 use std::alloc::{AllocError, Global};
 
 /// Line `k` of this sender, where there is one: the lines are dealt out one by one.
-pub(crate) fn dealt<'a>(lines: &[&'a [u8]], senders: u32, sender: u32, k: u64) -> Option<&'a [u8]>
+pub fn dealt<'a>(lines: &[&'a [u8]], senders: u32, sender: u32, k: u64) -> Option<&'a [u8]>
     ensures { option_map (λ line. line.now) result ≡ dealt_line senders sender k (map (λ line. line.now) lines.now) }
 {
     let place = k
@@ -47,7 +47,7 @@ fn copy_of(alloc: Global, key: Option<&[u8]>) -> Result<Option<Blob>, AllocError
 }
 
 /// A line's record.
-pub(crate) fn record_of(
+pub fn record_of(
     alloc: Global,
     keyed: bool,
     timestamp: Timestamp,

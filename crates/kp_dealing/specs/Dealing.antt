@@ -3,7 +3,6 @@ use Rattle.std.specs.Prelude.{◌≡◌, ◌≢◌, ℕ, ◌+◌, ◌*◌, List,
 use denote.Ref.{Bor}
 use Rattle.kp_batch.specs.declared.record.Record.{Record}
 use Rattle.kp_options.specs.declared.options.Options.{Options}
-use Rattle.kp_run.specs.declared.sender_thread.Task.{Task}
 
 -- line k of a sender, where the lines are dealt out one by one
 abbrev pub dealt_line : ℕ → ℕ → ℕ → List (List ℕ) → Option (List ℕ)
@@ -39,9 +38,6 @@ texts lines = map (λ line. line.now) lines
 
 abbrev pub dealt : List (Bor (List ℕ)) → ℕ → Bool → Deal
 dealt lines senders keyed = record { lines = texts lines; senders = senders; keyed = keyed }
-
-abbrev pub deal_of : Task → Deal
-deal_of task = dealt task.lines.now task.senders task.keyed
 
 -- what a run with these options deals out
 abbrev pub asked : Options → List (Bor (List ℕ)) → Deal
