@@ -14,5 +14,5 @@ returns c =
     let running : app_of c.in_ok-program-3.program ≡ with_subcommand (with_subcommand (with_subcommand bare_app pack_app.top) replay_app.top) run_app.top =
     c.in_ok-program-3.ensures.shape c.in_ok-run.ensures.local ∙ ap₂ with_subcommand replaying (ap (λ (a : App). a.top) c.in_ok-run.ensures.app) in
     IfOk-weaker c.subcommand-4.result _ _
-    (λ m h. h.shape c.send_command.ensures.local ∙ ap₂ with_subcommand running (ap (λ (a : App). a.top) c.send_command.ensures.app))
+    (λ m h. h.shape c.send_command-send.ensures.local ∙ ap₂ with_subcommand running (ap (λ (a : App). a.top) c.send_command-send.ensures.app))
     c.subcommand-4.ensures
