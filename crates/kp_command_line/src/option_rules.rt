@@ -9,13 +9,7 @@ use clap::{Arg, ArgAction};
 use std::alloc::{AllocError, Global};
 
 /// An option that takes a number.
-pub fn number<'a>(
-    alloc: Global,
-    name: &'a str,
-    least: u64,
-    most: u64,
-    help: &'a str,
-) -> Arg<'a>
+pub fn number<'a>(alloc: Global, name: &'a str, least: u64, most: u64, help: &'a str) -> Arg<'a>
     ensures rule { rule_of result ≡ number_rule name.entry.now least most }
     ensures local { result.global ≡ false }
 {
@@ -52,12 +46,7 @@ pub fn text<'a>(alloc: Global, name: &'a str, value: &'a str, help: &'a str) -> 
 }
 
 /// An option that takes a text, and that has to be there.
-pub fn required_text<'a>(
-    alloc: Global,
-    name: &'a str,
-    value: &'a str,
-    help: &'a str,
-) -> Arg<'a>
+pub fn required_text<'a>(alloc: Global, name: &'a str, value: &'a str, help: &'a str) -> Arg<'a>
     ensures rule { rule_of result ≡ required_rule name.entry.now }
     ensures local { result.global ≡ false }
 {
@@ -65,12 +54,7 @@ pub fn required_text<'a>(
 }
 
 /// An option that takes a text each time that it is there.
-pub fn repeated_text<'a>(
-    alloc: Global,
-    name: &'a str,
-    value: &'a str,
-    help: &'a str,
-) -> Arg<'a>
+pub fn repeated_text<'a>(alloc: Global, name: &'a str, value: &'a str, help: &'a str) -> Arg<'a>
     ensures rule { rule_of result ≡ repeated_rule name.entry.now }
     ensures local { result.global ≡ false }
 {

@@ -2,8 +2,8 @@
 
 use crate::fault::Fault;
 use crate::planning::plan_of;
-use kp_send_words::Sending;
 use kp_publish::{Files as Written, Plan, PublishFault, Tellings, publish};
+use kp_send_words::Sending;
 use std::fs::File;
 use std::io::{IsTerminal, Read, Write};
 use std::net::{Net, TcpListener, TcpStream};
