@@ -93,8 +93,9 @@ impl Accum {
         }
         let queue = &mut self.queues[item.partition as usize];
         let batches = queue.len();
-        if let Err(refused) = queue.append(&self.config, charge, item) {
-            return Err((AppendFault::OutOfMemory, refused.value));
+        let mut refused = None;
+        if let Err(AllocError) = queue.append(&self.config, charge, item, &mut refused) {
+            return Err((AppendFault::OutOfMemory, refused.unwrap()));
         }
         self.batches += queue.len() - batches;
         self.budget.take(charge);

@@ -1,6 +1,6 @@
 //! A batch that waits to be sent.
 
-ghost use Rattle.std.specs.Prelude.{◌≡◌, ◌≤◌, ◌<◌, ◌++◌, ◌∷◌, [], length, Ok, IfSome, IfErr, IfOk, OnOk, OnErr, is_some, sum_by};
+ghost use Rattle.std.specs.Prelude.{◌≡◌, ◌≤◌, ◌<◌, ◌++◌, ◌∷◌, [], length, Ok, Some, IfSome, OnOk, OnErr, is_some, sum_by, vec_capacity, vec_len};
 ghost use Rattle.kp_accum.specs.Config.{checked};
 ghost use Rattle.kp_accum.specs.Queue.{size_of, charge_of, joins, joined_by, begun_by, marked_by_flush};
 ghost use Rattle.kp_accum.specs.Ready.{is_over, is_full, is_late};
@@ -9,7 +9,7 @@ ghost use Rattle.kp_accum.specs.Measured.{IsMeasured};
 use crate::config::Config;
 use crate::item::Item;
 use kp_batch::{SIZE_LIMIT, size_with};
-use std::alloc::{AllocFailed, Global};
+use std::alloc::AllocError;
 use std::marker::Model;
 
 /// A batch that waits to be sent: some items, the moment at which the first of them was accepted, and a flush's mark.
@@ -89,30 +89,24 @@ impl Pending {
         items
     }
 
-    /// A batch that this item begins, which has this charge, with room for so many items and for this one at least.
-    pub(crate) fn begun_by(
-        alloc: Global,
-        room: usize,
-        charge: u64,
-        item: Item,
-    ) -> Result<Pending, AllocFailed<Item>>
+    /// A batch that this item begins, which has this charge. The memory for its items has room for this one at least.
+    #[inline(always)]
+    pub(crate) fn begun_by(mut items: Vec<Item>, charge: u64, item: Item) -> Pending
+        requires none { items.items ≡ [] }
+        requires room { vec_len items < vec_capacity items }
         requires is_its { charge ≡ charge_of item }
         requires fits { charge ≤ SIZE_LIMIT }
-        ensures ok { IfOk result (λ b. b ≡ begun_by item) }
-        ensures back { IfErr result (λ failed. failed.value ≡ item) }
+        ensures { result ≡ begun_by item }
     {
-        let Ok(mut items) = Vec::with_capacity(alloc, room.max(1)) else {
-            return Err(AllocFailed { value: item });
-        };
         let begun = item.at;
         items.push_reserved(item);
-        Ok(Pending {
+        Pending {
             begun,
             items,
             size: charge,
             charge,
             marked: false,
-        })
+        }
     }
 
     /// Its size with the item, where the item joins it.
@@ -133,24 +127,31 @@ impl Pending {
         }
     }
 
-    /// Puts the item last, where the size with it is this, and it has this charge.
+    /// Puts the item last, where the size with it is this, and it has this charge. Where memory is refused, it is put into
+    /// `refused`.
     #[inline(always)]
     pub(crate) fn join(
         &mut self,
         size: u64,
         charge: u64,
         item: Item,
-    ) -> Result<(), AllocFailed<Item>>
+        refused: &mut Option<Item>,
+    ) -> Result<(), AllocError>
         requires size_is { size ≡ size_of (self.old.items ++ item ∷ []) }
         requires size_fits { size ≤ SIZE_LIMIT }
         requires charge_is { charge ≡ charge_of item }
         requires charge_fits { charge ≤ SIZE_LIMIT }
         ensures ok { OnOk result (self.new ≡ joined_by item self.old) }
         ensures err { OnErr result (self.new ≡ self.old) }
-        ensures back { IfErr result (λ failed. failed.value ≡ item) }
+        ensures back { OnErr result (refused.new ≡ Some item) }
+        ensures still { OnOk result (refused.new ≡ refused.old) }
         ensures mark { self.new.marked ≡ self.old.marked }
     {
-        self.items.push(item)?;
+        if self.items.reserve(1).is_err() {
+            *refused = Some(item);
+            return Err(AllocError);
+        }
+        self.items.push_reserved(item);
         self.size = size;
         self.charge += charge;
         Ok(())

@@ -1,7 +1,8 @@
 //! The batches of one partition that wait, oldest first.
 
-ghost use Rattle.std.specs.Prelude.{◌≡◌, ◌≤◌, ◌<◌, ◌-◌, ◌++◌, ◌∷◌, [], length, map, drop, Ok, IfSome, IfErr, OnOk, OnErr, IsSome, is_some, slice_get, slice_index_or};
+ghost use Rattle.std.specs.Prelude.{◌≡◌, ◌≤◌, ◌<◌, ◌-◌, ◌++◌, ◌∷◌, [], length, map, drop, Ok, Some, IfOk, IfSome, OnOk, OnErr, IsSome, is_some, slice_get, slice_index_or, vec_capacity};
 ghost use Rattle.std.specs.Option.{option_copied};
+ghost use Rattle.std.specs.VecDeque.{deque_len, deque_capacity};
 ghost use Rattle.kp_accum.specs.Config.{checked};
 ghost use Rattle.kp_accum.specs.Queue as seen;
 ghost use Rattle.kp_accum.specs.Queue.{charge_of, size_of, joins, with_item, marked_by_flush, marked_in};
@@ -12,7 +13,7 @@ use crate::flags::Flags;
 use crate::item::Item;
 use crate::pending::Pending;
 use kp_batch::SIZE_LIMIT;
-use std::alloc::{AllocFailed, Global};
+use std::alloc::{AllocError, Global};
 use std::collections::VecDeque;
 use std::marker::Model;
 
@@ -54,6 +55,21 @@ fn last_size_with(batches: &VecDeque<Pending>, config: &Config, item: &Item) -> 
     batches.back()?.size_with(config, item)
 }
 
+/// Room for one batch more, and memory for so many items of it.
+fn room_for_a_batch(
+    alloc: Global,
+    batches: &mut VecDeque<Pending>,
+    room: usize,
+) -> Result<Vec<Item>, AllocError>
+    ensures same { batches.new.items ≡ batches.old.items }
+    ensures place { OnOk result (deque_len batches.new < deque_capacity batches.new) }
+    ensures none { IfOk result (λ items. items.items ≡ []) }
+    ensures room { IfOk result (λ items. room ≤ vec_capacity items) }
+{
+    batches.reserve(1)?;
+    Vec::with_capacity(alloc, room)
+}
+
 impl Queue {
     /// A queue with no batch. It takes no memory.
     pub fn new(alloc: Global) -> Queue
@@ -74,36 +90,43 @@ impl Queue {
         self.batches.len()
     }
 
-    /// Puts the item, which has this charge, last: into the last batch, or into a new one. Where memory is refused, the
-    /// item comes back.
+    /// Puts the item, which has this charge, last: into the last batch, or into a new one. Where memory is refused, it is
+    /// put into `refused`: a result that held it would be moved, and filled where it holds nothing, at each return.
     #[inline(never)]
     pub fn append(
         &mut self,
         config: &Config,
         charge: u64,
         item: Item,
-    ) -> Result<(), AllocFailed<Item>>
+        refused: &mut Option<Item>,
+    ) -> Result<(), AllocError>
         requires allowed { checked config.now ≡ Ok tt }
         requires is_its { charge ≡ charge_of item }
         requires fits { charge ≤ SIZE_LIMIT }
         ensures ok { OnOk result (self.new ≡ with_item config.now item self.old) }
         ensures err { OnErr result (self.new ≡ self.old) }
-        ensures back { IfErr result (λ failed. failed.value ≡ item) }
+        ensures back { OnErr result (refused.new ≡ Some item) }
+        ensures still { OnOk result (refused.new ≡ refused.old) }
     {
         if let Some(size) = last_size_with(&self.batches, config, &item) {
             let last = self.batches.len() - 1;
-            return self.batches[last].join(size, charge, item);
+            return self.batches[last].join(size, charge, item, refused);
         }
         let room = self
             .batches
             .back()
             .map_or(self.room, |last| last.items().len());
-        if self.batches.reserve(1).is_err() {
-            return Err(AllocFailed { value: item });
+        match room_for_a_batch(self.alloc, &mut self.batches, room.max(1)) {
+            Ok(items) => {
+                let batch = Pending::begun_by(items, charge, item);
+                self.batches.push_back_reserved(batch);
+                Ok(())
+            }
+            Err(AllocError) => {
+                *refused = Some(item);
+                Err(AllocError)
+            }
         }
-        let batch = Pending::begun_by(self.alloc, room, charge, item)?;
-        self.batches.push_back_reserved(batch);
-        Ok(())
     }
 
     /// Whether the front batch is ready to be sent at the moment `now`; not where there is none.

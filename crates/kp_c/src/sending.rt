@@ -11,6 +11,7 @@ use crate::handle::KpProducer;
 use crate::records::{front_of, headers_of, record_of};
 use crate::status::{OK, Refusal, status_of};
 use crate::values::{KpSpan, KpTicket};
+use kp_batch::Record;
 use kp_embed::{Embed, Target};
 use kp_wire::Seq;
 use std::alloc::Global;
@@ -46,14 +47,15 @@ pub extern "C" fn kp_producer_send(
     let Some(mut embed) = producer.take(alloc) else {
         return Refusal::NoProducer.status();
     };
-    let done = embed.send(target_of(partition), body, now);
+    let mut refused = None;
+    let done = embed.send_or_refuse(target_of(partition), body, now, &mut refused);
     producer.put(embed);
     match done {
         Ok(place) => {
             *ticket = KpTicket::of(place);
             OK
         }
-        Err((fault, _body)) => Refusal::Send(fault).status(),
+        Err(fault) => Refusal::Send(fault).status(),
     }
 }
 
@@ -115,6 +117,7 @@ fn send_each(
     ensures all { OnOk result.1 (result.0 ≡ length lengths.now) }
 {
     let mut rest = values;
+    let mut refused = None;
     for place in 0..lengths.len() {
         match send_first(
             alloc,
@@ -124,6 +127,7 @@ fn send_each(
             lengths[place],
             timestamp_ms,
             now,
+            &mut refused,
         ) {
             Ok(others) => rest = others,
             Err(refusal) => return (place, Err(refusal)),
@@ -132,7 +136,7 @@ fn send_each(
     (lengths.len(), Ok(()))
 }
 
-/// Accepts the value at the front of the bytes: what stands behind it.
+/// Accepts the value at the front of the bytes: what stands behind it. Where it is refused, its record is put into `refused`.
 #[inline]
 fn send_first<'a>(
     alloc: Global,
@@ -142,6 +146,7 @@ fn send_first<'a>(
     length: u64,
     timestamp_ms: i64,
     now: u64,
+    refused: &mut Option<Record>,
 ) -> Result<&'a [u8], Refusal>
     ensures accepts { OnOk result (AcceptsValue timestamp_ms now target (take length bytes.now) embed.old embed.new) }
     ensures rest { IfOk result (λ rest. rest.now ≡ drop length bytes.now) }
@@ -153,9 +158,9 @@ fn send_first<'a>(
     let headers = Seq::new(Vec::new(alloc));
     match record_of(alloc, timestamp_ms, false, &[], true, value, headers) {
         Err(refusal) => Err(refusal),
-        Ok(body) => match embed.send(target, body, now) {
+        Ok(body) => match embed.send_or_refuse(target, body, now, refused) {
             Ok(_ticket) => Ok(rest),
-            Err((fault, _body)) => Err(Refusal::Send(fault)),
+            Err(fault) => Err(Refusal::Send(fault)),
         },
     }
 }

@@ -1,6 +1,8 @@
 //! The sender core: one value, on which each call is one step of its rules.
 
-ghost use Rattle.std.specs.Prelude.{◌≡◌, ◌<◌, true, length, IfOk, IfErr};
+ghost use Rattle.std.specs.Prelude.{◌≡◌, ◌<◌, true, length, Some, IfOk, IfErr, OnErr, OnOk};
+ghost use Rattle.kp_accum.specs.Queue.{charge_of};
+ghost use Rattle.kp_batch.specs.Spelling.{measured};
 ghost use Rattle.kp_rules.specs.Appending.{may_append};
 ghost use Rattle.kp_rules.specs.Auditing.{opened};
 ghost use Rattle.kp_rules.specs.Calls.{Append, Close, Disconnect, End, Fetch, Flush, Lead, Reply, Request as Requested, Tick, Step};
@@ -99,14 +101,22 @@ impl Core {
     pub fn may_append(&self, item: &Item) -> bool
         ensures { result ≡ may_append item.now self.now }
     {
+        self.may_append_charged(item, item.charge())
+    }
+
+    /// The same of an item whose charge is known.
+    #[inline]
+    pub fn may_append_charged(&self, item: &Item, charge: u64) -> bool
+        requires { charge ≡ measured (charge_of item.now) }
+        ensures { result ≡ may_append item.now self.now }
+    {
         if item.sender as usize >= self.desk.senders() {
             return false;
         }
         if item.partition as usize >= self.partitions.len() {
             return false;
         }
-        let limit = self.config.max_request_size.min(self.config.buffer_memory);
-        item.charge() <= limit
+        charge <= self.config.max_request_size.min(self.config.buffer_memory)
     }
 
     /// Puts the item last in its partition's queue, and keeps a place for its report; where the core has ended, or the
@@ -119,7 +129,30 @@ impl Core {
         ensures step { Step self.old (Append item (answer_of result)) self.new }
         ensures back { IfErr result (λ refused. refused.1 ≡ item) }
     {
-        self.append_item(item)
+        let mut refused = None;
+        let charge = item.charge();
+        match self.append_item(item, charge, &mut refused) {
+            Ok(()) => Ok(()),
+            Err(fault) => Err((fault, refused.unwrap())),
+        }
+    }
+
+    /// The same of an item whose charge is known; what is refused is put into `refused`. A result that holds an item is
+    /// moved, and filled where it holds none, at each return: this one is for who appends many.
+    #[inline(always)]
+    pub fn append_or_refuse(
+        &mut self,
+        item: Item,
+        charge: u64,
+        refused: &mut Option<Item>,
+    ) -> Result<(), AppendFault>
+        requires may { may_append item self.old ≡ true }
+        requires is_its { charge ≡ measured (charge_of item) }
+        ensures step { Step self.old (Append item result) self.new }
+        ensures back { OnErr result (refused.new ≡ Some item) }
+        ensures still { OnOk result (refused.new ≡ refused.old) }
+    {
+        self.append_item(item, charge, refused)
     }
 
     /// The next request that is to go out to this node at this moment: for a fresh producer id, or for the batches of

@@ -34,17 +34,15 @@ pub has_room_for : (i : Item) (s : Core) (charge : ℕ) → may_append i s ≡ t
 unfolding would_exhaust measured
 has_room_for i s charge may is fits le = grind (arith, nat_tests, charge_within i s may)
 
-pub no_room_for : (i : Item) (s : Core) (charge : ℕ) → charge ≡ charge_of i → s.config.buffer_memory < used s + charge → would_exhaust i s ≡ true
-unfolding would_exhaust
-no_room_for i s charge is above = grind (arith, nat_tests)
+-- more than there may be
+pub above_limit : (limit n : ℕ) → limit < n → false ≡ nat_le n limit
+above_limit limit n above = grind (arith, nat_tests)
 
--- what a sum with a charge says of the room
-pub room_told : (i : Item) (s : Core) (charge : ℕ) → charge ≡ charge_of i → nat_le (used s + charge) s.config.buffer_memory ≡ not (would_exhaust i s)
-unfolding would_exhaust
-room_told i s charge is = ap (λ (n : ℕ). nat_le (used s + n) s.config.buffer_memory) is ∙ other (used s + charge_of i) s.config.buffer_memory
-  where
-    other : (n m : ℕ) → nat_le n m ≡ not (nat_lt m n)
-    other n m = grind (arith, nat_tests)
+-- a charge that was measured, for which there is no room
+pub full_told : (i : Item) (s : Core) (charge : ℕ) → charge ≡ measured (charge_of i) → charge_of i ≤ 2147483647
+    → nat_le (used s + charge) s.config.buffer_memory ≡ false → would_exhaust i s ≡ true
+unfolding would_exhaust measured
+full_told i s charge is few e = grind (arith, nat_tests)
 
 -- ---- the step
 

@@ -1,13 +1,14 @@
 //! Records are accepted.
 
-ghost use Rattle.std.specs.Prelude.{◌≡◌, ◌<◌, ◌≤◌, length, true, false, not, IfOk, IfErr, OnOk, OnErr, Ok, slice_index};
+ghost use Rattle.std.specs.Prelude.{◌≡◌, ◌<◌, ◌+◌, ◌^◌, length, true, false, nat_le, IfOk, IfErr, OnOk, OnErr, Ok, Some, slice_index};
 ghost use Rattle.std.specs.Bool.{OnTrue};
 ghost use Rattle.kp_accum.specs.Queue.{charge_of};
-ghost use Rattle.kp_batch.specs.declared.size.TheConstants.{SIZE_LIMIT};
+ghost use Rattle.kp_batch.specs.Spelling.{measured};
 ghost use Rattle.kp_embed.specs.Producer.{with_cluster};
 ghost use Rattle.kp_embed.specs.Sending.{DoesNotTake, GoesTo, HasNoPlace, IsThere, Refuses, Sends, TurnsAway};
 ghost use Rattle.kp_rules.specs.Appending.{may_append, would_exhaust};
 ghost use Rattle.kp_rules.specs.Calls.{Append, Step};
+ghost use Rattle.kp_rules.specs.Partitions.{used};
 
 use crate::embed::Embed;
 use crate::fault::SendFault;
@@ -33,18 +34,46 @@ impl Embed {
         ensures when { IfErr result (λ refused. Refuses self.old target now body refused.0) }
         ensures still { self.new.is_closed ≡ self.old.is_closed }
     {
+        let mut refused = None;
+        match self.send_or_refuse(target, body, now, &mut refused) {
+            Ok(ticket) => Ok(ticket),
+            Err(fault) => Err((fault, refused.unwrap())),
+        }
+    }
+
+    /// The same; what is refused is put into `refused`. A result that holds a record is moved, and filled where it holds
+    /// none, at each return: this one is for who sends many.
+    #[inline]
+    pub fn send_or_refuse(
+        &mut self,
+        target: Target,
+        body: Record,
+        now: u64,
+        refused: &mut Option<Record>,
+    ) -> Result<Ticket, SendFault>
+        ensures sends { IfOk result (λ t. Sends self.old now body t self.new) }
+        ensures to { IfOk result (λ t. GoesTo target t.partition) }
+        ensures back { OnErr result (refused.new ≡ Some body) }
+        ensures kept { OnOk result (refused.new ≡ refused.old) }
+        ensures refused { OnErr result (self.new ≡ self.old) }
+        ensures when { IfErr result (λ fault. Refuses self.old target now body fault) }
+        ensures still { self.new.is_closed ≡ self.old.is_closed }
+    {
         let is_in_turn = matches!((target, &body.key), (Target::Any, None));
         match self.place_for(target, &body) {
-            Ok(ticket) => match self.append(ticket, body, now) {
+            Ok(ticket) => match self.append(ticket, body, now, refused) {
                 Ok(ticket) => {
                     if is_in_turn {
                         self.turn = ticket.partition.wrapping_add(1);
                     }
                     Ok(ticket)
                 }
-                Err(refused) => Err(refused),
+                Err(fault) => Err(fault),
             },
-            Err(fault) => Err((fault, body)),
+            Err(fault) => {
+                *refused = Some(body);
+                Err(fault)
+            }
         }
     }
 
@@ -87,28 +116,32 @@ impl Embed {
 }
 
 impl Embed {
-    /// The record joins its partition's queue with this ticket.
+    /// The record joins its partition's queue with this ticket, or is put into `refused`.
     #[inline(always)]
     fn append(
         &mut self,
         ticket: Ticket,
         body: Record,
         now: u64,
-    ) -> Result<Ticket, (SendFault, Record)>
+        refused: &mut Option<Record>,
+    ) -> Result<Ticket, SendFault>
         requires number { ticket.number ≡ slice_index self.old.counts ticket.partition }
         requires there { ticket.partition < length self.old.counts }
         ensures sends { IfOk result (λ t. Sends self.old now body t self.new) }
         ensures same { IfOk result (λ t. t ≡ ticket) }
-        ensures back { IfErr result (λ refused. refused.1 ≡ body) }
-        ensures refused { IfErr result (λ refused. self.new ≡ self.old) }
-        ensures when { IfErr result (λ refused. TurnsAway self.old ticket now body refused.0) }
+        ensures back { OnErr result (refused.new ≡ Some body) }
+        ensures kept { OnOk result (refused.new ≡ refused.old) }
+        ensures refused { OnErr result (self.new ≡ self.old) }
+        ensures when { IfErr result (λ fault. TurnsAway self.old ticket now body fault) }
         ensures still { self.new.is_closed ≡ self.old.is_closed }
     {
         let Some(following) = ticket.number.checked_add(1) else {
-            return Err((SendFault::Spent, body));
+            *refused = Some(body);
+            return Err(SendFault::Spent);
         };
         let Some(core) = &mut self.core else {
-            return Err((SendFault::NotReady, body));
+            *refused = Some(body);
+            return Err(SendFault::NotReady);
         };
         let item = Item {
             sender: 0,
@@ -117,13 +150,17 @@ impl Embed {
             at: now,
             body,
         };
-        match append_to(core, item) {
+        let mut back = None;
+        match append_to(core, item, &mut back) {
             Ok(()) => {
                 self.counts[ticket.partition as usize] = following;
                 self.want_leader(ticket.partition);
                 Ok(ticket)
             }
-            Err((fault, item)) => Err((fault, item.body)),
+            Err(fault) => {
+                *refused = Some(back.unwrap().body);
+                Err(fault)
+            }
         }
     }
 
@@ -137,39 +174,55 @@ impl Embed {
     }
 }
 
-/// The core takes the item, or is as it was.
+/// The core takes the item, or is as it was, and the item is put into `refused`.
 #[inline(always)]
-fn append_to(core: &mut Core, item: Item) -> Result<(), (SendFault, Item)>
+fn append_to(core: &mut Core, item: Item, refused: &mut Option<Item>) -> Result<(), SendFault>
     ensures taken { OnOk result (Step core.old (Append item (Ok tt)) core.new) }
     ensures refused { OnErr result (core.new ≡ core.old) }
-    ensures back { IfErr result (λ refused. refused.1 ≡ item) }
-    ensures when { IfErr result (λ refused. DoesNotTake core.old item refused.0) }
+    ensures back { OnErr result (refused.new ≡ Some item) }
+    ensures when { IfErr result (λ fault. DoesNotTake core.old item fault) }
 {
-    if core.has_ended() {
-        return Err((SendFault::Closed, item));
+    let charge = item.charge();
+    if let Err(fault) = is_taken(core, &item, charge) {
+        *refused = Some(item);
+        return Err(fault);
     }
-    if !core.may_append(&item) {
-        return Err((SendFault::TooLarge, item));
-    }
-    if !has_room(core, &item) {
-        return Err((SendFault::BufferFull, item));
-    }
-    match core.append(item) {
+    match core.append_or_refuse(item, charge, refused) {
         Ok(()) => Ok(()),
-        Err((AppendFault::BufferFull, item)) => Err((SendFault::BufferFull, item)),
-        Err((AppendFault::OutOfMemory, item)) => Err((SendFault::OutOfMemory, item)),
+        Err(AppendFault::BufferFull) => Err(SendFault::BufferFull),
+        Err(AppendFault::OutOfMemory) => Err(SendFault::OutOfMemory),
     }
 }
 
-/// Whether the memory for records that wait holds the item too.
+/// Whether the core takes the item, which has this charge, where memory is not refused.
+#[inline(always)]
+fn is_taken(core: &Core, item: &Item, charge: u64) -> Result<(), SendFault>
+    requires { charge ≡ measured (charge_of item.now) }
+    ensures going { OnOk result (core.now.ended ≡ false) }
+    ensures may { OnOk result (may_append item.now core.now ≡ true) }
+    ensures room { OnOk result (would_exhaust item.now core.now ≡ false) }
+    ensures when { IfErr result (λ fault. DoesNotTake core.now item.now fault) }
+{
+    if core.has_ended() {
+        return Err(SendFault::Closed);
+    }
+    if !core.may_append_charged(item, charge) {
+        return Err(SendFault::TooLarge);
+    }
+    if !has_room(core, charge) {
+        return Err(SendFault::BufferFull);
+    }
+    Ok(())
+}
+
+/// Whether the memory for records that wait holds this charge too.
 #[inline]
-fn has_room(core: &Core, item: &Item) -> bool
-    requires { may_append item.now core.now ≡ true }
-    ensures room { OnTrue result (would_exhaust item.now core.now ≡ false) }
-    ensures exact { charge_of item.now ≤ SIZE_LIMIT → result ≡ not (would_exhaust item.now core.now) }
+fn has_room(core: &Core, charge: u64) -> bool
+    ensures exact { result ≡ nat_le (used core.now + charge) core.now.config.buffer_memory }
+    ensures within { OnTrue result (used core.now + charge < 2 ^ 64) }
 {
     let limit = core.config().buffer_memory;
-    match core.used().checked_add(item.charge()) {
+    match core.used().checked_add(charge) {
         Some(used) => used <= limit,
         None => false,
     }

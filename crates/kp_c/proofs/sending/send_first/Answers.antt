@@ -3,10 +3,10 @@ use Rattle.std.proofs.lemmas.Int.{to_z-of_z}
 use Rattle.std.specs.Prelude.{Some}
 use Rattle.kp_c.proofs.sending.send_first.Goals as goal
 
-pub returns-in-Ok-send-clause-accepts : goal.returns-in-Ok-send-clause-accepts
-returns-in-Ok-send-clause-accepts c =
+pub returns-in-Ok-send_or_refuse-clause-accepts : goal.returns-in-Ok-send_or_refuse-clause-accepts
+returns-in-Ok-send_or_refuse-clause-accepts c =
     let body = c.in-Ok.ensures in
-    let t = c.in-Ok-send._ticket in record {
+    let t = c.in-Ok-send_or_refuse._ticket in record {
       ticket = record { number = t.number; partition = t.partition };
       accepts = record {
         body = c.in-Ok.body;
@@ -16,7 +16,7 @@ returns-in-Ok-send-clause-accepts c =
           value_is = body.value ∙ ap (λ (v : List ℕ). Some v) c.in-Some.ensures.0;
           headers_are = body.headers ∙ c.new-headers.ensures ∙ c.new.ensures.items;
         };
-        sends = c.in-Ok-send.ensures.sends;
+        sends = c.in-Ok-send_or_refuse.ensures.sends;
       };
-      to = c.in-Ok-send.ensures.to;
+      to = c.in-Ok-send_or_refuse.ensures.to;
     }

@@ -1,6 +1,6 @@
 //! An item joins the queue of a partition, which has something to do from then on.
 
-ghost use Rattle.std.specs.Prelude.{◌≡◌, ◌≤◌, ◌<◌, ◌++◌, ◌∷◌, ℕ, List, Ok, length, slice_set, vec_capacity, vec_len, IfErr, OnOk, OnErr};
+ghost use Rattle.std.specs.Prelude.{◌≡◌, ◌≤◌, ◌<◌, ◌++◌, ◌∷◌, ℕ, List, Ok, Some, length, slice_set, vec_capacity, vec_len, OnOk, OnErr};
 ghost use Rattle.std.specs.List.{AllByRecursion};
 ghost use Rattle.kp_accum.specs.Config.{checked};
 ghost use Rattle.kp_accum.specs.Queue.{charge_of};
@@ -10,18 +10,19 @@ ghost use Rattle.kp_rules.specs.Partitions.{partition_at};
 use crate::machine::partitions::Partitions;
 use kp_accum::{Config, Item};
 use kp_batch::SIZE_LIMIT;
-use std::alloc::AllocFailed;
+use std::alloc::AllocError;
 
 impl Partitions {
     /// Puts the item, which has this charge, last in its partition's queue. Where memory is refused, or no more items can
-    /// be counted, the item comes back.
+    /// be counted, it is put into `refused`.
     #[inline(always)]
     pub(crate) fn enqueue(
         &mut self,
         config: &Config,
         charge: u64,
         item: Item,
-    ) -> Result<(), AllocFailed<Item>>
+        refused: &mut Option<Item>,
+    ) -> Result<(), AllocError>
         requires there { item.partition < length self.old }
         requires allowed { checked config.now ≡ Ok tt }
         requires is_its { charge ≡ charge_of item }
@@ -29,12 +30,13 @@ impl Partitions {
         ensures ok { OnOk result (self.new ≡
             slice_set self.old item.partition (enqueue config.now item (partition_at item.partition self.old))) }
         ensures err { OnErr result (self.new ≡ self.old) }
-        ensures back { IfErr result (λ failed. failed.value ≡ item) }
+        ensures back { OnErr result (refused.new ≡ Some item) }
+        ensures still { OnOk result (refused.new ≡ refused.old) }
     {
         let place = item.partition;
         let partition = &mut self.all[place as usize];
         let was_idle = partition.is_idle();
-        partition.enqueue(config, charge, item)?;
+        partition.enqueue(config, charge, item, refused)?;
         if was_idle {
             put_in(&mut self.busy, place);
         }

@@ -1,4 +1,4 @@
-use Rattle.std.proofs.Common.{◌≡◌, ◌∙◌, sym, ap, ◌+◌, ◌≤◌, ◌<◌, length, arith}
+use Rattle.std.proofs.Common.{◌≡◌, ◌∙◌, sym, ap, ◌+◌, ◌≤◌, ◌<◌, length, arith, rules}
 use Rattle.std.specs.Prelude.{not}
 use Rattle.kp_accum.specs.declared.fault.AppendFault.{AppendFault}
 use Rattle.kp_accum.specs.declared.item.Item.{Item}
@@ -35,8 +35,9 @@ returns-in-Err-clause-refused c =
     let item = c.args.item in
     let a = c.args.self.now in
     let told = exhausted-is a item _ _ _ _ _ _ _ _ c.self.view_is c.self.invariant c.requires.request c.charge-charge.ensures.exact c.has_room.ensures in
-    ap (λ (fault : AppendFault). (fault, c.in-Err.refused.value)) (sym (refusal-memory item a (told ∙ ap not c.if-not-has_room.false)))
-    ∙ ap (λ (i : Item). (refusal item a, i)) c.in-Err.ensures.back
+    let back : c.unwrap.result ≡ item = search rules in
+    ap (λ (fault : AppendFault). (fault, c.unwrap.result)) (sym (refusal-memory item a (told ∙ ap not c.if-not-has_room.false)))
+    ∙ ap (λ (i : Item). (refusal item a, i)) back
 
 pub overflow_sub-self : goal.overflow_sub-self
 overflow_sub-self c =

@@ -33,21 +33,19 @@ returns-in-Some-clause-ok c =
     (λ e. ap (slice_set qs (c.len-last.result - 1)) (e ∙ ap (joined_by item) here) ∙ sym is ∙ ap (with_item config item) same)
     c.join.ensures.ok
 
-pub invariant_of-self-2 : goal.invariant_of-self-2
-invariant_of-self-2 c =
+pub invariant_of-self-in-Ok : goal.invariant_of-self-in-Ok
+invariant_of-self-in-Ok c =
     let qs = c.self.inside.batches.items in
-    let is : c.push_back_reserved.new.self.items ≡ qs ++ c.in_ok-batch.batch ∷ [] = search rules in
-    let begun = c.in_ok-batch.ensures.ok in
-    rw is (marks-push c.self.inside.marked qs c.in_ok-batch.batch (ap (λ (b : Pending). b.marked) begun) c.self.invariant)
+    let is : c.push_back_reserved.new.self.items ≡ qs ++ c.begun_by-batch.result ∷ [] = search rules in
+    rw is (marks-push c.self.inside.marked qs c.begun_by-batch.result (ap (λ (b : Pending). b.marked) c.begun_by-batch.ensures) c.self.invariant)
 
-pub returns-clause-ok : goal.returns-clause-ok
-returns-clause-ok c =
+pub returns-in-Ok-clause-ok : goal.returns-in-Ok-clause-ok
+returns-in-Ok-clause-ok c =
     let qs = c.self.inside.batches.items in
     let config = c.args.config.now in
     let item = c.args.item in
     let same : qs ≡ c.args.self.now = search rules in
-    let is : c.push_back_reserved.new.self.items ≡ qs ++ c.in_ok-batch.batch ∷ [] = search rules in
-    let begun : c.in_ok-batch.batch ≡ begun_by item = c.in_ok-batch.ensures.ok in
-    is ∙ ap (λ (b : Pending). qs ++ b ∷ []) begun
+    let is : c.push_back_reserved.new.self.items ≡ qs ++ c.begun_by-batch.result ∷ [] = search rules in
+    is ∙ ap (λ (b : Pending). qs ++ b ∷ []) c.begun_by-batch.ensures
     ∙ sym (begun_behind config item qs (λ d some. c.in_default.ensures.joins d some))
     ∙ ap (with_item config item) same
