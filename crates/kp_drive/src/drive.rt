@@ -1,6 +1,6 @@
 //! A producer with its connections, its clock and its timer.
 
-ghost use Rattle.std.specs.Prelude.{◌≡◌, ◌≤◌, ◌<◌, ◌*◌, ◌+◌, [], ℕ, None, Ok, length, IfErr, IfOk, IfSome};
+ghost use Rattle.std.specs.Prelude.{◌≡◌, ◌≤◌, ◌<◌, ◌*◌, ◌+◌, [], ℕ, None, Ok, Some, length, IfErr, IfOk, IfSome, OnErr, OnOk};
 ghost use Rattle.std.specs.Time.{instant_nanos};
 ghost use Rattle.futures.specs.Poll.{OnPending};
 ghost use Rattle.futures.specs.Task.{Covers, Keeps};
@@ -139,6 +139,25 @@ impl<'r, R: Clock, K: Drop, S: Stream, D: Dial<Dialing = K, Stream = S>> Drive<'
         ensures only { OnlyProducer self.old self.new }
     {
         self.host.embed.send(target, body, now)
+    }
+
+    /// As `send_at`; what is refused is put into `refused`, for who sends many.
+    pub fn send_or_refuse(
+        &mut self,
+        target: Target,
+        body: Record,
+        now: u64,
+        refused: &mut Option<Record>,
+    ) -> Result<Ticket, SendFault>
+        ensures sends { IfOk result (λ t. Sends (producer_of self.old) now body t (producer_of self.new)) }
+        ensures to { IfOk result (λ t. GoesTo target t.partition) }
+        ensures back { OnErr result (refused.new ≡ Some body) }
+        ensures kept { OnOk result (refused.new ≡ refused.old) }
+        ensures refused { OnErr result (producer_of self.new ≡ producer_of self.old) }
+        ensures when { IfErr result (λ fault. Refuses (producer_of self.old) target now body fault) }
+        ensures only { OnlyProducer self.old self.new }
+    {
+        self.host.embed.send_or_refuse(target, body, now, refused)
     }
 
     /// The oldest report that was not fetched.
