@@ -92,7 +92,7 @@ impl Queue {
 
     /// Puts the item, which has this charge, last: into the last batch, or into a new one. Where memory is refused, it is
     /// put into `refused`: a result that held it would be moved, and filled where it holds nothing, at each return.
-    #[inline(never)]
+    #[inline(always)]
     pub fn append(
         &mut self,
         config: &Config,

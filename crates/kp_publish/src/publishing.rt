@@ -125,13 +125,18 @@ impl<'r, R: Net + Clock, F: Write, O: Write, E: Write> Publishing<'r, R, F, O, E
         let Some(record) = self.sender.next_record(now.stamp)? else {
             return Ok(Next::Gone);
         };
-        match self.drive.send_at(self.sender.target(), record, now.moment) {
+        let mut refused = None;
+        let target = self.sender.target();
+        match self
+            .drive
+            .send_or_refuse(target, record, now.moment, &mut refused)
+        {
             Ok(ticket) => {
                 self.sender.accepted(ticket, texts)?;
                 self.watch.sent(ticket)?;
             }
-            Err((fault, _)) if self.stays(fault) => return Ok(Next::Waits),
-            Err((fault, _)) => self.sender.refused(fault, texts)?,
+            Err(fault) if self.stays(fault) => return Ok(Next::Waits),
+            Err(fault) => self.sender.refused(fault, texts)?,
         }
         Ok(Next::Gone)
     }

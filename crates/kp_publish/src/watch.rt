@@ -155,6 +155,9 @@ impl Watch {
 
     /// A report came.
     pub(crate) fn told(&mut self, report: &Report) {
+        if self.latencies.is_none() {
+            return;
+        }
         let passed = self.passed();
         if let Some(latencies) = &mut self.latencies {
             if let Some(at) = self.moments.told(report) {

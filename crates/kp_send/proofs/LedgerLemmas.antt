@@ -86,14 +86,45 @@ stays_so old new same =
     stays old new (subst (λ (es : List Entry). IsPermutation old.waiting es) (sym same) (IsPermutation-refl old.waiting))
 
 -- an entry that was put beside the others
-pub enters : (waiting es new : List Entry) (k : Key) (sent : Sent) (old : Option Sent) → es ≡ waiting → false ≡ is_some (lookup (is_key k) es)
-    → old ≡ lookup (is_key k) es → MatchOption old (IsPermutation ((k, sent) ∷ es) new) (λ _. new ≡ set_value (is_key k) es sent)
+pub enters : (waiting es new : List Entry) (k : Key) (sent : Sent) (old : Option Sent) → es ≡ waiting → old ≡ None
+    → MatchOption old (IsPermutation ((k, sent) ∷ es) new) (λ _. new ≡ set_value (is_key k) es sent)
     → IsPermutation (waiting ++ (k, sent) ∷ []) new
-enters waiting es new k sent None same none was put =
+enters waiting es new k sent None same none put =
     IsPermutation-trans (waiting ++ (k, sent) ∷ []) ((k, sent) ∷ waiting) new (IsPermutation-to_front waiting (k, sent))
     (subst (λ (xs : List Entry). IsPermutation ((k, sent) ∷ xs) new) same put)
-enters waiting es new k sent (Some before) same none was put =
-    absurd (false≢true (none ∙ sym (ap is_some was)))
+enters waiting es new k sent (Some before) same none put = absurd (cc)
+
+-- what stood at a key is put back there
+set_back_at : (k : Key) (e : Entry) (es : List Entry) (sent before : Sent) (here : Bool) → is_key k e.0 ≡ here
+    → cond here (Some e.1) (lookup (is_key k) es) ≡ Some before
+    → (lookup (is_key k) es ≡ Some before → set_value (is_key k) (set_value (is_key k) es sent) before ≡ es)
+    → set_value (is_key k) (cond here ((e.0, sent) ∷ es) (e ∷ set_value (is_key k) es sent)) before ≡ e ∷ es
+set_back_at k e es sent before true here is later =
+    let same : before ≡ e.1 = sym (ap (λ (o : Option Sent). unwrap_or o e.1) is) in
+    ap (λ (b : Bool). cond b ((e.0, before) ∷ es) ((e.0, sent) ∷ set_value (is_key k) es before)) here
+    ∙ ap (λ (s : Sent). (e.0, s) ∷ es) same
+set_back_at k e es sent before false here is later =
+    ap (λ (b : Bool). cond b ((e.0, before) ∷ set_value (is_key k) es sent) (e ∷ set_value (is_key k) (set_value (is_key k) es sent) before)) here
+    ∙ ap (λ (xs : List Entry). e ∷ xs) (later is)
+
+set_back : (k : Key) (es : List Entry) (sent before : Sent) → lookup (is_key k) es ≡ Some before
+    → set_value (is_key k) (set_value (is_key k) es sent) before ≡ es
+set_back k [] sent before is = refl
+set_back k (e ∷ es) sent before is = set_back_at k e es sent before (is_key k e.0) refl is (set_back k es sent before)
+
+-- an entry took the place of another, which then took it again
+pub put_back : (waiting es middle new : List Entry) (k : Key) (sent before after : Sent) (first second : Option Sent) → es ≡ waiting
+    → first ≡ Some before → first ≡ lookup (is_key k) es
+    → MatchOption first (IsPermutation ((k, sent) ∷ es) middle) (λ _. middle ≡ set_value (is_key k) es sent)
+    → second ≡ Some after → MatchOption second (IsPermutation ((k, before) ∷ middle) new) (λ _. new ≡ set_value (is_key k) middle before)
+    → IsPermutation (waiting ++ []) new
+put_back waiting es middle new k sent before after None second same is was one there two = absurd (cc)
+put_back waiting es middle new k sent before after (Some x) None same is was one there two = absurd (cc)
+put_back waiting es middle new k sent before after (Some x) (Some y) same is was one there two =
+    let found : lookup (is_key k) es ≡ Some before = sym was ∙ is in
+    let whole : new ≡ waiting = two ∙ ap (λ (xs : List Entry). set_value (is_key k) xs before) one ∙ set_back k es sent before found ∙ same in
+    subst (λ (xs : List Entry). IsPermutation xs new) (sym (append-nil waiting))
+    (subst (λ (xs : List Entry). IsPermutation waiting xs) (sym whole) (IsPermutation-refl waiting))
 
 -- an entry that was taken out
 pub leaves : (waiting es rest : List Entry) (k : Key) (sent : Sent) → es ≡ waiting → Some sent ≡ lookup (is_key k) es

@@ -58,11 +58,13 @@ impl Ledger {
         ensures unchanged { OnErr result (Moves self.old [] [] self.new) }
     {
         let key = (ticket.partition, ticket.number);
-        if self.waiting.contains_key(&key) {
-            return Err((LedgerFault::Waits, line));
-        }
         match self.waiting.insert(key, line) {
-            Ok(_) => Ok(()),
+            Ok(None) => Ok(()),
+            // It goes back to where it stood: it is seldom there, and so not looked for before.
+            Ok(Some(before)) => match self.waiting.insert(key, before) {
+                Ok(Some(line)) => Err((LedgerFault::Waits, line)),
+                Ok(None) | Err(_) => unreachable!(),
+            },
             Err(refused) => Err((LedgerFault::OutOfMemory, refused.value.1)),
         }
     }

@@ -43,7 +43,7 @@ impl Embed {
 
     /// The same; what is refused is put into `refused`. A result that holds a record is moved, and filled where it holds
     /// none, at each return: this one is for who sends many.
-    #[inline]
+    #[inline(always)]
     pub fn send_or_refuse(
         &mut self,
         target: Target,

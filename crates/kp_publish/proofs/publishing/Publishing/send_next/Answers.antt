@@ -14,7 +14,7 @@ returns-in-Err-clause-goes g c = reserves c.args.self.now.sender c.reserve.new.s
 pub returns-clause-goes : goal.returns-clause-goes
 returns-clause-goes g c =
     let reserved = reserves c.args.self.now.sender c.reserve.new.self c.args.texts.now c.in_ok-reserve.ensures.same in
-    elim c.match-send_at.branch [
+    elim c.match-send_or_refuse.branch [
       | in-Ok+in_ok-accepted-in-Ok+in_ok-sent-in-Ok w ↦ rw (w.self-is, w.texts-is)
           (goes_more c.args.self.now.sender c.args.texts.now _ c.reserve.new.self c.args.texts.now _ w.accepted.new.self w.accepted.new.texts reserved
           (accepts c.reserve.new.self w.accepted.new.self _ c.args.texts.now w.accepted.new.texts w.in_ok-accepted-in-Ok.ensures))
