@@ -183,7 +183,7 @@ fn append_to(core: &mut Core, item: Item, refused: &mut Option<Item>) -> Result<
     ensures when { IfErr result (λ fault. DoesNotTake core.old item fault) }
 {
     let charge = item.charge();
-    if let Err(fault) = is_taken(core, &item, charge) {
+    if let Err(fault) = check_item(core, &item, charge) {
         *refused = Some(item);
         return Err(fault);
     }
@@ -194,9 +194,9 @@ fn append_to(core: &mut Core, item: Item, refused: &mut Option<Item>) -> Result<
     }
 }
 
-/// Whether the core takes the item, which has this charge, where memory is not refused.
+/// That the core takes the item, which has this charge, where memory is not refused; or why not.
 #[inline(always)]
-fn is_taken(core: &Core, item: &Item, charge: u64) -> Result<(), SendFault>
+fn check_item(core: &Core, item: &Item, charge: u64) -> Result<(), SendFault>
     requires { charge ≡ measured (charge_of item.now) }
     ensures going { OnOk result (core.now.ended ≡ false) }
     ensures may { OnOk result (may_append item.now core.now ≡ true) }

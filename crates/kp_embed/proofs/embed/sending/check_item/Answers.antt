@@ -1,7 +1,7 @@
 use Rattle.std.proofs.Common.{sym, ◌∙◌}
 use Rattle.std.proofs.lemmas.Bool.{leb-true}
 use Rattle.kp_embed.proofs.SendLemmas.{full_told, has_room_for}
-use Rattle.kp_embed.proofs.embed.sending.is_taken.Goals as goal
+use Rattle.kp_embed.proofs.embed.sending.check_item.Goals as goal
 
 pub returns-then-not-has_room-clause-when : goal.returns-then-not-has_room-clause-when
 returns-then-not-has_room-clause-when c few =
