@@ -13,7 +13,8 @@ fn enqueue(partition: &mut Partition, config: &Config, item: Item) -> Played {
     if config.check() != Ok(()) || charge > SIZE_LIMIT {
         return Err("the item may not be appended".into());
     }
-    Ok(partition.enqueue(config, charge, item)?)
+    let mut refused = None;
+    Ok(partition.enqueue(config, charge, item, &mut refused)?)
 }
 
 /// What it may send goes out in this request.

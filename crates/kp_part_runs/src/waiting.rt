@@ -28,7 +28,8 @@ fn append_to_queue(queue: &mut Queue, config: &Config, item: Item) -> Played {
     if config.check() != Ok(()) || charge > SIZE_LIMIT {
         return Err("the item may not be appended".into());
     }
-    Ok(queue.append(config, charge, item)?)
+    let mut refused = None;
+    Ok(queue.append(config, charge, item, &mut refused)?)
 }
 
 /// Tells the numbers of the items.

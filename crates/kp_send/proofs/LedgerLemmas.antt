@@ -56,14 +56,6 @@ lacks_none k es none =
 pub lacks : (waiting es : List Entry) (k : Key) → es ≡ waiting → None ≡ lookup (is_key k) es → All (λ (e : Entry). e.0 ≢ k) waiting
 lacks waiting es k same none = subst (λ (xs : List Entry). All (λ (e : Entry). e.0 ≢ k) xs) same (lacks_none k es (sym none))
 
--- where nothing is found there is nothing
-none_found : (o : Option Sent) → false ≡ is_some o → None ≡ o
-none_found None none = refl
-none_found (Some sent) none = absurd (cc)
-
-pub lacks_found : (waiting es : List Entry) (k : Key) → es ≡ waiting → false ≡ is_some (lookup (is_key k) es) → All (λ (e : Entry). e.0 ≢ k) waiting
-lacks_found waiting es k same none = lacks waiting es k same (none_found (lookup (is_key k) es) none)
-
 -- one has it
 has_at : (k : Key) (es : List Entry) (o : Option Sent) → lookup (is_key k) es ≡ o → true ≡ is_some o → All (λ (e : Entry). e.0 ≢ k) es → ⊥
 has_at k es None is some none = cc
