@@ -1,7 +1,6 @@
-use Rattle.std.proofs.Common.{inl, inr, ℕ, ◌<◌, ◌≤◌, ◌^◌, arith, rules}
+use Rattle.std.proofs.Common.{inl, inr, ℕ, ◌<◌, ◌≤◌, ◌^◌, ap, arith, rules}
 use Rattle.std.proofs.lemmas.Bool.{cases_lt}
 use Rattle.kp_accum.specs.declared.config.Config.{Config}
-use Rattle.std.proofs.Common.{ap}
 use Rattle.kp_embed.proofs.SendLemmas.{above_limit}
 use Rattle.kp_embed.proofs.embed.sending.has_room.Goals as goal
 
