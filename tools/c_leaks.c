@@ -12,12 +12,19 @@ static void *copy_of(const void *bytes, size_t size) {
     return memcpy(at, bytes, size);
 }
 
-/* The heap of the C program, where the allocation with the number `refused` is refused; 0 is none. */
-static unsigned long allocations, refused;
-static void *scarce(void *old, size_t size) { return ++allocations == refused ? NULL : realloc(old, size); }
-#define malloc(size) scarce(NULL, size)
-#define realloc(old, size) scarce(old, size)
+/* The library's heap, where the allocation with the number `refused` is refused; 0 is none. */
+#define rattle_alloc any_alloc
+#define rattle_realloc any_realloc
 #include "heap.c"
+#undef rattle_alloc
+#undef rattle_realloc
+static unsigned long allocations, refused;
+struct tried rattle_alloc(size_t size, size_t align);
+struct tried rattle_realloc(void *old, size_t written, size_t size, size_t align);
+struct tried rattle_alloc(size_t size, size_t align) { return ++allocations == refused ? tried(NULL) : any_alloc(size, align); }
+struct tried rattle_realloc(void *old, size_t written, size_t size, size_t align) {
+    return ++allocations == refused ? tried(NULL) : any_realloc(old, written, size, align);
+}
 
 enum { NODES = 2, SLOTS = 4, ROUNDS = 20, ROOM = 1 << 16, STEP_MS = 150 };
 enum fault { NONE, LOST, LIES, REFUSED, FAULTS };

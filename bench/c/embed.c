@@ -144,12 +144,12 @@ static void write_to(uint32_t node) {
 
 /* Sends a record. */
 static int32_t send_one(int64_t stamp) {
+    static int32_t turn;
     uint32_t key = run.keys ? key_of(&run, sent) : 0;
-    int32_t partition = run.keys ? -1 : (int32_t)(sent % run.partitions);
     make_value(values, run.size, sent);
-    int32_t status = kp_producer_send(&producer, partition, run.keys != 0, (uint8_t *)&key, run.keys ? sizeof key : 0, true,
+    int32_t status = kp_producer_send(&producer, run.keys ? -1 : turn, run.keys != 0, (uint8_t *)&key, run.keys ? sizeof key : 0, true,
         values, run.size, &(kp_span){ 0 }, 0, values, 0, stamp, now, &(kp_ticket){ 0 });
-    sent += status == KP_OK;
+    if (status == KP_OK) sent++, turn = partition_behind(&run, turn);
     return status;
 }
 

@@ -75,12 +75,14 @@ static uint64_t sent_of(uint64_t count, uint64_t sent, rd_kafka_resp_err_t why) 
 
 /* Sends a record: how many are sent. */
 static uint64_t send_one(uint64_t number) {
+    static int32_t turn;
     uint32_t key = run.keys ? key_of(&run, number) : 0;
-    int32_t partition = run.keys ? RD_KAFKA_PARTITION_UA : (int32_t)(number % run.partitions);
     make_value(values, run.size, number);
-    int done = rd_kafka_produce(topic, partition, RD_KAFKA_MSG_F_COPY, values, run.size, run.keys ? &key : NULL,
-        run.keys ? sizeof key : 0, NULL);
-    return done == 0 ? 1 : sent_of(1, 0, rd_kafka_last_error());
+    int done = rd_kafka_produce(topic, run.keys ? RD_KAFKA_PARTITION_UA : turn, RD_KAFKA_MSG_F_COPY, values, run.size,
+        run.keys ? &key : NULL, run.keys ? sizeof key : 0, NULL);
+    if (done != 0) return sent_of(1, 0, rd_kafka_last_error());
+    turn = partition_behind(&run, turn);
+    return 1;
 }
 
 /* Sends by one call what is not sent of a group: how many are sent. */

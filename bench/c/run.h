@@ -97,4 +97,9 @@ static inline bool is_value(const uint8_t *value, uint64_t size, uint64_t *numbe
 }
 
 static inline uint32_t key_of(const struct run *run, uint64_t number) { return (uint32_t)(number % run->keys); }
+
+/* The partition behind this one: a division would take longer than all else that is done here for a record. */
+static inline int32_t partition_behind(const struct run *run, int32_t partition) {
+    return (uint64_t)partition + 1 < run->partitions ? partition + 1 : 0;
+}
 #endif
