@@ -26,7 +26,7 @@ static void *given(size_t size) {
 static size_t counted(void) {
     size_t bytes = 0;
     for (size_t place = 0; place < SIZES; place++)
-        for (struct block *at = kept[place]; at; at = at->before) bytes += size_at(place);
+        for (struct block *block = kept[place]; block; block = block->before) bytes += size_at(place);
     return bytes;
 }
 

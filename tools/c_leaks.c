@@ -21,9 +21,9 @@ static void *copy_of(const void *bytes, size_t size) {
 static unsigned long allocations, refused;
 struct tried rattle_alloc(size_t size, size_t align);
 struct tried rattle_realloc(void *old, size_t written, size_t size, size_t align);
-struct tried rattle_alloc(size_t size, size_t align) { return ++allocations == refused ? tried(NULL) : any_alloc(size, align); }
+struct tried rattle_alloc(size_t size, size_t align) { return ++allocations == refused ? tried(NULL, 0) : any_alloc(size, align); }
 struct tried rattle_realloc(void *old, size_t written, size_t size, size_t align) {
-    return ++allocations == refused ? tried(NULL) : any_realloc(old, written, size, align);
+    return ++allocations == refused ? tried(NULL, 0) : any_realloc(old, written, size, align);
 }
 
 enum { NODES = 2, SLOTS = 4, ROUNDS = 20, ROOM = 1 << 16, STEP_MS = 150 };

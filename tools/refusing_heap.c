@@ -15,8 +15,8 @@ __attribute__((constructor)) static void read_each(void) {
 
 static bool is_refused(void) { return each && ++count % each == 0; }
 
-struct tried rattle_alloc(size_t size, size_t align) { return is_refused() ? tried(NULL) : any_alloc(size, align); }
+struct tried rattle_alloc(size_t size, size_t align) { return is_refused() ? tried(NULL, 0) : any_alloc(size, align); }
 
 struct tried rattle_realloc(void *old, size_t kept, size_t size, size_t align) {
-    return is_refused() ? tried(NULL) : any_realloc(old, kept, size, align);
+    return is_refused() ? tried(NULL, 0) : any_realloc(old, kept, size, align);
 }

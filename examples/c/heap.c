@@ -3,7 +3,6 @@
  * A producer that has told what became of a batch soon makes another one. So of the blocks that it gives back some are kept, by
  * their sizes, and serve again. glibc's malloc would go through all small ones, which are the values of records, each time that it
  * is asked for a large one, as for a batch or a request. */
-#include <malloc.h>
 #include <stdatomic.h>
 #include <stdbool.h>
 #include <stdlib.h>
@@ -17,8 +16,9 @@ enum {
     APART = 16384       /* so many times a thread does without them that met another one there */
 };
 
-/* A block that is kept, and the one of its size that was kept before it. */
-struct block { struct block *before; };
+/* What stands before the bytes of a block: the place of its size, SIZES where it is not kept, and the block of this size that was
+ * kept before it. */
+struct block { size_t place; struct block *before; };
 
 static struct block *kept[SIZES];
 static size_t bytes_kept;
@@ -27,32 +27,32 @@ static atomic_flag is_taken = ATOMIC_FLAG_INIT;
 static _Thread_local unsigned apart;
 
 /* Whether this thread alone may touch them, until it leaves. */
-static bool enter(void) {
+static inline bool enter(void) {
     if (apart > 0) { apart--; return false; }
     if (!atomic_flag_test_and_set_explicit(&is_taken, memory_order_acquire)) return true;
     apart = APART;
     return false;
 }
 
-static void leave(void) { atomic_flag_clear_explicit(&is_taken, memory_order_release); }
+static inline void leave(void) { atomic_flag_clear_explicit(&is_taken, memory_order_release); }
+
+static inline size_t size_at(size_t place) {
+    return place < STEPS ? place << STEP_BITS : (STEPS + place % STEPS) << (place / STEPS - 1 + STEP_BITS);
+}
 
 /* The place of the greatest size that is not above this one. */
-static size_t place_below(size_t size) {
+static inline size_t place_below(size_t size) {
     size_t bits = 63 - (size_t)__builtin_clzl(size | 1 << (STEP_BITS + STEPS_BITS));
     return ((bits - STEP_BITS - STEPS_BITS) << STEPS_BITS) + (size >> (bits - STEPS_BITS));
 }
 
-static size_t size_at(size_t place) {
-    return place < STEPS ? place << STEP_BITS : (STEPS + place % STEPS) << (place / STEPS - 1 + STEP_BITS);
-}
-
-static struct block *pop(size_t place) {
-    struct block *at = kept[place];
-    if (at) {
-        kept[place] = at->before;
+static inline struct block *pop(size_t place) {
+    struct block *block = kept[place];
+    if (block) {
+        kept[place] = block->before;
         bytes_kept -= size_at(place);
     }
-    return at;
+    return block;
 }
 
 static void let_one_go(void) {
@@ -60,35 +60,11 @@ static void let_one_go(void) {
     free(pop(leaving));
 }
 
-/* Keeps a block, or not. */
-static bool keep(struct block *at) {
-    if (!enter()) return false;
-    size_t place = place_below(malloc_usable_size(at));
-    bool may_be = place > 0 && place < SIZES, has_room = may_be && bytes_kept + size_at(place) <= MOST;
-    if (has_room) {
-        at->before = kept[place];
-        kept[place] = at;
-        bytes_kept += size_at(place);
-    } else if (may_be) let_one_go();
-    leave();
-    return has_room;
-}
-
-/* One of so many bytes or more, or NULL, and then how many are to be asked for. */
-static void *reuse(size_t *size) {
-    size_t place = place_below(*size - 1) + 1;
-    if (place >= SIZES || !enter()) return NULL;
-    struct block *at = pop(place);
-    leave();
-    *size = size_at(place);
-    return at;
-}
-
 __attribute__((destructor)) static void let_all_go(void) {
     apart = 0;
     if (!enter()) return;
     for (size_t place = 0; place < SIZES; place++)
-        for (struct block *at; (at = pop(place));) free(at);
+        for (struct block *block; (block = pop(place));) free(block);
     leave();
 }
 
@@ -96,19 +72,43 @@ __attribute__((destructor)) static void let_all_go(void) {
 struct tried { bool done; void *at; };
 static char nowhere[16];
 
-static struct tried tried(void *at) { return (struct tried){ at != NULL, at ? at : nowhere }; }
+static inline struct tried tried(struct block *block, size_t place) {
+    if (!block) return (struct tried){ false, nowhere };
+    block->place = place;
+    return (struct tried){ true, block + 1 };
+}
 
 struct tried rattle_alloc(size_t size, size_t align) {
-    size_t most = size ? size : align;
-    void *at = reuse(&most);
-    return tried(at ? at : malloc(most));
+    if (size == 0) size = align;
+    size_t place = place_below(size - 1) + 1;
+    if (place >= SIZES) return tried(malloc(sizeof(struct block) + size), SIZES);
+    struct block *block = NULL;
+    if (enter()) {
+        block = pop(place);
+        leave();
+    }
+    return tried(block ? block : malloc(sizeof *block + size_at(place)), place);
 }
 
 struct tried rattle_realloc(void *old, size_t written, size_t size, size_t align) {
     (void)written;
-    return tried(realloc(old, size ? size : align));
+    if (size == 0) size = align;
+    size_t place = place_below(size);
+    struct block *block = realloc((struct block *)old - 1, sizeof *block + size);
+    return tried(block, place > 0 && place < SIZES ? place : SIZES);
 }
 
 void rattle_dealloc(void *at) {
-    if (!keep(at)) free(at);
+    struct block *block = (struct block *)at - 1;
+    size_t place = block->place;
+    bool is_kept = false;
+    if (place < SIZES && enter()) {
+        if ((is_kept = bytes_kept + size_at(place) <= MOST)) {
+            block->before = kept[place];
+            kept[place] = block;
+            bytes_kept += size_at(place);
+        } else let_one_go();
+        leave();
+    }
+    if (!is_kept) free(block);
 }

@@ -3,9 +3,8 @@
  * The caller has the sockets and the clock: it connects where it is told to, moves bytes between the connections and the
  * producer, and tells the time. The library starts no thread, opens no file and reads no clock.
  *
- * Linking. The library calls memcpy, memmove and memset, and for memory malloc, malloc_usable_size, realloc and free alone, by
- * rattle_alloc, rattle_realloc and rattle_dealloc: a program that has these three itself has its own used, where it links with
- * libkp.a.
+ * Linking. The library calls memcpy, memmove and memset, and for memory malloc, realloc and free alone, by rattle_alloc,
+ * rattle_realloc and rattle_dealloc: a program that has these three itself has its own used, where it links with libkp.a.
  *
  * What the caller owes:
  * - A kp_producer begins as KP_NONE. Its fields are neither read nor written, and it is never copied: a copy that is freed too
