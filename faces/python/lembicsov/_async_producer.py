@@ -91,10 +91,13 @@ class AsyncProducer:
     ) -> asyncio.Future[Report]:
         """Waits only until the record is accepted: the future's result is its report, or its exception a `NotDelivered`."""
         report: asyncio.Future[Report] = self._loop.create_future()
-        is_more = key is not None or partition is not None or timestamp is not None or headers
-        record = Single(report, Record(value, key, partition, headers, timestamp) if is_more or type(value) is not bytes else value)
-        if self._waiting > 0 or not self._core.queue.put(record):
-            await self._accept(self._core.send, record)
+        if key is None and partition is None and timestamp is None and not headers and type(value) is bytes:
+            record = Single(report, value)
+            if self._waiting == 0 and self._core.queue.put(record, value):
+                return report
+        else:
+            record = Single(report, Record(value, key, partition, headers, timestamp))
+        await self._accept(self._core.send, record)
         return report
 
     async def send_many(

@@ -94,7 +94,7 @@ class Core:
 
     @property
     def open_records(self) -> int:
-        return len(self.queue) + self._open.records
+        return len(self.queue.records) + self._open.records
 
     def _see(self) -> State:
         kp.kp_producer_state(self._handle, self._state)
@@ -171,9 +171,10 @@ class Core:
     def _queues(self, record: One) -> bool:
         """Begins to queue values with this one, as many as there surely is room for, where that may be: whether it has."""
         may_queue = self.is_attended and self._next > 0 and not self._is_closing and self._config.max_request_size >= CHARGE
-        if may_queue and isinstance(record.sent, bytes):
-            self.queue.open((self._config.buffer_memory - self._see().buffer_used) // CHARGE)
-        return self.queue.put(record)
+        if not may_queue or not isinstance(record.sent, bytes):
+            return False
+        self.queue.open((self._config.buffer_memory - self._see().buffer_used) // CHARGE)
+        return self.queue.put(record, record.sent) is True
 
     def hand_over(self) -> int:
         """Has all in the queue accepted: the status of the first that is refused."""
@@ -190,9 +191,12 @@ class Core:
             if status != Status.OK:
                 self._is_short = self._is_short or status == Status.OUT_OF_MEMORY
                 return status
+        self._go_on_behind()
+        return Status.OK
+
+    def _go_on_behind(self) -> None:
         while self._behind:
             self._behind.pop(0)()
-        return Status.OK
 
     def send_next(self, many: Many) -> int:
         """Has the next of many values accepted, as many as one call takes: the status of the first that is refused.
@@ -271,10 +275,11 @@ class Core:
         self._is_closing = True
         left: list[Telling] = []
         if self.hand_over() != Status.OK:  # Memory was refused.
-            queue, self.queue, partitions = self.queue.close(), Queue(), self._see().partitions
+            queue, partitions = self.queue.close(), self._see().partitions
             for turn, record in enumerate(queue, self._next):
                 left.append((record, 0, Report(turn % partitions, None, Outcome.ENDED, ADVICE[Outcome.ENDED])))
-            self.hand_over()
+            del queue[: len(left)]
+            self._go_on_behind()
         kp.kp_producer_end(self._handle)
         told = self.fetch()
         told.reports.extend(left)
@@ -314,7 +319,8 @@ _cores: weakref.WeakSet[Core] = weakref.WeakSet()
 
 def _tell_forked() -> None:
     for core in _cores:
-        core.is_forked, core.queue = True, Queue()
+        core.is_forked = True
+        core.queue.close()
 
 
 os.register_at_fork(after_in_child=_tell_forked)

@@ -84,9 +84,8 @@ class Pending(Future):  # type: ignore[type-arg]
     _condition: Any = Watched()
     _waiters: Any = Watched()
     _done_callbacks: Any = Watched()
-
-    def __init__(self, sent: Sent = b"") -> None:
-        self.sent: Any = sent  # Until it is told; behind a report that was kept its offset.
+    sent: Any = b""  # What was sent, until it is told; behind a report that was kept its offset.
+    __init__ = object.__init__  # That of futures would make all of it at once, and one in Python takes as long as the rest.
 
     def watch(self) -> None:
         with keeping:

@@ -79,6 +79,11 @@ class Host:
             if self._is_asleep:
                 self._send_off()
 
+    def withdraw(self, record: Pending) -> bool:
+        """Takes a record out of the queue, where it is still in it: whether it was."""
+        with self._lock:
+            return self.core.queue.withdraw(record)
+
     def flush(self) -> Pending:
         flushed = Pending()
         with self._lock:

@@ -139,10 +139,10 @@ def keep(owners: list[Any], number: int, partition: int, offset: int) -> list[Te
         places = range(owners[0].keep(number, partition, offset, len(owners)), len(owners))
     else:
         places = others = []
-        for place, owner in enumerate(owners):
+        for at, owner in enumerate(owners, offset):
             if type(owner) is Pending and owner._partition == ALONE:
-                owner.sent = offset + place
+                owner.sent = at
                 owner._partition = partition
-            elif not (type(owner) is Part and owner.keep(number + place, partition, offset + place, 1)):
-                others.append(place)
+            elif not (type(owner) is Part and owner.keep(number + at - offset, partition, at, 1)):
+                others.append(at - offset)
     return told(owners, number, partition, offset, places)

@@ -45,11 +45,16 @@ class Producer:
         Without a partition it goes to that of its key, and without a key to each in turn. The timestamp is in milliseconds since
         1970, or now. A record that is not accepted, after `max_block` seconds at most, is told by an exception at once.
         """
-        is_more = key is not None or partition is not None or timestamp is not None or headers
-        report = Pending(Record(value, key, partition, headers, timestamp) if is_more or type(value) is not bytes else value)
-        if not self._put(report):
-            self._core.check()
-            self._host.accept(self._core.send, report, self._max_block)
+        report = Pending()
+        if key is None and partition is None and timestamp is None and not headers and type(value) is bytes:
+            report.sent = value
+            is_queued = self._put(report, value)
+            if is_queued or (is_queued is None and not self._host.withdraw(report)):
+                return report
+        else:
+            report.sent = Record(value, key, partition, headers, timestamp)
+        self._core.check()
+        self._host.accept(self._core.send, report, self._max_block)
         return report
 
     def send_many(

@@ -2,8 +2,8 @@
 
 from __future__ import annotations
 
-import threading
 from time import time
+from typing import Optional
 
 from ._given import moment
 from ._open import One
@@ -12,43 +12,37 @@ LENGTH, SIZE = 1024, 1024  # How many values there are at most, and how many byt
 
 
 class Queue:
-    """Values of one moment, which are as good as accepted. Any threads put them in; who opens and closes it is one at a time."""
+    """Values of one moment, which are as good as accepted. Any threads put them in, and without a lock, since a list takes what is
+    appended in one step; who opens, closes and empties it is one at a time, and takes out only in front."""
 
     def __init__(self) -> None:
         self.stamp = 0  # Their timestamp.
-        self._until = 0.0  # When their moment is over.
-        self._room = 0  # How many there may be: none where it is closed.
-        self._records: list[One] = []
-        self._lock = threading.Lock()
-        self._acquire, self._release = self._lock.acquire, self._lock.release  # They take half the time of `with`.
+        self.records: list[One] = []
+        self._until = 0.0  # When their moment is over; 0 where it is closed.
+        self._room = 0  # How many there may be.
 
-    def __len__(self) -> int:
-        return len(self._records)
-
-    def put(self, record: One) -> bool:
-        """Puts in a record that is a small value alone, while the moment lasts and there is room: whether it has."""
-        sent = record.sent
-        if type(sent) is not bytes or len(sent) > SIZE:
+    def put(self, record: One, value: bytes) -> Optional[bool]:
+        """Puts in a record that is this value alone, while the moment lasts and there is room: whether it has. None: it has, and the
+        queue was closed meanwhile, so that the record is accepted, or still in it."""
+        if len(value) > SIZE or len(self.records) >= self._room or time() >= self._until:
             return False
-        self._acquire()
-        try:
-            if len(self._records) >= self._room or time() >= self._until:
-                return False
-            self._records.append(record)
-            return True
-        finally:
-            self._release()
+        self.records.append(record)
+        return True if self._until else None
+
+    def withdraw(self, record: One) -> bool:
+        """Takes the record out, if it is in it: whether it was."""
+        if record not in self.records:
+            return False
+        self.records.remove(record)
+        return True
 
     def open(self, room: int) -> None:
-        """Takes values of this moment, so many at most. It is empty."""
-        with self._lock:
-            self.stamp = moment()
-            self._until = (self.stamp + 1) / 1000
-            self._room = min(room, LENGTH)
+        """Takes values of this moment, so many at most."""
+        self.stamp = moment()
+        self._room = min(room, LENGTH)
+        self._until = (self.stamp + 1) / 1000
 
     def close(self) -> list[One]:
-        """Takes no more. What is in it is the caller's to take out."""
-        if self._room > 0:
-            with self._lock:
-                self._room = 0
-        return self._records
+        """Takes no more. What is in it is the caller's to take out, in front; more may come behind it."""
+        self._until = 0.0
+        return self.records
