@@ -92,24 +92,29 @@ class Open:
         """Takes out the records that these reports are of. Owners keep their reports, where they may; the others are to be told."""
         left: list[Telling] = []
         self.records -= len(reports) // REPORT.size
+        if len(reports) == REPORT.size:  # Who sends one record at a time waits for it.
+            number, offset, partition, code = REPORT.unpack(reports)
+            with keeping:
+                return self._take_run(partition, OUTCOMES[code], number, [offset], keeps)
         numbers, offsets, kinds = (reports.cast(kind)[at::3].tolist() for at, kind in enumerate("QqQ"))
         start = 0
         with keeping:
             for kind, same in groupby(kinds):
                 stop = start + len(list(same))
                 partition, code = BOTH.unpack(KIND.pack(kind))
-                outcome = OUTCOMES[code]
                 for first, count in runs(numbers, offsets, start, stop):
-                    number, offset = numbers[first], offsets[first]
-                    owners = self._lines[partition].take(number, count)
-                    if outcome is not Outcome.DELIVERED:
-                        left += failed(owners, number, partition, outcome, offsets[first : first + count])
-                    elif keeps:
-                        left += keep(owners, number, partition, offset)
-                    else:
-                        left += told(owners, number, partition, offset, range(count))
+                    left += self._take_run(partition, OUTCOMES[code], numbers[first], offsets[first : first + count], keeps)
                 start = stop
         return left
+
+    def _take_run(self, partition: int, outcome: Outcome, number: int, offsets: list[int], keeps: bool) -> list[Telling]:
+        """Takes out records of a partition from this number on, whose offsets go up by one where they were delivered."""
+        owners = self._lines[partition].take(number, len(offsets))
+        if outcome is not Outcome.DELIVERED:
+            return failed(owners, number, partition, outcome, offsets)
+        if keeps:
+            return keep(owners, number, partition, offsets[0])
+        return told(owners, number, partition, offsets[0], range(len(owners)))
 
 
 def runs(numbers: list[int], offsets: list[int], start: int, stop: int) -> Iterator[tuple[int, int]]:
