@@ -80,7 +80,7 @@ enum kp_outcome {
 /* What became of the record with this ticket. */
 typedef struct kp_report { uint64_t number; int64_t detail; uint32_t partition; uint32_t outcome; } kp_report;
 
-enum kp_phase { KP_OPENING, KP_READY, KP_FAILED };
+enum kp_phase { KP_OPENING, KP_READY, KP_FAILED, KP_SPENT };
 
 typedef struct kp_state {
     uint64_t untold;             /* records that were accepted, and of which no report was made */
@@ -88,7 +88,8 @@ typedef struct kp_state {
     uint64_t requests_in_flight;
     uint64_t nodes;              /* how many nodes and first addresses are known: they are numbered from 0 */
     uint64_t partitions;         /* how many the topic has; 0 before KP_READY */
-    uint32_t phase;              /* KP_FAILED: it was not ready in time, and never will be */
+    uint32_t phase;              /* KP_FAILED: it was not ready in time, and never will be. KP_SPENT: each of its 2,147,483,646
+                                    requests went out, and no more does: make another producer */
     int32_t refused;             /* the error code of the last refusal of Metadata or of a producer id; 0: none */
     bool is_flushed;             /* each record that was accepted before the last flush has its report */
 } kp_state;
@@ -107,13 +108,13 @@ enum kp_status {
     KP_TOO_LARGE = 6,
     KP_BUFFER_FULL = 7,          /* with it, the records would take more than buffer_memory: send it again once there are reports;
                                     kp_producer_flush has what lingers go out */
-    KP_NUMBERS_SPENT = 8,
+    KP_NUMBERS_SPENT = 8,        /* every correlation id, or every number of the partition's records, was used: another producer
+                                    can send it */
 
     /* connections */
     KP_NO_NODE = 9,
     KP_NO_CONNECTION = 10,       /* there is none to the node, or it was given up */
     KP_BAD_ANSWER = 11,
-    KP_CORRELATION_SPENT = 12,
 
     /* arguments */
     KP_BAD_TIMESTAMP = 13,       /* below 0 */
@@ -178,7 +179,7 @@ int32_t kp_producer_lost(kp_producer *, uint32_t node, uint64_t now);
 /* Takes bytes that are to be written to the node's connection: they are in the front of the room, and count says how many.
  * They count as written: keep what the socket does not take yet, or call kp_producer_lost. Call it until count is 0, which it
  * also is where the call is refused: then the connection is as it was. KP_OUT_OF_MEMORY: call it again after a moment, of
- * which kp_producer_next_due does not tell. KP_CORRELATION_SPENT: nothing goes out any more; end it, and make another one. */
+ * which kp_producer_next_due does not tell. */
 int32_t kp_producer_take(kp_producer *, uint32_t node, uint64_t now, uint8_t *room, size_t room_len, size_t *count);
 
 /* Hears bytes that were read from the node's connection, in whatever pieces. Where it is refused but for KP_NO_CONNECTION, the
@@ -187,7 +188,7 @@ int32_t kp_producer_feed(kp_producer *, uint32_t node, const uint8_t *bytes, siz
 
 /* ---- time */
 
-/* The time is this: what is late is given up. */
+/* The time is this: what is late is given up; and in KP_SPENT what is queued, once all that was sent is told of. */
 int32_t kp_producer_tick(kp_producer *, uint64_t now);
 
 /* When there may be something to do again, once all that there is was done: after now; UINT64_MAX where there is no such

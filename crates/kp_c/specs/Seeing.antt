@@ -8,7 +8,7 @@ use Rattle.kp_embed.specs.Due.{NotLater, due_of, following, no_sooner}
 use Rattle.kp_embed.specs.Producer.{Producer}
 use Rattle.kp_embed.specs.Seeing.{flushed_of, in_flight_of, phase_of, untold_of, used_of}
 use Rattle.kp_embed.specs.declared.embed.Phase.{Phase}
-use Rattle.kp_embed.specs.declared.embed.Phase.TheVariants.{Opening, Ready, Failed}
+use Rattle.kp_embed.specs.declared.embed.Phase.TheVariants.{Opening, Ready, Spent, Failed}
 
 -- a node's host and port
 abbrev pub IsAddress : ℕ → (host : List ℕ) → (port : ℕ) → Producer → Type 0
@@ -30,6 +30,7 @@ abbrev pub phase_number : Phase → ℕ
 phase_number Opening = 0
 phase_number Ready = 1
 phase_number Failed = 2
+phase_number Spent = 3
 
 -- The state is the producer's, but for the error code of the last refusal.
 pub record Shows (s : KpState) (p : Producer) : Type 0 where

@@ -101,7 +101,6 @@ fn connection_status(fault: Fault) -> i32
         Fault::NoNode => 9,
         Fault::NoConnection => 10,
         Fault::BadAnswer => 11,
-        Fault::Spent => 12,
     }
 }
 

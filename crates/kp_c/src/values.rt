@@ -68,7 +68,7 @@ pub struct KpState {
     pub requests_in_flight: u64,
     pub nodes: u64,
     pub partitions: u64,
-    /// 0 opening, 1 ready, 2 failed.
+    /// 0 opening, 1 ready, 2 failed, 3 spent.
     pub phase: u32,
     /// The error code of the last refusal of Metadata or of a producer id, or 0.
     pub refused: i32,
@@ -174,6 +174,7 @@ impl KpState {
                 Phase::Opening => 0,
                 Phase::Ready => 1,
                 Phase::Failed => 2,
+                Phase::Spent => 3,
             },
             refused: match seen.refused {
                 Some(code) => i32::from(code),

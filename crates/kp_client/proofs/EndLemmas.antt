@@ -32,6 +32,7 @@ stays_ended old new looks core held ending given lanes h = record {
         looks = looks_on s.parts.intake (parts_in old).intake (parts_in new).intake s.looks looks;
         done = λ is. s.done (sym ending ∙ is);
         gave_up = λ cause is. s.gave_up cause (sym ending ∙ is);
+        spent = λ is. s.spent (sym ending ∙ is);
       }))
       (λ (u : WasUnserved given lanes h.calls old). inr (record {
         may_turn = u.may_turn;

@@ -113,6 +113,7 @@ module _ {S C : Type 0} (answers : Told S) (moments : C → List ℕ) where
       λ core intake h. turned mid new polled p core intake (still_serves old mid _ given.exchange given.line core intake h)
   once old _ _ (LastsOnce.with_none new stop p) = turned_away old new stop p
   once old _ _ (LastsOnce.given_up cause is) = λ core intake h. h
+  once old _ _ (LastsOnce.used_up is) = λ core intake h. h
 
   -- ---- any number of polls
 
@@ -163,16 +164,19 @@ module _ {S C : Type 0} (answers : Told S) (moments : C → List ℕ) where
 pub done_left : {S C : Type 0} (over : Over) (engine : Engine S C) → ending_for over ≡ Done → IsLeft (Ready over) engine → IsDone engine.exchange
 done_left kinds.Done engine is left = left.1
 done_left (kinds.GaveUp cause) engine is left = absurd cc
+done_left kinds.Spent engine is left = absurd cc
 done_left kinds.OutOfMemory engine is left = absurd cc
 
 pub gave_up_for : {S C : Type 0} (over : Over) (engine : Engine S C) → IsLeft (Ready over) engine → GivesUpFor (ending_for over) engine
 gave_up_for kinds.Done engine left = tt
 gave_up_for (kinds.GaveUp cause) engine left = left
+gave_up_for kinds.Spent engine left = left
 gave_up_for kinds.OutOfMemory engine left = tt
 
 pub may_end : (over : Over) (policy : Policy) (made : ℕ) → IfGivenUp (Ready over) (IsSpent (limit_of policy) made) → MayEnd policy (ending_for over) made
 may_end kinds.Done policy made h = tt
 may_end (kinds.GaveUp cause) policy made h = h
+may_end kinds.Spent policy made h = tt
 may_end kinds.OutOfMemory policy made h = tt
 
 pub new_serves : {S C : Type 0} (core : Core) (intake : Intake) (keeps : Bool) (engine : Engine S C) → MayTurn core intake

@@ -1,6 +1,7 @@
 -- To what a service of a core and of lanes has come: all calls on the core are known.
 use Rattle.std.specs.Prelude.{◌≡◌, ◌≢◌, ◌⊎◌, ℕ, true, All, List, [], ◌∷◌, ◌++◌}
-use Rattle.kp_engine.specs.Made.{WasEnded}
+use Rattle.kp_core.specs.Spent.{can_only_end}
+use Rattle.kp_engine.specs.Made.{WasEnded, WasPolled}
 use Rattle.kp_engine.specs.Opening.{MayTurn}
 use Rattle.kp_engine.specs.declared.engine.Engine.{Engine}
 use Rattle.kp_engine.specs.declared.exchange.Exchange.{Exchange}
@@ -20,7 +21,7 @@ use Rattle.kp_client.specs.Policy.{limit_of}
 use Rattle.kp_client.specs.Serving.{LastGave, Serves}
 use Rattle.kp_client.specs.declared.left.Ended.{Ended}
 use Rattle.kp_client.specs.declared.left.Ending.{Ending}
-use Rattle.kp_client.specs.declared.left.Ending.TheVariants.{Done, GaveUp}
+use Rattle.kp_client.specs.declared.left.Ending.TheVariants.{Done, GaveUp, Spent}
 
 -- The same lanes, of which nothing more was taken or told: their ends may have seen more.
 pub record Looks (old new : Intake) : Type 0 where
@@ -38,8 +39,18 @@ pub record NeededStream (core : Core) (intake : Intake) (calls : List Call) (cau
   pub told : ℕ
   pub made : calls ≡ earlier ++ End told ∷ []
 
+-- These are the calls of an engine whose core could only end.
+pub record CouldOnlyEnd (core : Core) (intake : Intake) (calls : List Call) : Type 0 where
+  pub earlier : List Call
+  pub last : Exchange
+  pub polled : WasPolled core intake earlier last
+  pub spent : can_only_end last.core ≡ true
+  pub told : ℕ
+  pub made : calls ≡ earlier ++ End told ∷ []
+
 -- An engine was made of them, polled over one stream after the other and with none, ended, and taken apart. It was closed,
--- where the service says that it is done; and it needed a stream for the cause for which the service gave up.
+-- where the service says that it is done; it needed a stream for the cause for which the service gave up; and where it says that
+-- it was spent, its core could only end.
 pub record WasServed (core : Core) (intake : Intake) (calls : List Call) (ended : Ended) : Type 0 where
   pub parts : Parts
   pub engine : WasEnded core intake calls parts
@@ -48,6 +59,7 @@ pub record WasServed (core : Core) (intake : Intake) (calls : List Call) (ended 
   pub looks : Looks parts.intake (parts_in ended).intake
   pub done : ending_of ended ≡ Done → engine.last.closed ≡ true
   pub gave_up : (cause : Cause) → ending_of ended ≡ GaveUp cause → NeededStream core intake calls cause
+  pub spent : ending_of ended ≡ Spent → CouldOnlyEnd core intake calls
 
 -- No engine was made: nothing was called, taken or told.
 pub record WasUnserved (core : Core) (intake : Intake) (calls : List Call) (ended : Ended) : Type 0 where

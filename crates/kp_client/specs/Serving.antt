@@ -1,6 +1,7 @@
 -- What an engine that a service runs was made of, and that it was polled on to what it is.
-use Rattle.std.specs.Prelude.{◌≡◌, List, [], ◌++◌}
+use Rattle.std.specs.Prelude.{◌≡◌, true, List, [], ◌++◌}
 use Rattle.futures.specs.declared.task.Poll.TheVariants.{Ready}
+use Rattle.kp_core.specs.Spent.{can_only_end}
 use Rattle.kp_engine.specs.Away.{MakesTurnAway}
 use Rattle.kp_engine.specs.Closing.{calls_of_poll}
 use Rattle.kp_engine.specs.Engine.{Polls}
@@ -19,7 +20,7 @@ use Rattle.kp_rules.specs.Records.{Core}
 use Rattle.kp_running.specs.declared.lasting.Over.{Over}
 use Rattle.kp_running.specs.declared.lasting.Over.TheVariants as over
 use Rattle.kp_client.specs.declared.left.Ending.{Ending}
-use Rattle.kp_client.specs.declared.left.Ending.TheVariants.{Done, GaveUp, OutOfMemory}
+use Rattle.kp_client.specs.declared.left.Ending.TheVariants.{Done, GaveUp, Spent, OutOfMemory}
 
 -- By these calls an engine that was made of this core and of these lanes was polled on to what it is, and answered this last:
 -- by a poll over a connection, or by one with none; or it needs its first connection.
@@ -46,14 +47,16 @@ pub record IsServing {S C : Type 0} (engine : Engine S C) : Type 0 where
 abbrev pub GoesOn : {S C : Type 0} → Engine S C → Engine S C → Type 0
 GoesOn old new = (core : Core) (intake : Intake) → Serves core intake old → Serves core intake new
 
--- a service gives up for what the connection was given up for
+-- A service gives up for what the connection was given up for, or is spent where its core can only end.
 abbrev pub GivesUpFor : {S C : Type 0} → Ending → Engine S C → Type 0
 GivesUpFor Done engine = Unit {0}
 GivesUpFor (GaveUp cause) engine = engine.line ≡ Stopped (NeedStream cause)
+GivesUpFor Spent engine = can_only_end engine.exchange.core ≡ true
 GivesUpFor OutOfMemory engine = Unit {0}
 
 -- why a service ends whose engine does not go on
 abbrev pub ending_for : Over → Ending
 ending_for over.Done = Done
 ending_for (over.GaveUp cause) = GaveUp cause
+ending_for over.Spent = Spent
 ending_for over.OutOfMemory = OutOfMemory

@@ -17,6 +17,9 @@ pub enum Ending {
     Done,
     /// The connection was lost for this, and the policy allowed no more new ones.
     GaveUp(Cause),
+    /// Each correlation id was used (there are 2,147,483,646), so that nothing more could be sent, and each record that was sent has
+    /// its report. Those that were queued are `Unsent(Ended)`.
+    Spent,
     /// Memory was refused.
     OutOfMemory,
 }

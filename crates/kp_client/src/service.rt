@@ -114,7 +114,7 @@ impl Service {
     }
 
     /// Sends what the senders' lanes accept, and hands reports to them, until the producer was closed and all is reported,
-    /// or no connection can be had any more, or memory is refused. Then what has no report is given up, and all that is
+    /// or no connection can be had any more, or no request can go out, or memory is refused. Then what has no report is given up, and all that is
     /// left comes back. Senders that wait are told that it has ended.
     pub fn run<R>(self, rt: &R) -> Result<Ended, ServiceFault>
     where
@@ -213,6 +213,7 @@ fn ending_for(over: Over) -> Ending
     match over {
         Over::Done => Ending::Done,
         Over::GaveUp(cause) => Ending::GaveUp(cause),
+        Over::Spent => Ending::Spent,
         Over::OutOfMemory => Ending::OutOfMemory,
     }
 }

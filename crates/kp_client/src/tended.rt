@@ -75,7 +75,7 @@ impl<S: Stream, C: Clock, K: Connecting<Stream = S>> Turning for Tended<'_, S, C
     fn poll_turn(&mut self, cx: &mut Context<'_>) -> Poll<Over> {
         let polled = self.lasting.poll_turn(cx);
         // A poll that gives up makes no turn.
-        if !matches!(polled, Poll::Ready(Over::GaveUp(_))) {
+        if !matches!(polled, Poll::Ready(Over::GaveUp(_) | Over::Spent)) {
             self.count();
         }
         polled

@@ -6,3 +6,4 @@ pub mod Choosing
 pub mod Matching
 pub mod Hearing
 pub mod Busy
+pub mod Spent

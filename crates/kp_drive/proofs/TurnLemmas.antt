@@ -15,6 +15,7 @@ use Rattle.kp_embed.specs.Going.{Acts, Stays, if_core}
 use Rattle.kp_embed.specs.Hearing.{GivesUp}
 use Rattle.kp_embed.specs.Producer.{Producer}
 use Rattle.kp_embed.proofs.ActLemmas.{acts_idly, acts_same, acts_then}
+use Rattle.kp_embed.proofs.TickLemmas.{ticks_act}
 use Rattle.kp_rules.specs.Calls.{Call, Disconnect}
 
 -- some calls
@@ -106,5 +107,5 @@ each_acts answers now p ls n q ms (EachTurns.one_more i a b ns os rest turn othe
 
 pub turn_acts : {K S : Type 0} (answers : Told S) (now : ℕ) (p q : Producer) (ls ms : List (Link K S)) → Turns answers now p ls q ms → ActsSome p q
 turn_acts answers now p q ls ms t =
-    then p t.ticked q (if_core p.core t.ticks.calls, t.ticks.acts)
+    then p t.ticked q (ticks_act now p t.ticked t.ticks)
     (then t.ticked t.asked q (does_act now t.ticked ls t.asked t.linked t.does) (each_acts answers now t.asked t.linked (length t.linked) q ms t.each))

@@ -21,6 +21,7 @@ use Rattle.kp_embed.specs.Going.{Stays}
 use Rattle.kp_embed.specs.Hearing.{GivesUp}
 use Rattle.kp_embed.specs.Lines.{line_at}
 use Rattle.kp_embed.specs.Producer.{Producer}
+use Rattle.kp_embed.proofs.TickLemmas.{ticks_act, ticks_end}
 
 -- ---- lines of other nodes
 
@@ -145,7 +146,7 @@ module _ {K S : Type 0} (answers : Told S) where
   turns_go : (now : ℕ) (p q : Producer) (ls ms : List (Link K S)) → AllGo p ls → Turns answers now p ls q ms → AllGo q ms
   turns_go now p q ls ms all t =
       all_turn now t.asked t.linked (length t.linked) q ms
-      (all_does now t.ticked ls t.asked t.linked (calls_go p t.ticked ls all (_, t.ticks.acts) t.ticks.lines) t.does) t.each
+      (all_does now t.ticked ls t.asked t.linked (calls_go p t.ticked ls all (ticks_act now p t.ticked t.ticks) (ticks_end now p t.ticked t.ticks)) t.does) t.each
 
   none_open : (node : ℕ) (b : Pipe S) → link_at {K = K} {S = S} node [] ≡ Open b → ⊥
   none_open node b is = cc

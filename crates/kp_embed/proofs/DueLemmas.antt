@@ -1,10 +1,11 @@
 -- Moments that are told, none of which is before the one that they are told from.
 use Rattle.std.proofs.Common.{◌≡◌, ◌≤◌, ℕ, Bool, true, false, List, [], ◌∷◌, min, Option, Some, None, refl, arith}
-use Rattle.std.specs.Prelude.{filter, fold, IfSome}
+use Rattle.std.specs.Prelude.{filter, fold, IfSome, if◌then◌else◌}
 use Rattle.std.specs.List.{AllByRecursion, reduce}
 use Rattle.std.proofs.lemmas.Bool.Decides.{nat_tests}
 use Rattle.kp_cluster.specs.Actions.{earlier}
-use Rattle.kp_embed.specs.Due.{no_sooner}
+use Rattle.kp_core.specs.Spent.{can_only_end}
+use Rattle.kp_embed.specs.Due.{core_due, no_sooner}
 use Rattle.kp_rules.specs.Due.{comes, moments, next_due_from}
 use Rattle.kp_rules.specs.Records.{Core}
 
@@ -33,6 +34,13 @@ filtered_from from (x ∷ xs) = by (comes from x) refl (filtered_from from xs)
 pub core_from : (from : ℕ) (s : Core) → IsFrom from (next_due_from from s)
 unfolding next_due_from
 core_from from s = least_from from (filter (comes from) (moments s)) (filtered_from from (moments s))
+
+pub core_due_from : (from : ℕ) (s : Core) → IsFrom from (core_due from s)
+core_due_from from s = by (can_only_end s)
+  where
+    by : (b : Bool) → IsFrom from (if b then Some from else next_due_from from s)
+    by true = omega arith
+    by false = core_from from s
 
 pub earlier_from : (from : ℕ) (a b : Option ℕ) → IsFrom from a → IsFrom from b → IsFrom from (earlier a b)
 earlier_from from None b l m = m

@@ -19,6 +19,7 @@ use Rattle.kp_rules.specs.Appending.{Appends, append_step, may_append, turn_away
 use Rattle.kp_rules.specs.Calls.{Append, Step}
 use Rattle.kp_rules.specs.Partitions.{partition_at, used}
 use Rattle.kp_rules.specs.Records.{Core, quietly}
+use Rattle.kp_rules.specs.Requesting.{is_spent}
 use Rattle.kp_rules.specs.declared.outcome.Reason.TheVariants as reason
 
 -- ---- the memory
@@ -87,8 +88,8 @@ set_counts counts i there number p = at (cases_eq i.partition p)
 
 pub sends_made : (a b : Producer) (s t : Core) (now : ℕ) (body : Record) (ticket : Ticket) → b.config ≡ a.config → b.names ≡ a.names → a.core ≡ Some s
     → Step s (Append (item_of ticket now body) (Ok tt)) t → b.core ≡ Some t → ticket.number ≡ slice_index a.counts ticket.partition → ticket.partition < length a.counts
-    → b.counts ≡ slice_set a.counts ticket.partition (ticket.number + 1) → b.lines ≡ a.lines → Sends a now body ticket b
-sends_made a b s t now body ticket config names old step new number there counts lines =
+    → b.counts ≡ slice_set a.counts ticket.partition (ticket.number + 1) → b.lines ≡ a.lines → is_spent s ≡ false → Sends a now body ticket b
+sends_made a b s t now body ticket config names old step new number there counts lines left =
     let i = item_of ticket now body in
     let call = Append i (Ok tt) in
     record {
@@ -101,6 +102,10 @@ sends_made a b s t now body ticket config names old step new number there counts
         next = (refl, omega (arith, number), tt);
         counts = λ p. ap (λ (ns : List ℕ). slice_index ns p) counts ∙ set_counts a.counts i there number p;
       };
+      left = λ u is. ap is_spent (some_same u s (sym is ∙ old)) ∙ left;
       number = number;
       lines = same_lines a.lines b.lines lines;
     }
+  where
+    some_same : (u v : Core) → Some u ≡ Some v → u ≡ v
+    some_same u v e = cc

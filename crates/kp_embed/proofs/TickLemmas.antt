@@ -7,10 +7,10 @@ use Rattle.kp_accum.specs.declared.config.Config.{Config}
 use Rattle.kp_embed.specs.Going.{Acts, Called, Goes, Stays, if_core}
 use Rattle.kp_embed.specs.Lines.{AtNode, SameLines, line_at}
 use Rattle.kp_embed.specs.Producer.{Producer}
-use Rattle.kp_embed.specs.Ticking.{LooksAtAll, none, one_more, MayEnd, Ticks, TicksOne, looks_at}
+use Rattle.kp_embed.specs.Ticking.{GivesUpIfSpent, LooksAtAll, none, one_more, MayEnd, Ticks, TicksOne, can_only_end_in, looks_at}
 use Rattle.kp_embed.specs.declared.line.Line.{Line}
-use Rattle.kp_embed.proofs.ActLemmas.{acts_called, acts_idly, acts_then}
-use Rattle.kp_rules.specs.Calls.{Call, Disconnect, Tick}
+use Rattle.kp_embed.proofs.ActLemmas.{acts_called, acts_idly, acts_same, acts_then}
+use Rattle.kp_rules.specs.Calls.{Call, Disconnect, End, Tick}
 use Rattle.kp_rules.specs.Records.{Core}
 use Rattle.kp_rules.specs.declared.names.Names.{Names}
 use Rattle.kp_rules.specs.declared.ticked.Ticked.{Ticked}
@@ -127,11 +127,43 @@ ticks_more now n a b c h one still = record {
   unopened = λ is. still (h.unopened is);
 }
 
-pub ticks_all : (now n : ℕ) (a b : Producer) → TicksTo now n a b → Ticks now a b
-ticks_all now n a b h = record {
+pub ticks_all : (now n : ℕ) (a b c : Producer) → TicksTo now n a b → GivesUpIfSpent b c → Ticks now a c
+ticks_all now n a b c h gives_up = record {
   nodes = n;
   calls = h.calls;
   looks = h.looks;
+  looked = b;
   acts = h.acts;
   lines = h.lines;
+  gives_up = gives_up;
+}
+
+-- ---- all of it
+
+-- all calls on the core
+pub ticks_act : (now : ℕ) (a b : Producer) → Ticks now a b → (calls : List Call) × Acts a calls b
+ticks_act now a b t = (_, acts_then a t.looked b (if_core a.core t.calls) _ t.acts t.gives_up.acts)
+
+pub ticks_end : (now : ℕ) (a b : Producer) → Ticks now a b → MayEnd a b
+ticks_end now a b t = ends_then a t.looked b t.lines (ends_none t.looked b t.gives_up.lines)
+
+-- ---- what is given up
+
+pub given_up_spent : (a b : Producer) (told : ℕ) → can_only_end_in a.core ≡ true → b.config ≡ a.config → b.names ≡ a.names → Called a.core (End told) b.core → b.counts ≡ a.counts → b.lines ≡ a.lines
+    → GivesUpIfSpent a b
+given_up_spent a b told is config names called counts lines = record {
+  told = told;
+  acts = subst (λ (over : Bool). Acts a (if over then End told ∷ [] else []) b) (sym is) (subst (λ (calls : List Call). Acts a calls b) (there a.core is) (acts_called a b (End told) config names called counts tt));
+  lines = lines;
+}
+  where
+    there : (s : Option Core) → can_only_end_in s ≡ true → if_core s (End told ∷ []) ≡ End told ∷ []
+    there None is = cc
+    there (Some s) is = refl
+
+pub not_given_up : (a : Producer) → can_only_end_in a.core ≡ false → GivesUpIfSpent a a
+not_given_up a is = record {
+  told = 0;
+  acts = subst (λ (over : Bool). Acts a (if over then End 0 ∷ [] else []) a) (sym is) (acts_same a);
+  lines = refl;
 }

@@ -1,16 +1,17 @@
 -- What is to be seen of a producer.
 use Rattle.std.specs.Prelude.{if◌then◌else◌, ℕ, Bool, true, length, min, Option, Some, None}
 use Rattle.kp_embed.specs.declared.embed.Phase.{Phase}
-use Rattle.kp_embed.specs.declared.embed.Phase.TheVariants.{Opening, Ready, Failed}
+use Rattle.kp_embed.specs.declared.embed.Phase.TheVariants.{Opening, Ready, Spent, Failed}
 use Rattle.kp_rules.specs.Counts.{all_queued, attempts_sent, batches_handed_over}
 use Rattle.kp_rules.specs.Flush.{is_flushed}
 use Rattle.kp_rules.specs.Partitions.{all_untold, used}
 use Rattle.kp_rules.specs.Records.{Core}
+use Rattle.kp_rules.specs.Requesting.{is_spent}
 
--- It is ready where it has a core; without one it is opening until that is too late.
+-- It is ready where it has a core, while correlation ids are left; without one it is opening until that is too late.
 abbrev pub phase_of : Option Core → (is_failed : Bool) → Phase
 phase_of None is_failed = if is_failed then Failed else Opening
-phase_of (Some s) is_failed = Ready
+phase_of (Some s) is_failed = if is_spent s then Spent else Ready
 
 -- Each record that was accepted before the last flush is told.
 abbrev pub flushed_of : Option Core → Bool

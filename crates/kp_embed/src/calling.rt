@@ -1,6 +1,8 @@
 //! Calls on a core that may not be there yet.
 
+ghost use Rattle.std.specs.Prelude.{◌≡◌};
 ghost use Rattle.kp_embed.specs.Going.{Called};
+ghost use Rattle.kp_embed.specs.Ticking.{can_only_end_in};
 ghost use Rattle.kp_rules.specs.Calls.{Close, Disconnect, End, Fetch, Flush, Tick};
 
 use kp_core::{Core, Report, Ticked};
@@ -27,6 +29,16 @@ pub(crate) fn end(core: &mut Option<Core>) -> usize
     match core {
         Some(core) => core.end(),
         None => 0,
+    }
+}
+
+/// Whether a core's end is all that is left for it.
+pub(crate) fn can_only_end(core: &Option<Core>) -> bool
+    ensures { result ≡ can_only_end_in core.now }
+{
+    match core {
+        Some(core) => core.can_only_end(),
+        None => false,
     }
 }
 

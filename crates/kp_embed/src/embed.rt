@@ -42,6 +42,9 @@ pub enum Phase {
     Opening,
     /// Records are accepted, unless it is closed.
     Ready,
+    /// Every correlation id was used: no further request goes out, and no record is accepted. What is open is told as ever, and
+    /// what is queued then given up by `tick`.
+    Spent,
     /// It was not ready in time, and never will be.
     Failed,
 }

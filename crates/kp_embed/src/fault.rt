@@ -21,8 +21,8 @@ pub enum SendFault {
     /// With it, the records that wait would take more than `buffer.memory`.
     #[error("the buffer is full")]
     BufferFull,
-    /// Every number of the partition's records was used.
-    #[error("every number was used")]
+    /// Every correlation id was used, so that no further request can go out, or every number of the partition's records.
+    #[error("every correlation id or number was used")]
     Spent,
     #[error("out of memory")]
     OutOfMemory,
@@ -40,9 +40,6 @@ pub enum Fault {
     /// What was read is no frame, or no answer to a request.
     #[error("an answer can't be read")]
     BadAnswer,
-    /// Every correlation id was used.
-    #[error("every correlation id was used")]
-    Spent,
     #[error("out of memory")]
     OutOfMemory,
 }
@@ -69,8 +66,9 @@ impl From<CoreFault> for Fault {
     fn from(fault: CoreFault) -> Fault {
         match fault {
             CoreFault::OutOfMemory => Fault::OutOfMemory,
-            CoreFault::CorrelationSpent => Fault::Spent,
-            CoreFault::ReplyFault(_) | CoreFault::Ended => Fault::BadAnswer,
+            CoreFault::ReplyFault(_) | CoreFault::CorrelationSpent | CoreFault::Ended => {
+                Fault::BadAnswer
+            }
         }
     }
 }

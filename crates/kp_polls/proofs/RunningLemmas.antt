@@ -77,6 +77,7 @@ module _ {S C : Type 0} (answers : Told S) (moments : C → List ℕ) where
   )
   once_polled first calls old _ _ p (LastsOnce.with_none new stop poll) = (poll.turn.calls, Polled.away old.exchange new.exchange calls poll.cause stop p poll.turn)
   once_polled first calls old _ _ p (LastsOnce.given_up cause is) = ([], subst (λ (cs : List Call). Polled answers first cs old.exchange) (sym (append-nil calls)) p)
+  once_polled first calls old _ _ p (LastsOnce.used_up is) = ([], subst (λ (cs : List Call). Polled answers first cs old.exchange) (sym (append-nil calls)) p)
 
   module _ {E : Type 0} (engine : E → Engine S C) (polls : E → Poll Over → E → Type 0)
       (each : (was is : E) (result : Poll Over) → polls was result is → LastsOnce answers moments (engine was) result (engine is)) where

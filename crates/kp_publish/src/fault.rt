@@ -22,7 +22,7 @@ pub enum PublishFault {
     Undelivered,
     #[error("the file for unknown lines can't be written")]
     Unknown,
-    /// Its time was over. So many lines were told of, and those behind them were not sent.
+    /// Its time was over, or every correlation id was used. So many lines were told of, and those behind them were not sent.
     #[error("given up; what stands behind line {0} was not sent")]
     GivenUp(u64),
     /// The number of the next line would be above u64::MAX.

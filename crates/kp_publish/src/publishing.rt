@@ -14,7 +14,7 @@ use crate::files::Files;
 use crate::input::{Input, len_of};
 use crate::pair::Pair;
 use crate::watch::Watch;
-use crate::words::put_refusal;
+use crate::words::{put_refusal, put_spent};
 use futures::Future;
 use futures::task::{Context, Poll};
 use kp_batch::Timestamp;
@@ -77,15 +77,27 @@ impl<'r, R: Net + Clock, F: Write, O: Write, E: Write> Publishing<'r, R, F, O, E
         }
     }
 
-    /// Whether a line that is refused so is to stay the next one: there will be room, or a broker that is ready.
+    /// Whether a line that is refused so is to stay the next one: there will be room, or a broker that is ready; or the stream is
+    /// given up before it.
     fn stays(&self, fault: SendFault) -> bool {
         match fault {
             SendFault::BufferFull => true,
+            SendFault::Spent => self.is_spent(),
             SendFault::NotReady => {
                 self.drive.producer().phase() != Phase::Failed && self.refusal().is_none()
             }
             _ => false,
         }
+    }
+
+    /// Whether every correlation id was used, so that nothing can be sent any more.
+    fn is_spent(&self) -> bool {
+        self.drive.producer().phase() == Phase::Spent
+    }
+
+    /// Whether that is so, and each line that was sent is told of.
+    fn is_over(&self) -> bool {
+        self.is_spent() && self.sender.waiting() == 0
     }
 
     /// Whether so much is queued that no request waits for more lines: two batches for each partition, and `ENOUGH`. What is queued
@@ -242,9 +254,8 @@ impl<'r, R: Net + Clock, F: Write, O: Write, E: Write> Publishing<'r, R, F, O, E
         ensures files { self.new.files ≡ self.old.files }
     {
         let mut text = Vec::new(self.alloc);
-        if let (Some(code), false) = (self.refusal(), self.has_said_why) {
-            put_refusal(&mut text, code)?;
-            self.has_said_why = true;
+        if !self.has_said_why {
+            self.has_said_why = self.put_why(&mut text)?;
         }
         text.extend_from_slice(said)?;
         if !text.is_empty() {
@@ -252,6 +263,19 @@ impl<'r, R: Net + Clock, F: Write, O: Write, E: Write> Publishing<'r, R, F, O, E
             let _ = self.err.write_all(&text);
         }
         Ok(())
+    }
+
+    /// Puts why nothing will be sent, where that is known: whether it is.
+    fn put_why(&self, text: &mut Vec<u8>) -> Result<bool, AllocError> {
+        if let Some(code) = self.refusal() {
+            put_refusal(text, code)?;
+            return Ok(true);
+        }
+        if self.is_spent() {
+            put_spent(text)?;
+            return Ok(true);
+        }
+        Ok(false)
     }
 
     /// Tells how far the stream has come, where that is due: whether it was.
@@ -286,7 +310,8 @@ impl<'r, R: Net + Clock, F: Write, O: Write, E: Write> Publishing<'r, R, F, O, E
         Ok(self.say_end()?)
     }
 
-    /// Why the stream ends before its input: its time is over, and each line that was taken is told of.
+    /// Why the stream ends before its input: its time is over, or nothing can be sent any more, and each line that was taken is told
+    /// of.
     fn give_up(&mut self) -> PublishFault {
         match self.leave() {
             Ok(()) => {
@@ -336,6 +361,9 @@ impl<R: Net + Clock, F: Write + Drop, O: Write, E: Write> Future for Publishing<
 
     fn poll(&mut self, cx: &mut Context<'_>) -> Poll<Result<Tellings, PublishFault>> {
         if self.watch.is_over(cx) {
+            return Poll::Ready(Err(self.give_up()));
+        }
+        if self.is_over() {
             return Poll::Ready(Err(self.give_up()));
         }
         // What looks up names ends before this only where memory is refused to it.

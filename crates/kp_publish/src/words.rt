@@ -54,6 +54,7 @@ pub(crate) fn put_progress(
     text.extend_from_slice(b" MB a second")?;
     match producer.phase() {
         Phase::Ready => Ok(()),
+        Phase::Spent => text.extend_from_slice(b"; every correlation id was used"),
         Phase::Failed => text.extend_from_slice(b"; no broker was ready in time"),
         Phase::Opening => {
             text.extend_from_slice(b"; no broker is ready")?;
@@ -89,6 +90,13 @@ pub(crate) fn put_refusal(text: &mut Vec<u8>, code: i16) -> Result<(), AllocErro
         text.extend_from_slice(code.words.as_bytes())?;
     }
     end_line(text)
+}
+
+/// That nothing can be sent any more.
+pub(crate) fn put_spent(text: &mut Vec<u8>) -> Result<(), AllocError> {
+    text.extend_from_slice(
+        b"kprod: every correlation id was used; what was not sent can be sent by another call\n",
+    )
 }
 
 /// A member of an object: its name with what stands around it, and its value, or null where there is none.
@@ -131,7 +139,7 @@ fn put_producer(text: &mut Vec<u8>, producer: &Embed) -> Result<(), AllocError> 
     put_named(text, b",\"nodes\":", seen.nodes)?;
     match producer.phase() {
         Phase::Ready => text.extend_from_slice(b",\"is_ready\":true")?,
-        Phase::Opening | Phase::Failed => text.extend_from_slice(b",\"is_ready\":false")?,
+        Phase::Opening | Phase::Failed | Phase::Spent => text.extend_from_slice(b",\"is_ready\":false")?,
     }
     match seen.refused {
         Some(code) => put_named(text, b",\"refused\":", code),

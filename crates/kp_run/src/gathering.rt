@@ -165,7 +165,7 @@ fn order(reports: &mut Vec<Report>)
 fn cause_in(ending: Ending) -> Option<Cause> {
     match ending {
         Ending::GaveUp(cause) => Some(cause),
-        Ending::Done | Ending::OutOfMemory => None,
+        Ending::Done | Ending::Spent | Ending::OutOfMemory => None,
     }
 }
 

@@ -113,6 +113,7 @@ module _ {S C : Type 0} (answers : Told S) (moments : C → List ℕ) where
   once_left old _ _ (LastsOnce.over_the_next mid new stream polled given p) going = left_open mid new polled (ap stop_in given.line) p
   once_left old _ _ (LastsOnce.with_none new stop p) going = left_away old new stop p
   once_left old _ _ (LastsOnce.given_up cause is) going = is
+  once_left old _ _ (LastsOnce.used_up is) going = is
 
   -- ---- any number of polls
 

@@ -1,8 +1,9 @@
 -- An engine that lasts through outages.
-use Rattle.std.specs.Prelude.{◌≡◌, ℕ, ◌≤◌, List, Option, Some, None}
+use Rattle.std.specs.Prelude.{◌≡◌, ℕ, ◌≤◌, true, List, Option, Some, None}
 use Rattle.futures.specs.declared.task.Poll.{Poll}
 use Rattle.futures.specs.declared.task.Poll.TheVariants.{Ready, Pending}
 use Rattle.kp_connection.specs.Wire.{Told}
+use Rattle.kp_core.specs.Spent.{can_only_end}
 use Rattle.kp_engine.specs.Clocked.{PollsAway, PollsOnce}
 use Rattle.kp_engine.specs.Engine.{NeedsStream, fresh_wire}
 use Rattle.kp_engine.specs.Polls.{IsDone}
@@ -31,7 +32,8 @@ over_of (Ready Done) = Ready over.Done
 over_of (Ready (NeedStream cause)) = Pending
 over_of (Ready OutOfMemory) = Ready over.OutOfMemory
 
--- One poll makes one turn: over the connection, over the next, or with none; or there is to be none any more.
+-- One poll makes one turn: over the connection, over the next, or with none; or there is to be no connection any more, or no
+-- request.
 pub data LastsOnce {S C : Type 0} (answers : Told S) (moments : C → List ℕ) (old : Engine S C) : Poll Over → Engine S C → Type 0 where
   over_it : (new : Engine S C) (polled : Poll Stop) → (NeedsStream old.line → ⊥) → PollsOnce answers moments old polled new
       → LastsOnce answers moments old (over_of polled) new
@@ -39,12 +41,14 @@ pub data LastsOnce {S C : Type 0} (answers : Told S) (moments : C → List ℕ) 
       → LastsOnce answers moments old (over_of polled) new
   with_none : (new : Engine S C) (stop : Stop) → PollsAway moments old stop new → LastsOnce answers moments old (over_of (Ready stop)) new
   given_up : (cause : Cause) → old.line ≡ Stopped (NeedStream cause) → LastsOnce answers moments old (Ready (over.GaveUp cause)) old
+  used_up : can_only_end old.exchange.core ≡ true → LastsOnce answers moments old (Ready over.Spent) old
 
 -- It holds where it was given up.
 abbrev pub IfGivenUp : Poll Over → Type 0 → Type 0
 IfGivenUp Pending P = Unit {0}
 IfGivenUp (Ready over.Done) P = Unit {0}
 IfGivenUp (Ready (over.GaveUp cause)) P = P
+IfGivenUp (Ready over.Spent) P = Unit {0}
 IfGivenUp (Ready over.OutOfMemory) P = Unit {0}
 
 -- As many connections were made as may be. Where there is no limit, never.
@@ -72,4 +76,5 @@ abbrev pub IsLeft : {S C : Type 0} → Poll Over → Engine S C → Type 0
 IsLeft Pending engine = IsGoing engine.line
 IsLeft (Ready over.Done) engine = (engine.line ≡ Stopped Done) × IsDone engine.exchange
 IsLeft (Ready (over.GaveUp cause)) engine = engine.line ≡ Stopped (NeedStream cause)
+IsLeft (Ready over.Spent) engine = can_only_end engine.exchange.core ≡ true
 IsLeft (Ready over.OutOfMemory) engine = engine.line ≡ Stopped OutOfMemory

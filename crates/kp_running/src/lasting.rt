@@ -22,6 +22,8 @@ pub enum Over {
     Done,
     /// The connection was lost for this, and there is to be no more.
     GaveUp(Cause),
+    /// Each correlation id was used, and nothing is open any more: what is queued can only be given up.
+    Spent,
     /// Memory was refused.
     OutOfMemory,
 }
@@ -105,6 +107,9 @@ impl<S: Stream, C: Clock, K: Connecting<Stream = S>> Turning for Lasting<S, C, K
     ghost reader = { λ lasting. read_or_made S.reader (K.waits lasting.connecting) lasting.engine.line };
 
     fn poll_turn(&mut self, cx: &mut Context<'_>) -> Poll<Over> {
+        if self.engine.core().can_only_end() {
+            return Poll::Ready(Over::Spent);
+        }
         match self.engine.stopped() {
             Some(Stop::NeedStream(cause)) => self.poll_lost(cx, cause),
             Some(Stop::Done) => self.poll_open(cx),

@@ -24,7 +24,7 @@ fault_words NotReady = codes "not sent: no broker was ready; it can be sent agai
 fault_words NoPartition = codes "not sent: the topic has no such partition; name another one"
 fault_words TooLarge = codes "not sent: its record is too large; raise max.request.size or buffer.memory, or make it smaller"
 fault_words BufferFull = codes "not sent: the buffer was full; it can be sent again"
-fault_words Spent = codes "not sent: every number was used; it can be sent by another producer"
+fault_words Spent = codes "not sent: every correlation id or number was used; it can be sent by another producer"
 fault_words OutOfMemory = codes "not sent: out of memory; it can be sent again"
 
 -- what became of a record that was accepted, and what to do

@@ -34,7 +34,9 @@ fn fault_words(fault: SendFault) -> &'static [u8]
             b"not sent: its record is too large; raise max.request.size or buffer.memory, or make it smaller"
         }
         SendFault::BufferFull => b"not sent: the buffer was full; it can be sent again",
-        SendFault::Spent => b"not sent: every number was used; it can be sent by another producer",
+        SendFault::Spent => {
+            b"not sent: every correlation id or number was used; it can be sent by another producer"
+        }
         SendFault::OutOfMemory => b"not sent: out of memory; it can be sent again",
     }
 }

@@ -18,7 +18,7 @@ from ._library import INT32, INT64, UINT64, Action, Handle, State, Status, Ticke
 from ._open import REPORT, One, Open, Telling
 from ._queue import SIZE, Queue
 from ._values import ADVICE, BufferFull, Closed, Forked, NotReady, OpenFailed, Outcome
-from ._values import ProducerError, Record, RecordRefused, RecordTooLarge, Report, Settings, Statistics
+from ._values import ProducerError, Record, RecordRefused, RecordTooLarge, Report, Settings, Spent, Statistics
 
 logger = logging.getLogger("lembicsov")
 
@@ -64,6 +64,7 @@ class Core:
         self._open = Open()
         self._flushes: list[tuple[dict[int, int], AnyFuture]] = []  # With the counts of when they were asked for.
         self._behind: list[Callable[[], object]] = []  # What is called once the queue is empty.
+        self._left: list[Telling] = []  # Who is to be told of values that were in the queue and are never sent.
         self._is_closing = False
         # What the library writes to.
         self._producer, self._action, self._ticket, self._state = Handle(), Action(), Ticket(), State()
@@ -188,11 +189,20 @@ class Core:
             if accepted > 0:
                 self._next = (self._next + accepted - 1) % partitions + 1
             del queue[:accepted]
-            if status != Status.OK:
+            if status == Status.SPENT:
+                self._leave_unsent(queue)
+            elif status != Status.OK:
                 self._is_short = self._is_short or status == Status.OUT_OF_MEMORY
                 return status
         self._go_on_behind()
         return Status.OK
+
+    def _leave_unsent(self, queue: list[One]) -> None:
+        """Those in the queue are never sent."""
+        partitions, before = self._see().partitions, len(self._left)
+        for turn, record in enumerate(queue, self._next):
+            self._left.append((record, 0, Report(turn % partitions, None, Outcome.ENDED, ADVICE[Outcome.ENDED])))
+        del queue[: len(self._left) - before]
 
     def _go_on_behind(self) -> None:
         while self._behind:
@@ -253,6 +263,8 @@ class Core:
             return NotReady(words_of(status)), True
         if status in (Status.NOT_READY, Status.CLOSED, Status.NO_PRODUCER):
             return self.failure or Closed(words_of(Status.CLOSED)), False
+        if status == Status.SPENT:
+            return Spent(words_of(status)), False
         return (RecordTooLarge if status == Status.TOO_LARGE else RecordRefused)(words_of(status)), False
 
     def flush(self, future: AnyFuture) -> None:
@@ -273,16 +285,11 @@ class Core:
     def end(self) -> Told:
         """Gives up what is left, so that each record that is open has its report, and frees the producer."""
         self._is_closing = True
-        left: list[Telling] = []
         if self.hand_over() != Status.OK:  # Memory was refused.
-            queue, partitions = self.queue.close(), self._see().partitions
-            for turn, record in enumerate(queue, self._next):
-                left.append((record, 0, Report(turn % partitions, None, Outcome.ENDED, ADVICE[Outcome.ENDED])))
-            del queue[: len(left)]
+            self._leave_unsent(self.queue.close())
             self._go_on_behind()
         kp.kp_producer_end(self._handle)
         told = self.fetch()
-        told.reports.extend(left)
         kp.kp_producer_free(self._handle)
         self._state = State()
         return told
@@ -291,7 +298,7 @@ class Core:
 
     def fetch(self) -> Told:
         """What has come to be told, by `settle`, once the core's owner holds no lock."""
-        telling: list[Telling] = []
+        telling, self._left = self._left, []
         count = REPORTS
         while count == REPORTS:
             count = kp.kp_producer_reports(self._handle, self._reports_at, REPORTS)

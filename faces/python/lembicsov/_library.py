@@ -12,7 +12,7 @@ from typing import Any, Callable
 class Status:
     """Those of the statuses that this package tells apart; `words_of` has each in words."""
 
-    OK, NO_PRODUCER, OUT_OF_MEMORY, CLOSED, NOT_READY, NO_PARTITION, TOO_LARGE, BUFFER_FULL = range(8)
+    OK, NO_PRODUCER, OUT_OF_MEMORY, CLOSED, NOT_READY, NO_PARTITION, TOO_LARGE, BUFFER_FULL, SPENT = range(9)
     NO_CONNECTION, BAD_TIMESTAMP = 10, 13
 
 
@@ -34,7 +34,7 @@ class Span(ctypes.Structure):
 
 
 class State(ctypes.Structure):
-    OPENING, READY, FAILED = range(3)
+    OPENING, READY, FAILED, SPENT = range(4)
     _fields_ = [
         *((name, c_uint64) for name in ("untold", "buffer_used", "requests_in_flight", "nodes", "partitions")),
         ("phase", c_uint32),

@@ -127,6 +127,11 @@ class OpenFailed(NotReady):
         return f"the producer was not made ready in time: {why}"
 
 
+class Spent(ProducerError):
+    """Each of the producer's 2,147,483,646 requests went out, or every number of the partition's records was used: open another
+    producer. What this one was sent is told of."""
+
+
 class RecordRefused(ProducerError, ValueError):
     """The record can't be sent: there is no such partition, or its parts are no record's."""
 

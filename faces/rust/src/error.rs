@@ -42,8 +42,9 @@ pub enum SendErrorKind {
     TooLarge,
     /// Its timestamp is before 1970.
     BadTimestamp,
-    /// Every number of the partition's records was used: build another producer.
-    NumbersSpent,
+    /// Each of the producer's 2,147,483,646 requests went out, or every number of the partition's records was used: build another
+    /// producer. What this one was sent is told of.
+    Spent,
     /// The producer is closed.
     Closed,
     /// This process was forked from the one that has built the producer: build one in each process.
@@ -58,7 +59,7 @@ impl SendErrorKind {
             status::NO_PARTITION => SendErrorKind::NoPartition,
             status::TOO_LARGE => SendErrorKind::TooLarge,
             status::BUFFER_FULL => SendErrorKind::BufferFull,
-            status::NUMBERS_SPENT => SendErrorKind::NumbersSpent,
+            status::SPENT => SendErrorKind::Spent,
             status::BAD_TIMESTAMP => SendErrorKind::BadTimestamp,
             _ => SendErrorKind::Closed,
         }
@@ -81,7 +82,7 @@ impl fmt::Display for SendErrorKind {
             SendErrorKind::NoPartition => "there is no such partition",
             SendErrorKind::TooLarge => "the record is too large",
             SendErrorKind::BadTimestamp => "the timestamp is before 1970",
-            SendErrorKind::NumbersSpent => "every number of the partition's records was used",
+            SendErrorKind::Spent => "every correlation id, or every number of the partition's records, was used",
             SendErrorKind::Closed => "the producer is closed",
             SendErrorKind::Forked => "the producer belongs to the process that this one was forked from",
         })

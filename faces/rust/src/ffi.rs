@@ -17,8 +17,7 @@ pub(crate) mod status {
     pub(crate) const NO_PARTITION: i32 = 5;
     pub(crate) const TOO_LARGE: i32 = 6;
     pub(crate) const BUFFER_FULL: i32 = 7;
-    pub(crate) const NUMBERS_SPENT: i32 = 8;
-    pub(crate) const CORRELATION_SPENT: i32 = 12;
+    pub(crate) const SPENT: i32 = 8;
     pub(crate) const BAD_TIMESTAMP: i32 = 13;
 }
 
@@ -121,6 +120,9 @@ pub(crate) struct State {
 
 /// `KP_FAILED`.
 pub(crate) const FAILED: u32 = 2;
+
+/// `KP_SPENT`.
+pub(crate) const SPENT: u32 = 3;
 
 // SAFETY: these are the declarations of `kp.h` and of the C library. The safe ones take whatever their types allow: a handle is none
 // or holds a producer that is its alone, since nothing else makes one, and calls on either return.

@@ -192,6 +192,9 @@ impl Service {
             self.warnings.push(format!("a broker refuses to take part: {}", ErrorCode(state.refused)));
         }
         let has_changed = state.phase != mem::replace(&mut self.phase, state.phase);
+        if has_changed && state.phase == ffi::SPENT {
+            self.warnings.push("every correlation id was used: no record is accepted any more".into());
+        }
         let is_last = state.phase == ffi::FAILED || (inner.has_no_more_to_come() && state.untold == 0);
 
         inner.warnings.append(&mut self.warnings);
@@ -270,10 +273,6 @@ impl Service {
                 let (count, ended) = open.take(node, &mut inner.core);
                 taken.bytes += count;
                 taken.is_short |= ended == Err(status::OUT_OF_MEMORY);
-                if ended == Err(status::CORRELATION_SPENT) && !inner.gives_up {
-                    (inner.gives_up, inner.is_rung) = (true, true);
-                    self.warnings.push("every correlation id was used: the producer ends".into());
-                }
             }
         }
         inner.unseen = 0;

@@ -16,9 +16,6 @@ use kp_rules::{CoreFault, Outgoing};
 use kp_wire::Blob;
 use std::alloc::{AllocError, Global};
 
-/// The last correlation id: the greatest int32.
-const CORRELATION_LIMIT: u32 = 2_147_483_647;
-
 impl Core {
     /// The next request, where the core has not ended.
     pub(super) fn request(&mut self, node: u32, now: u64) -> Result<Option<Outgoing>, CoreFault>
@@ -40,13 +37,6 @@ impl Core {
         ensures { result ≡ has_window node self.now }
     {
         (count_to(&self.requests, node) as u64) < self.config.max_in_flight_requests_per_connection
-    }
-
-    /// Whether each correlation id was used.
-    fn is_spent(&self) -> bool
-        ensures { result ≡ is_spent self.now }
-    {
-        self.correlation > CORRELATION_LIMIT
     }
 
     /// A request for a fresh producer id goes out, for this partition.

@@ -6,11 +6,16 @@ ghost use Rattle.std.specs.Option.{option_copied};
 ghost use Rattle.kp_rules.specs.Counts.{all_queued, attempts_sent, batches_handed_over, batches_in_flight};
 ghost use Rattle.kp_rules.specs.Flush.{is_flushed};
 ghost use Rattle.kp_rules.specs.Partitions.{all_untold, partition_at, used};
+ghost use Rattle.kp_rules.specs.Requesting.{is_spent};
 ghost use Rattle.kp_core.specs.Busy.{busy_in, has_work_for};
+ghost use Rattle.kp_core.specs.Spent.{can_only_end};
 
 use crate::machine::Core;
 use kp_accum::Config;
 use kp_rules::{Names, Run};
+
+/// The last correlation id: the greatest int32.
+const CORRELATION_LIMIT: u32 = 2_147_483_647;
 
 impl Core {
     pub fn config(&self) -> &Config
@@ -63,6 +68,21 @@ impl Core {
         ensures { result ≡ self.now.ended }
     {
         self.ended
+    }
+
+    /// Whether each correlation id was used, so that no further request can go out.
+    pub fn is_spent(&self) -> bool
+        ensures { result ≡ is_spent self.now }
+    {
+        self.correlation > CORRELATION_LIMIT
+    }
+
+    /// Whether its end is all that is left: each correlation id was used, nothing that went out is open any more, so that what is
+    /// queued can only be given up, and it has not ended.
+    pub fn can_only_end(&self) -> bool
+        ensures { result ≡ can_only_end self.now }
+    {
+        !self.ended && self.is_spent() && self.untold() == self.items_queued()
     }
 
     /// The memory that is used: the charges of the items that are not told.

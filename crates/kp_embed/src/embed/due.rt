@@ -2,9 +2,10 @@
 
 ghost use Rattle.std.specs.Prelude.{◌≡◌, ◌≤◌, IfSome};
 ghost use Rattle.kp_cluster.specs.Actions.{earlier, next_due};
-ghost use Rattle.kp_embed.specs.Due.{NotLater, due_of, following, no_sooner};
+ghost use Rattle.kp_embed.specs.Due.{NotLater, core_due, due_of, following, no_sooner};
 
 use crate::embed::Embed;
+use kp_core::Core;
 
 impl Embed {
     /// The moment after `now` at which there may be something to do again, once all that there is now was done: an action, bytes
@@ -16,7 +17,7 @@ impl Embed {
     {
         let from = now.saturating_add(1);
         let producer = match &self.core {
-            Some(core) => core.next_due_from(from),
+            Some(core) => core_due(core, from),
             None => self.opening_due(from),
         };
         earlier(producer, no_sooner(self.cluster.next_due(), from))
@@ -38,6 +39,16 @@ impl Embed {
         };
         earlier(coming(Some(self.open_until), from), coming(identity, from))
     }
+}
+
+/// The core's earliest moment from this one on.
+fn core_due(core: &Core, from: u64) -> Option<u64>
+    ensures { result ≡ core_due from core.now }
+{
+    if core.can_only_end() {
+        return Some(from);
+    }
+    core.next_due_from(from)
 }
 
 /// The earlier of two moments, where there is one.

@@ -67,6 +67,7 @@ impl Embed {
         ensures { result ≡ phase_of self.now.core self.now.is_failed }
     {
         match &self.core {
+            Some(core) if core.is_spent() => Phase::Spent,
             Some(_) => Phase::Ready,
             None if self.is_failed => Phase::Failed,
             None => Phase::Opening,

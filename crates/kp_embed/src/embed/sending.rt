@@ -9,6 +9,7 @@ ghost use Rattle.kp_embed.specs.Sending.{DoesNotTake, GoesTo, HasNoPlace, IsTher
 ghost use Rattle.kp_rules.specs.Appending.{may_append, would_exhaust};
 ghost use Rattle.kp_rules.specs.Calls.{Append, Step};
 ghost use Rattle.kp_rules.specs.Partitions.{used};
+ghost use Rattle.kp_rules.specs.Requesting.{is_spent};
 
 use crate::embed::Embed;
 use crate::fault::SendFault;
@@ -178,6 +179,7 @@ impl Embed {
 #[inline(always)]
 fn append_to(core: &mut Core, item: Item, refused: &mut Option<Item>) -> Result<(), SendFault>
     ensures taken { OnOk result (Step core.old (Append item (Ok tt)) core.new) }
+    ensures left { OnOk result (is_spent core.old ≡ false) }
     ensures refused { OnErr result (core.new ≡ core.old) }
     ensures back { OnErr result (refused.new ≡ Some item) }
     ensures when { IfErr result (λ fault. DoesNotTake core.old item fault) }
@@ -198,11 +200,15 @@ fn append_to(core: &mut Core, item: Item, refused: &mut Option<Item>) -> Result<
 #[inline(always)]
 fn check_item(core: &Core, item: &Item, charge: u64) -> Result<(), SendFault>
     requires { charge ≡ measured (charge_of item.now) }
+    ensures left { OnOk result (is_spent core.now ≡ false) }
     ensures going { OnOk result (core.now.ended ≡ false) }
     ensures may { OnOk result (may_append item.now core.now ≡ true) }
     ensures room { OnOk result (would_exhaust item.now core.now ≡ false) }
     ensures when { IfErr result (λ fault. DoesNotTake core.now item.now fault) }
 {
+    if core.is_spent() {
+        return Err(SendFault::Spent);
+    }
     if core.has_ended() {
         return Err(SendFault::Closed);
     }

@@ -127,6 +127,7 @@ impl Embed {
             }
             Ok(None) => Ok(()),
             Err(CoreFault::Ended) => Ok(()),
+            Err(CoreFault::CorrelationSpent) => Ok(()),
             Err(fault) => Err(Fault::from(fault)),
         }
     }

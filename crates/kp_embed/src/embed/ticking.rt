@@ -3,14 +3,14 @@
 ghost use Rattle.std.specs.Prelude.{◌≡◌, ◌∷◌, [], ◌<◌, None};
 ghost use Rattle.kp_embed.specs.Going.{Acts, if_core};
 ghost use Rattle.kp_embed.specs.Producer.{with_cluster};
-ghost use Rattle.kp_embed.specs.Ticking.{MayEnd, Ticks, TicksOne};
+ghost use Rattle.kp_embed.specs.Ticking.{GivesUpIfSpent, MayEnd, Ticks, TicksOne};
 
 use crate::calling;
 use crate::embed::Embed;
 
 impl Embed {
-    /// The time is this: what is late is given up, and connections over which an answer is late. It is called at `next_due`, and
-    /// whenever the owner comes by.
+    /// The time is this: what is late is given up, and connections over which an answer is late; and, once every correlation id was
+    /// used and nothing is open any more, what is queued. It is called at `next_due`, and whenever the owner comes by.
     pub fn tick(&mut self, now: u64)
         ensures ticks { Ticks now self.old self.new }
         ensures still { self.new.is_closed ≡ self.old.is_closed }
@@ -21,6 +21,7 @@ impl Embed {
         for node in 0..count {
             self.tick_node(node, now);
         }
+        self.give_up_if_spent();
     }
 
     /// The core looks at the clock for this node.
@@ -33,6 +34,17 @@ impl Embed {
         let ticked = calling::tick(&mut self.core, node, now);
         if ticked.reconnect {
             self.give_up(node, now);
+        }
+    }
+
+    /// What is queued is given up, where nothing can go out any more.
+    #[tactic(auto, using(crate::proofs::ActLemmas::still_none))]
+    fn give_up_if_spent(&mut self)
+        ensures gives_up { GivesUpIfSpent self.old self.new }
+        ensures still { self.new.is_closed ≡ self.old.is_closed }
+    {
+        if calling::can_only_end(&self.core) {
+            calling::end(&mut self.core);
         }
     }
 

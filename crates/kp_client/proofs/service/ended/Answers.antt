@@ -1,4 +1,5 @@
-use Rattle.std.proofs.Common.{◌∙◌, ap, inl, refl, subst, sym}
+use Rattle.std.proofs.Common.{◌≡◌, ◌∙◌, true, ap, inl, refl, subst, sym}
+use Rattle.kp_core.specs.Spent.{can_only_end}
 use Rattle.kp_engine.specs.Polls.{IsDone}
 use Rattle.kp_engine.specs.declared.engine.Engine.{Engine}
 use Rattle.kp_engine.specs.declared.parts.Parts.{Parts}
@@ -61,6 +62,15 @@ returns-clause-ended g c core intake h =
           earlier = s.calls;
           last = _;
           gave = s.gave (NeedStream cause) (ap (λ (e : Engine _ _). e.line) c.into_engine-engine.ensures ∙ subst (λ (how : Ending). GivesUpFor how c.args.tended.lasting.engine) (sym c.new.ensures.1 ∙ is) c.requires.cause);
+          told = c.end-told.result;
+          made = refl;
+        };
+        spent = λ is. record {
+          earlier = s.calls;
+          last = _;
+          polled = s.polled;
+          spent = subst (λ (e : Engine _ _). can_only_end e.exchange.core ≡ true) (sym c.into_engine-engine.ensures)
+              (subst (λ (how : Ending). GivesUpFor how c.args.tended.lasting.engine) (sym c.new.ensures.1 ∙ is) c.requires.cause);
           told = c.end-told.result;
           made = refl;
         };

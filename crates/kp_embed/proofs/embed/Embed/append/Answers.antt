@@ -17,4 +17,5 @@ returns-in-Ok-clause-sends c =
     (c.requires.number ∙ ap (λ (p : Producer). slice_index p.counts c.args.ticket.partition) (sym c.self.view_is))
     (subst (λ (p : Producer). c.args.ticket.partition < length p.counts) (sym c.self.view_is) c.requires.there)
     (ap (λ (p : Producer). p.counts) same ∙ ap (λ (n : ℕ). slice_set i.counts.items c.args.ticket.partition n) c.in-Some.ensures.1)
-    (ap (λ (p : Producer). p.lines) same))
+    (ap (λ (p : Producer). p.lines) same)
+    c.in-Ok.ensures.left)

@@ -6,7 +6,7 @@ use Rattle.kp_embed.specs.declared.fault.Fault.{Fault}
 use Rattle.kp_embed.specs.declared.line.Line.{Line}
 use Rattle.kp_embed.proofs.ActLemmas.{made}
 use Rattle.kp_embed.proofs.AskLemmas.{asks_idle, asks_refused, asks_request, refused_none, with_out}
-use Rattle.kp_embed.proofs.embed.Embed.ask_core.Goals.{in-Ok-Some, in-Ok-None, in-Err-Ended, in-Err}
+use Rattle.kp_embed.proofs.embed.Embed.ask_core.Goals.{in-Ok-Some, in-Ok-None, in-Err-Ended, in-Err-CorrelationSpent, in-Err}
 use Rattle.kp_embed.proofs.embed.Embed.ask_core.Goals as goal
 use Rattle.kp_rules.specs.declared.outgoing.Outgoing.{Outgoing}
 use Rattle.kp_rules.specs.Calls.{Request, Step}
@@ -33,6 +33,9 @@ returns-clause-asks c =
       | in-Err-Ended w ↦
           subst ok (sym w.result-is) (subst to (sym w.line-is) (subst (from line) c.self.view_is
           (asks_refused c.args.node c.args.now (made i.is_failed i.is_closed i.config.producer i.names i.core i.counts.items i.lines i.cluster) (made i.is_failed i.is_closed i.config.producer i.names (Some c.next_request.new.self) i.counts.items i.lines i.cluster) line c.in-Some.core c.next_request.new.self w.in-Err-Ended.field-0 refl refl c.in-Some.is w.in-Err-Ended.ensures refl refl c.requires.taken)))
+      | in-Err-CorrelationSpent w ↦
+          subst ok (sym w.result-is) (subst to (sym w.line-is) (subst (from line) c.self.view_is
+          (asks_refused c.args.node c.args.now (made i.is_failed i.is_closed i.config.producer i.names i.core i.counts.items i.lines i.cluster) (made i.is_failed i.is_closed i.config.producer i.names (Some c.next_request.new.self) i.counts.items i.lines i.cluster) line c.in-Some.core c.next_request.new.self w.in-Err-CorrelationSpent.field-0 refl refl c.in-Some.is w.in-Err-CorrelationSpent.ensures refl refl c.requires.taken)))
       | in-Err w ↦ subst ok (sym w.result-is) tt
     ]
 
@@ -44,6 +47,7 @@ returns-clause-none c =
       | in-Ok-Some w ↦ subst err (sym w.result-is) tt
       | in-Ok-None w ↦ subst err (sym w.result-is) tt
       | in-Err-Ended w ↦ subst err (sym w.result-is) tt
+      | in-Err-CorrelationSpent w ↦ subst err (sym w.result-is) tt
       | in-Err w ↦
           subst err (sym w.result-is) (subst (λ (a : Producer). AsksNone c.args.node c.args.now a (made i.is_failed i.is_closed i.config.producer i.names (Some c.next_request.new.self) i.counts.items i.lines i.cluster)) c.self.view_is
           (refused_none c.args.node c.args.now (made i.is_failed i.is_closed i.config.producer i.names i.core i.counts.items i.lines i.cluster) (made i.is_failed i.is_closed i.config.producer i.names (Some c.next_request.new.self) i.counts.items i.lines i.cluster) c.in-Some.core c.next_request.new.self w.in-Err.fault refl refl c.in-Some.is w.in-Err.ensures refl refl))

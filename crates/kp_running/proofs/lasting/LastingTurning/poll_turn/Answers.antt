@@ -1,12 +1,18 @@
-use Rattle.std.proofs.Common.{None, Some, sym, ap, ◌∙◌}
+use Rattle.std.proofs.Common.{None, Some, refl, sym, ap, ◌∙◌}
+use Rattle.kp_core.specs.Spent.{can_only_end}
 use Rattle.kp_engine.specs.declared.stop.Stop.{Stop}
 use Rattle.kp_engine.specs.declared.stop.Stop.TheVariants.{NeedStream}
+use Rattle.kp_running.specs.Lasting.{LastsOnce}
 use Rattle.kp_running.proofs.LastingLemmas.{lasts_by, not_done, not_none, not_out, stopped_for}
 use Rattle.kp_running.proofs.lasting.LastingTurning.poll_turn.Goals as goal
 
 pub poll_lost-requires : goal.poll_lost-requires
 poll_lost-requires g c =
     stopped_for c.args.self.now.engine.line (NeedStream c.in-Some-NeedStream.cause) (sym c.stopped.ensures ∙ c.in-Some-NeedStream.is ∙ ap (λ (s : Stop). Some s) c.in-Some-NeedStream.field-0-is)
+
+pub returns-then-can_only_end-clause-polls : goal.returns-then-can_only_end-clause-polls
+returns-then-can_only_end-clause-polls g c =
+    record { once = LastsOnce.used_up (ap (λ s. can_only_end s) (sym c.core.ensures) ∙ sym c.can_only_end.ensures ∙ c.if-can_only_end.true); same = refl; spent = tt }
 
 pub returns-in-Some-Done-clause-polls : goal.returns-in-Some-Done-clause-polls
 returns-in-Some-Done-clause-polls g c =
