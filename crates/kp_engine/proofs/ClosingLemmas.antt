@@ -21,6 +21,7 @@ use Rattle.kp_engine.specs.declared.exchange.Exchange.{Exchange}
 use Rattle.kp_engine.specs.declared.stop.Cause.{Cause}
 use Rattle.kp_engine.specs.declared.stop.Stop.{Stop}
 use Rattle.kp_engine.specs.declared.stop.Stop.TheVariants.{Done, NeedStream, OutOfMemory}
+use Rattle.kp_engine.proofs.RoundLemmas.{talk_closes_none, talk_serves}
 use Rattle.kp_engine.proofs.RunLemmas.{nothing_lived}
 use Rattle.kp_engine.proofs.ServedLemmas.{away_serves, end_serves, lead_serves, joined, only_core_serves, poll_serves_its}
 use Rattle.kp_engine.proofs.ServingLemmas.{before_nothing, items_until_none, none_asked, none_of, parts_none, reports_none, reports_until_none}
@@ -255,6 +256,10 @@ module _ {S : Type 0} (answers : Told S) where
         joined x y z calls turn.calls first.0 serves,
         closes_then x y z calls turn.calls first.0 serves first.1 (closes_then_here y turn.begun z turn.calls turn.cleared serves (away_closes turn.node turn.now cause turn.begun turn.calls stop z turn.turns)),
       )
+  both x _ _ places (Polled.talked y z calls its life before talk lives held only) =
+      let first = both x y calls places before in
+      let serves = talk_serves y z its life first.0.places talk lives held only in
+      (joined x y z calls its first.0 serves, closes_then x y z calls its first.0 serves first.1 (closes_never y z its serves (talk_closes_none its talk) only.closed))
   both x _ _ places (Polled.ended y z calls told before step only) =
       let first = both x y calls places before in
       let serves = end_serves y z told first.0.places step only in (
@@ -282,6 +287,8 @@ polls_then answers x y _ a _ first (Polled.once_more u z b line left result befo
     subst (λ (calls : List Call). Polled answers x calls z) (append_assoc a b its) (Polled.once_more u z (a ++ b) line left result (polls_then answers x y u a b first before) poll)
 polls_then answers x y _ a _ first (Polled.away u z b cause stop before turn) =
     subst (λ (calls : List Call). Polled answers x calls z) (append_assoc a b turn.calls) (Polled.away u z (a ++ b) cause stop (polls_then answers x y u a b first before) turn)
+polls_then answers x y _ a _ first (Polled.talked u z b its life before talk lives held only) =
+    subst (λ (calls : List Call). Polled answers x calls z) (append_assoc a b its) (Polled.talked u z (a ++ b) its life (polls_then answers x y u a b first before) talk lives held only)
 polls_then answers x y _ a _ first (Polled.ended u z b told before step only) =
     subst (λ (calls : List Call). Polled answers x calls z) (append_assoc a b (End told ∷ [])) (Polled.ended u z (a ++ b) told (polls_then answers x y u a b first before) step only)
 polls_then answers x y _ a _ first (Polled.led u z b partition leader now before step only) =

@@ -80,6 +80,14 @@ talked node now _ _ _ (TalkUntil.in_requests sent asked p) = record {
 }
 talked node now _ _ _ (TalkUntil.in_replies sent heard asked replied p q) = record { more = []; goes = both_go node now sent heard asked replied p q.made }
 
+pub talk_goes : (node now : ℕ) (sent : List Outgoing) (heard : List Heard) (asked replied : List Call) → RequestsPart node now sent asked → replied ≡ map (hears now) heard
+    → (flat_map asked_by (asked ++ replied) ≡ frames_of sent) × (flat_map replied_by (asked ++ replied) ≡ contents_of heard)
+talk_goes node now sent heard asked replied p is = let goes = both_go node now sent heard asked replied p is in (goes.out ∙ append-nil (frames_of sent), goes.back)
+
+pub talk_until_goes : (node now : ℕ) (sent : List Outgoing) (heard : List Heard) (calls : List Call) → TalkUntil node now sent heard calls
+    → (more : List (List ℕ)) × (flat_map asked_by calls ≡ frames_of sent ++ more) × (flat_map replied_by calls ≡ contents_of heard)
+talk_until_goes node now sent heard calls p = let spoke = talked node now sent heard calls p in (spoke.more, spoke.goes.out, spoke.goes.back)
+
 -- ---- with the other parts around them
 
 pub around : {A : Type 0} (f : Call → List A) (items tick talk reports : List Call) → flat_map f items ≡ [] → flat_map f tick ≡ [] → flat_map f reports ≡ []

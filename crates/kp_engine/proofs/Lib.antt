@@ -26,5 +26,6 @@ pub mod OpeningLemmas
 pub mod LaneLemmas
 pub mod StreamlessLemmas
 pub mod MadeLemmas
+pub mod RoundLemmas
 pub mod LineLemmas
 pub mod AwayLemmas

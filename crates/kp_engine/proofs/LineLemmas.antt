@@ -1,26 +1,27 @@
--- A turn for each of several lines.
+-- A round for each of several lines.
 use Rattle.std.proofs.Common.{◌≡◌, ℕ, suc, ◌+◌, ◌<◌, ◌≤◌, List, [], ◌∷◌, ◌++◌, length, take, drop, set, refl, sym, ap, ◌∙◌, subst, append_assoc, append-nil, arith}
-use Rattle.std.specs.Prelude.{Option, Some, None, find}
+use Rattle.std.specs.Prelude.{Option, Some, None, Result, Ok, Err, find, option_map}
 use Rattle.std.specs.List.{AllByRecursion}
+use Rattle.std.specs.declared.alloc.AllocError.{AllocError}
 use Rattle.std.proofs.lemmas.List.{drop-set-lt, drop_all, set_split, take_all, take_more_set}
-use Rattle.futures.specs.Poll.{OnPending}
 use Rattle.futures.specs.Task.{Covers, Keeps, Lasting}
 use Rattle.futures.specs.declared.task.Poll.{Poll}
-use Rattle.futures.specs.declared.task.Poll.TheVariants.{Ready, Pending}
 use Rattle.futures.specs.declared.task.context.Context.{Context}
 use Rattle.kp_wire.proofs.ListLemmas.{all_append}
-use Rattle.kp_connection.specs.Wire.{Told, Wired}
+use Rattle.kp_connection.specs.Wire.{Told}
 use Rattle.kp_rules.specs.Calls.{Call}
-use Rattle.kp_engine.specs.Closing.{Polled, calls_of_poll}
-use Rattle.kp_engine.specs.Engine.{IfOpen, Polls, stop_in}
-use Rattle.kp_engine.specs.Lines.{EndsWith, PollsEach, PollsLine, is_given_up, stop_at}
-use Rattle.kp_engine.specs.Polls.{GoesOnBehind}
+use Rattle.kp_engine.specs.Closing.{Polled}
+use Rattle.kp_engine.specs.Cluster.{PollsCluster}
+use Rattle.kp_engine.specs.Engine.{IfOpen, stop_in}
+use Rattle.kp_engine.specs.Lines.{LineRound, RoundOver, RoundsEach, is_given_up, is_lost, node_lost, stop_at}
+use Rattle.kp_engine.specs.declared.cluster.ClusterEngine.{ClusterEngine}
 use Rattle.kp_engine.specs.declared.engine.Line.{Line}
 use Rattle.kp_engine.specs.declared.engine.Line.TheVariants.{Open, Stopped}
 use Rattle.kp_engine.specs.declared.exchange.Exchange.{Exchange}
 use Rattle.kp_engine.specs.declared.node_line.NodeLine.{NodeLine}
 use Rattle.kp_engine.specs.declared.stop.Stop.{Stop}
 use Rattle.kp_engine.proofs.ClosingLemmas.{polls_then}
+use Rattle.kp_engine.proofs.RoundLemmas.{made_polled, round_made}
 
 -- ---- who wakes
 
@@ -49,63 +50,80 @@ one_wakes_more reader old new lines i l there keeps before wakes =
     subst (AllWake reader new) (sym (take_more_set lines i l there))
     (all_append (λ m. Wakes reader new m.line) (take i lines) (l ∷ []) (all_kept reader old new keeps (take i lines) before) (wakes, tt))
 
--- a turn that answered left its line stopped
-stopped_wakes : {S : Type 0} (answers : Told S) (reader : S → ℕ → Type 0) (cx : Context) (line : Line S) (x : Exchange) (stop : Stop) (y : Exchange) (left : Line S)
-    → Polls answers line x (Ready stop) y left → Wakes reader cx left
-stopped_wakes answers reader cx (Open wire) x stop y left p = subst (Wakes reader cx) (sym p.line) tt
-stopped_wakes answers reader cx (Stopped was) x stop y left p = subst (Wakes reader cx) (sym p.2) tt
+-- ---- a round for each
 
-pub polled_wakes : {S : Type 0} (answers : Told S) (reader : S → ℕ → Type 0) (cx : Context) (line : Line S) (x : Exchange) (result : Poll Stop) (y : Exchange) (left : Line S)
-    → Polls answers line x result y left → OnPending result (Wakes reader cx left) → Wakes reader cx left
-polled_wakes answers reader cx line x Pending y left p h = h
-polled_wakes answers reader cx line x (Ready stop) y left p h = stopped_wakes answers reader cx line x stop y left p
-
--- ---- a turn for each
-
--- What is left of the lines, polled from here on, makes all of them polled.
+-- What is left of the lines, from here on, makes all of them have their rounds.
 abbrev pub Carries : {S : Type 0} (answers : Told S) (now : ℕ) (x : Exchange) (lines : List (NodeLine S)) (y : Exchange) (ls : List (NodeLine S)) (i : ℕ) → Type 0
 Carries {S} answers now x lines y ls i =
-    (last : Poll Stop) (z : Exchange) (ms : List (NodeLine S)) → PollsEach answers now y (drop i ls) last z ms → PollsEach answers now x lines last z (take i ls ++ ms)
+    (last : Result (Unit {0}) AllocError) (z : Exchange) (ms : List (NodeLine S)) → RoundsEach answers now y (drop i ls) last z ms → RoundsEach answers now x lines last z (take i ls ++ ms)
 
 module _ {S : Type 0} (answers : Told S) (now : ℕ) (x : Exchange) (lines : List (NodeLine S)) (y : Exchange) (ls : List (NodeLine S)) (i : ℕ) (carries : Carries answers now x lines y ls i) where
-  pub all_polled : length ls ≤ i → PollsEach answers now x lines Pending y ls
-  all_polled all =
-      subst (PollsEach answers now x lines Pending y) (append-nil (take i ls) ∙ take_all i ls all)
-      (carries Pending y [] (subst (λ (rest : List (NodeLine S)). PollsEach answers now y rest Pending y []) (sym (drop_all i ls all)) (PollsEach.each_polled y)))
+  pub all_had_one : length ls ≤ i → RoundsEach answers now x lines (Ok tt) y ls
+  all_had_one all =
+      subst (RoundsEach answers now x lines (Ok tt) y) (append-nil (take i ls) ∙ take_all i ls all)
+      (carries (Ok tt) y [] (subst (λ (rest : List (NodeLine S)). RoundsEach answers now y rest (Ok tt) y []) (sym (drop_all i ls all)) (RoundsEach.each_had_one y)))
 
   module _ (z : Exchange) (l m : NodeLine S) (there : i < length ls) (is : drop i ls ≡ l ∷ drop (i + 1) ls) where
-    pub carries_on : (result : Poll Stop) → PollsLine answers now l y result z m → GoesOnBehind result → Carries answers now x lines z (set ls i m) (i + 1)
-    carries_on result line on last u ms rest =
-        let later : PollsEach answers now z (drop (i + 1) ls) last u ms =
-        subst (λ (left : List (NodeLine S)). PollsEach answers now z left last u ms) (drop-set-lt (i + 1) ls i m (omega arith)) rest in
-        let all : PollsEach answers now x lines last u (take i ls ++ m ∷ ms) =
-        carries last u (m ∷ ms) (subst (λ (left : List (NodeLine S)). PollsEach answers now y left last u (m ∷ ms)) (sym is)
-        (PollsEach.goes_on y z u l m (drop (i + 1) ls) ms result last line on later)) in
-        subst (PollsEach answers now x lines last u) (sym (append_assoc (take i ls) (m ∷ []) ms) ∙ ap (λ (front : List (NodeLine S)). front ++ ms) (sym (take_more_set ls i m there))) all
+    pub carries_on : LineRound answers now l y (Ok tt) z m → Carries answers now x lines z (set ls i m) (i + 1)
+    carries_on line last u ms rest =
+        let later : RoundsEach answers now z (drop (i + 1) ls) last u ms =
+        subst (λ (left : List (NodeLine S)). RoundsEach answers now z left last u ms) (drop-set-lt (i + 1) ls i m (omega arith)) rest in
+        let all : RoundsEach answers now x lines last u (take i ls ++ m ∷ ms) =
+        carries last u (m ∷ ms) (subst (λ (left : List (NodeLine S)). RoundsEach answers now y left last u (m ∷ ms)) (sym is)
+        (RoundsEach.goes_on y z u l m (drop (i + 1) ls) ms last line later)) in
+        subst (RoundsEach answers now x lines last u) (sym (append_assoc (take i ls) (m ∷ []) ms) ∙ ap (λ (front : List (NodeLine S)). front ++ ms) (sym (take_more_set ls i m there))) all
 
-    pub ends_here : (result : Poll Stop) (stop : Stop) → PollsLine answers now l y result z m → EndsWith result stop → PollsEach answers now x lines (Ready stop) z (set ls i m)
-    ends_here result stop line ends =
+    pub ends_here : (refused : AllocError) → LineRound answers now l y (Err refused) z m → RoundsEach answers now x lines (Err refused) z (set ls i m)
+    ends_here refused line =
         let next : suc i ≡ i + 1 = omega arith in
         let split : set ls i m ≡ take i ls ++ m ∷ drop (i + 1) ls = set_split ls i m there ∙ ap (λ (n : ℕ). take i ls ++ m ∷ drop n ls) next in
-        subst (PollsEach answers now x lines (Ready stop) z) (sym split)
-        (carries (Ready stop) z (m ∷ drop (i + 1) ls) (subst (λ (left : List (NodeLine S)). PollsEach answers now y left (Ready stop) z (m ∷ drop (i + 1) ls)) (sym is)
-        (PollsEach.ends y z l m (drop (i + 1) ls) result stop line ends)))
+        subst (RoundsEach answers now x lines (Err refused) z) (sym split)
+        (carries (Err refused) z (m ∷ drop (i + 1) ls) (subst (λ (left : List (NodeLine S)). RoundsEach answers now y left (Err refused) z (m ∷ drop (i + 1) ls)) (sym is)
+        (RoundsEach.ends y z l m (drop (i + 1) ls) refused line)))
 
--- a poll more
-one_line_more : {S : Type 0} (answers : Told S) (x y : Exchange) (line left : Line S) (result : Poll Stop) → Polls answers line x result y left
-    → (calls : List Call) × Polled answers x calls y
-one_line_more answers x y line left result poll =
-    (calls_of_poll answers line x result y left poll, Polled.once_more x y [] line left result Polled.not_yet poll)
+pub rounds_as_many : {S : Type 0} (answers : Told S) (now : ℕ) (x y : Exchange) (ls ms : List (NodeLine S)) (result : Result (Unit {0}) AllocError) → RoundsEach answers now x ls result y ms
+    → length ms ≡ length ls
+rounds_as_many answers now _ _ _ _ _ (RoundsEach.each_had_one x) = refl
+rounds_as_many answers now _ _ _ _ _ (RoundsEach.goes_on x y z l m ls ms last line rest) = ap suc (rounds_as_many answers now y z ls ms last rest)
+rounds_as_many answers now _ _ _ _ _ (RoundsEach.ends x y l m ls refused line) = refl
 
--- they are polls, one behind the other
-pub each_polled_so : {S : Type 0} (answers : Told S) (now : ℕ) (x y : Exchange) (ls ms : List (NodeLine S)) (result : Poll Stop)
-    → PollsEach answers now x ls result y ms → (calls : List Call) × Polled answers x calls y
-each_polled_so answers now x _ _ _ _ (PollsEach.each_polled _) = ([], Polled.not_yet)
-each_polled_so answers now x _ _ _ _ (PollsEach.goes_on _ y z l m ls ms result last line on rest) =
-    let first : (calls : List Call) × Polled answers x calls y = one_line_more answers x y l.line m.line result line.polls in
-    let others : (calls : List Call) × Polled answers y calls z = each_polled_so answers now y z ls ms last rest in
+-- ---- they are polls
+
+abbrev ArePolls : {S : Type 0} → Told S → Exchange → Exchange → Type 0
+ArePolls answers x y = (calls : List Call) × Polled answers x calls y
+
+none_polled : {S : Type 0} (answers : Told S) (x y : Exchange) → y ≡ x → ArePolls answers x y
+none_polled answers x y is = subst (ArePolls answers x) (sym is) ([], Polled.not_yet)
+
+round_polled : {S : Type 0} (answers : Told S) (node now : ℕ) (line : Line S) (x : Exchange) (result : Result (Unit {0}) AllocError) (y : Exchange) (left : Line S)
+    → RoundOver answers node now line x result y left → ArePolls answers x y
+round_polled answers node now (Open wire) x result y left r =
+    (r.0.calls, made_polled answers x x y [] r.0.calls Polled.not_yet (round_made answers node now x wire r.0.calls r.0.told y left r.0.round))
+round_polled answers node now (Stopped stop) x result y left r = none_polled answers x y r.0
+
+rounds_polled : {S : Type 0} (answers : Told S) (now : ℕ) (x y : Exchange) (ls ms : List (NodeLine S)) (result : Result (Unit {0}) AllocError)
+    → RoundsEach answers now x ls result y ms → ArePolls answers x y
+rounds_polled answers now x _ _ _ _ (RoundsEach.each_had_one _) = ([], Polled.not_yet)
+rounds_polled answers now x _ _ _ _ (RoundsEach.goes_on _ y z l m ls ms last line rest) =
+    let first = round_polled answers l.node now l.line x (Ok tt) y m.line line.round in
+    let others = rounds_polled answers now y z ls ms last rest in
     (first.0 ++ others.0, polls_then answers x y z first.0 others.0 first.1 others.1)
-each_polled_so answers now x _ _ _ _ (PollsEach.ends _ y l m ls result stop line ends) = one_line_more answers x y l.line m.line result line.polls
+rounds_polled answers now x _ _ _ _ (RoundsEach.ends _ y l m ls refused line) = round_polled answers l.node now l.line x (Err refused) y m.line line.round
+
+-- a poll over several
+pub cluster_polled : {S C : Type 0} (answers : Told S) (moments : C → List ℕ) (old new : ClusterEngine S C) (result : Poll Stop)
+    → PollsCluster answers moments old result new → ArePolls answers old.exchange new.exchange
+cluster_polled answers moments old _ _ (PollsCluster.was_over stop is) = ([], Polled.not_yet)
+cluster_polled answers moments old _ _ (PollsCluster.is_over new stop open_still had ends lines over) =
+    (had.turn.calls, Polled.away old.exchange new.exchange [] _ stop Polled.not_yet had.turn)
+cluster_polled answers moments old _ _ (PollsCluster.goes_on new stop mid result open_still had goes rounds over) =
+    let others = rounds_polled answers had.turn.now mid new.exchange old.lines.items new.lines.items result rounds in
+    (had.turn.calls ++ others.0, polls_then answers old.exchange mid new.exchange had.turn.calls others.0 (Polled.away old.exchange mid [] _ stop Polled.not_yet had.turn) others.1)
+
+-- ---- those that were given up
+
+pub node_found : {S : Type 0} (ls : List (NodeLine S)) (o : Option (NodeLine S)) → o ≡ find is_lost ls → option_map (λ l. l.node) o ≡ node_lost ls
+node_found ls o is = ap (λ (x : Option (NodeLine _)). option_map (λ l. l.node) x) is
 
 -- ---- what one was given up for
 

@@ -1,10 +1,12 @@
 -- Polls of the engine one after the other, with all their calls, and how often they close the core.
 use Rattle.std.specs.Prelude.{◌≡◌, ◌||◌, ℕ, Bool, false, List, [], ◌∷◌, ◌++◌, flat_map, IsTrue}
+use Rattle.std.specs.List.{AllByRecursion}
 use Rattle.std.proofs.Common.{inl, inr}
 use Rattle.futures.specs.declared.task.Poll.{Poll}
 use Rattle.futures.specs.declared.task.Poll.TheVariants.{Ready, Pending}
 use Rattle.kp_connection.specs.Wire.{Told, Wired}
-use Rattle.kp_rules.specs.Calls.{Call, Close, End, Lead, Step}
+use Rattle.kp_rules.specs.Calls.{Call, Close, Disconnect, End, Lead, Life, Lives, Reply, Request, Step, Tick}
+use Rattle.kp_rules.specs.InOrder.{IsHeld}
 use Rattle.kp_engine.specs.Away.{MakesTurnAway}
 use Rattle.kp_engine.specs.Engine.{Polls}
 use Rattle.kp_engine.specs.Exchange.{AreIdle, IsQuiet, OnlyCore}
@@ -35,14 +37,24 @@ abbrev pub calls_of_poll : {S : Type 0} (answers : Told S) (line : Line S) (x : 
 calls_of_poll answers (Open wire) x result y left poll = calls_of_turn answers poll.node poll.now poll.begun wire result y poll.after poll.turns
 calls_of_poll answers (Stopped stop) x result y left poll = []
 
--- Polls, ends and leaders told, one after the other, each poll over whatever connection there is then, or with none: all
--- their calls.
+-- it looks at the clock for a node, asks for a request, hears a reply or drops what is in flight
+abbrev pub IsTalk : Call → Type 0
+IsTalk (Tick node now answer) = Unit {0}
+IsTalk (Request node now answer) = Unit {0}
+IsTalk (Reply now content answer) = Unit {0}
+IsTalk (Disconnect node now) = Unit {0}
+IsTalk call = ⊥
+
+-- Polls, ends and leaders told, one after the other, each poll over whatever connection there is then, or with none, and behind
+-- it the rounds of several, and connections that are dropped: all their calls.
 pub data Polled {S : Type 0} (answers : Told S) (x : Exchange) : List Call → Exchange → Type 0 where
   not_yet : Polled answers x [] x
   once_more : (y z : Exchange) (calls : List Call) (line left : Line S) (result : Poll Stop) → Polled answers x calls y
       → (poll : Polls answers line y result z left) → Polled answers x (calls ++ calls_of_poll answers line y result z left poll) z
   away : (y z : Exchange) (calls : List Call) (cause : Cause) (stop : Stop) → Polled answers x calls y
       → (turn : MakesTurnAway cause y stop z) → Polled answers x (calls ++ turn.calls) z
+  talked : (y z : Exchange) (calls its : List Call) (life : Life) → Polled answers x calls y → AllByRecursion IsTalk its
+      → Lives y.core its life z.core → AllByRecursion IsHeld its → OnlyCore y z → Polled answers x (calls ++ its) z
   ended : (y z : Exchange) (calls : List Call) (told : ℕ) → Polled answers x calls y → Step y.core (End told) z.core
       → OnlyCore y z → Polled answers x (calls ++ End told ∷ []) z
   led : (y z : Exchange) (calls : List Call) (partition leader now : ℕ) → Polled answers x calls y

@@ -1,21 +1,32 @@
--- Connections, each to a node, and a turn for each.
-use Rattle.std.specs.Prelude.{◌≡◌, ◌++◌, ◌==◌, ◌&&◌, ℕ, Bool, List, [], ◌∷◌, not, filter, find, Option, Some, None, is_some}
-use Rattle.std.specs.List.{AllByRecursion}
-use Rattle.futures.specs.declared.task.Poll.{Poll}
-use Rattle.futures.specs.declared.task.Poll.TheVariants.{Ready, Pending}
+-- Connections, each to a node, and a round for each.
+use Rattle.std.specs.Prelude.{◌≡◌, ◌≢◌, ◌++◌, ◌==◌, ◌&&◌, ℕ, Bool, List, [], ◌∷◌, not, filter, find, Option, Some, None, is_some, option_map, Result, Ok, Err}
+use Rattle.std.specs.declared.alloc.AllocError.{AllocError}
 use Rattle.kp_connection.specs.Wire.{Told}
-use Rattle.kp_engine.specs.Engine.{IsFor, Polls, fresh_wire, moments_in, stop_in}
-use Rattle.kp_engine.specs.Polls.{GoesOnBehind}
-use Rattle.kp_engine.specs.declared.engine.Line.TheVariants.{Open}
+use Rattle.kp_engine.specs.Engine.{fresh_wire, stop_in}
+use Rattle.kp_engine.specs.Rounds.{HasRound}
+use Rattle.kp_engine.specs.declared.engine.Line.{Line}
+use Rattle.kp_engine.specs.declared.engine.Line.TheVariants.{Open, Stopped}
 use Rattle.kp_engine.specs.declared.exchange.Exchange.{Exchange}
 use Rattle.kp_engine.specs.declared.node_line.NodeLine.{NodeLine}
 use Rattle.kp_engine.specs.declared.stop.Stop.{Stop}
+use Rattle.kp_engine.specs.declared.stop.Stop.TheVariants.{OutOfMemory}
 
 -- ---- connections
 
+-- it goes to this node
+abbrev pub goes_to : {S : Type 0} → ℕ → NodeLine S → Bool
+goes_to node l = l.node == node
+
+abbrev pub is_lost : {S : Type 0} → NodeLine S → Bool
+is_lost l = is_some (stop_in l.line)
+
+-- the node of the first one that was given up
+abbrev pub node_lost : {S : Type 0} → List (NodeLine S) → Option ℕ
+node_lost ls = option_map (λ l. l.node) (find is_lost ls)
+
 -- it was given up, and went to this node
 abbrev pub is_given_up : {S : Type 0} → ℕ → NodeLine S → Bool
-is_given_up node l = l.node == node && is_some (stop_in l.line)
+is_given_up node l = goes_to node l && is_lost l
 
 -- what the first one to this node that was given up was so for
 abbrev pub stop_at : {S : Type 0} → ℕ → List (NodeLine S) → Option Stop
@@ -32,28 +43,26 @@ pub record Connects {S : Type 0} (node : ℕ) (stream : S) (old new : List (Node
   pub fresh : IsFresh node stream last
   pub all : new ≡ filter (λ l. not (is_given_up node l)) old ++ last ∷ []
 
--- ---- a turn for each
+-- ---- a round for each
 
--- each of these moments is this one
-abbrev pub AreAt : ℕ → List ℕ → Type 0
-AreAt now moments = AllByRecursion (λ at. at ≡ now) moments
+-- whether it says that memory was refused
+abbrev pub TellsRefusal : {S : Type 0} → Line S → Result (Unit {0}) AllocError → Type 0
+TellsRefusal line (Ok done) = line ≢ Stopped OutOfMemory
+TellsRefusal line (Err refused) = line ≡ Stopped OutOfMemory
 
--- One turn was made for its node at this moment, unless it was given up before.
-pub record PollsLine {S : Type 0} (answers : Told S) (now : ℕ) (old : NodeLine S) (x : Exchange) (result : Poll Stop) (y : Exchange) (new : NodeLine S) : Type 0 where
-  pub polls : Polls answers old.line x result y new.line
-  pub its : IsFor answers old.node old.line x result y new.line polls
-  pub at : AreAt now (moments_in answers old.line x result y new.line polls)
+-- What is left of the line by its round at this moment, for its node; where it was given up before there is none.
+abbrev pub RoundOver : {S : Type 0} → Told S → (node now : ℕ) → Line S → Exchange → Result (Unit {0}) AllocError → Exchange → Line S → Type 0
+RoundOver answers node now (Open wire) x result y left = HasRound answers node now x wire y left × TellsRefusal left result
+RoundOver answers node now (Stopped stop) x result y left = (y ≡ x) × (left ≡ Stopped stop) × (result ≡ Ok tt)
+
+pub record LineRound {S : Type 0} (answers : Told S) (now : ℕ) (old : NodeLine S) (x : Exchange) (result : Result (Unit {0}) AllocError) (y : Exchange) (new : NodeLine S) : Type 0 where
+  pub round : RoundOver answers old.node now old.line x result y new.line
   pub node : new.node ≡ old.node
 
--- The poll ends with this, where the turn over one connection came to it.
-abbrev pub EndsWith : Poll Stop → Stop → Type 0
-EndsWith turned stop = (turned ≡ Ready stop) × (GoesOnBehind turned → ⊥)
-
--- A turn for each, in their order, until nothing is left to do or memory is refused. One that is given up, now or before,
--- stops no other.
-pub data PollsEach {S : Type 0} (answers : Told S) (now : ℕ) : Exchange → List (NodeLine S) → Poll Stop → Exchange → List (NodeLine S) → Type 0 where
-  each_polled : (x : Exchange) → PollsEach answers now x [] Pending x []
-  goes_on : (x y z : Exchange) (l m : NodeLine S) (ls ms : List (NodeLine S)) (result last : Poll Stop) → PollsLine answers now l x result y m
-      → GoesOnBehind result → PollsEach answers now y ls last z ms → PollsEach answers now x (l ∷ ls) last z (m ∷ ms)
-  ends : (x y : Exchange) (l m : NodeLine S) (ls : List (NodeLine S)) (result : Poll Stop) (stop : Stop) → PollsLine answers now l x result y m
-      → EndsWith result stop → PollsEach answers now x (l ∷ ls) (Ready stop) y (m ∷ ls)
+-- A round for each, in their order, until memory is refused. One that is given up, now or before, stops no other.
+pub data RoundsEach {S : Type 0} (answers : Told S) (now : ℕ) : Exchange → List (NodeLine S) → Result (Unit {0}) AllocError → Exchange → List (NodeLine S) → Type 0 where
+  each_had_one : (x : Exchange) → RoundsEach answers now x [] (Ok tt) x []
+  goes_on : (x y z : Exchange) (l m : NodeLine S) (ls ms : List (NodeLine S)) (last : Result (Unit {0}) AllocError) → LineRound answers now l x (Ok tt) y m
+      → RoundsEach answers now y ls last z ms → RoundsEach answers now x (l ∷ ls) last z (m ∷ ms)
+  ends : (x y : Exchange) (l m : NodeLine S) (ls : List (NodeLine S)) (refused : AllocError) → LineRound answers now l x (Err refused) y m
+      → RoundsEach answers now x (l ∷ ls) (Err refused) y (m ∷ ls)

@@ -19,9 +19,9 @@ ghost use Rattle.kp_rules.specs.declared.names.Names.{Names};
 ghost use Rattle.kp_rules.specs.declared.outgoing.Outgoing.{Outgoing};
 ghost use Rattle.kp_engine.specs.Away.{MakesTurnAway};
 ghost use Rattle.kp_engine.specs.Closing.{ClosesOnce, Polled};
+ghost use Rattle.kp_engine.specs.Cluster.{PollsCluster};
 ghost use Rattle.kp_engine.specs.Engine.{IsNew, Polls};
 ghost use Rattle.kp_engine.specs.Exchange.{senders_of, side_of, OnlyCore};
-ghost use Rattle.kp_engine.specs.Lines.{PollsEach};
 ghost use Rattle.kp_engine.specs.Opening.{MayTurn};
 ghost use Rattle.kp_engine.specs.Parts.{ArePartsOf, IsAccounted};
 ghost use Rattle.kp_engine.specs.Polls.{Turn, Turns, TurnUntil};
@@ -30,11 +30,12 @@ ghost use Rattle.kp_engine.specs.Talking.{contents_of, frames_of};
 ghost use Rattle.kp_engine.specs.Turn.{Heard};
 ghost use Rattle.kp_engine.specs.declared.engine.Line.{Line};
 ghost use Rattle.kp_engine.specs.declared.exchange.Exchange.{Exchange};
-ghost use Rattle.kp_engine.specs.declared.node_line.NodeLine.{NodeLine};
+ghost use Rattle.kp_engine.specs.declared.cluster.ClusterEngine.{ClusterEngine};
 ghost use Rattle.kp_engine.specs.declared.parts.Parts.{Parts};
 ghost use Rattle.kp_engine.specs.declared.stop.Cause.{Cause};
 ghost use Rattle.kp_engine.specs.declared.stop.Stop.{Stop};
 
+use crate::clock::Clock;
 use kp_connection::Stream;
 
 // ---- polls serve
@@ -44,10 +45,10 @@ pub fn polls_join<S: Stream>()
     ensures { (x y z : Exchange) (a b : List Call) → Polled S.answers x a y → Polled S.answers y b z → Polled S.answers x (a ++ b) z }
 {}
 
-/// A turn for each of several connections is polls, one behind the other.
-pub fn turns_for_each_are_polls<S: Stream>()
-    ensures { (now : ℕ) (x y : Exchange) (ls ms : List (NodeLine S)) (result : Poll Stop)
-        → PollsEach S.answers now x ls result y ms → (calls : List Call) × Polled S.answers x calls y }
+/// A poll over several connections is polls, one behind the other.
+pub fn a_poll_over_several_is_polls<S: Stream, C: Clock>()
+    ensures { (old new : ClusterEngine S C) (result : Poll Stop)
+        → PollsCluster S.answers C.moments old result new → (calls : List Call) × Polled S.answers old.exchange calls new.exchange }
 {}
 
 /// A turn serves, whatever it answers: also where it is cut, and where memory is refused.

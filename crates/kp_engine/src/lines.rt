@@ -1,50 +1,43 @@
-//! Several connections, each to a node, and a turn for each.
+//! Several connections, each to a node, and a round for each.
 
-ghost use Rattle.std.specs.Prelude.{◌≡◌, MatchOption, find};
+ghost use Rattle.std.specs.Prelude.{◌≡◌, OnOk, find};
 ghost use Rattle.std.specs.List.{AllByRecursion};
 ghost use Rattle.std.specs.Option.{option_copied};
-ghost use Rattle.futures.specs.Poll.{OnPending};
 ghost use Rattle.futures.specs.Task.{Covers, Keeps};
 ghost use Rattle.kp_engine.specs.Engine.{IfOpen};
-ghost use Rattle.kp_engine.specs.Lines.{EndsWith, PollsEach, is_given_up};
-ghost use Rattle.kp_engine.specs.Polls.{GoesOnBehind};
+ghost use Rattle.kp_engine.specs.Lines.{RoundsEach, is_given_up, is_lost};
 
 use crate::exchange::Exchange;
 use crate::node_line::NodeLine;
-use crate::stop::Stop;
-use futures::task::{Context, Poll};
+use futures::task::Context;
 use kp_connection::Stream;
+use std::alloc::AllocError;
 
-/// A turn for each connection, in their order. Ready where nothing is left to do, or memory was refused. A pending one is
-/// woken by each that is still open.
-pub(crate) fn poll_lines<S: Stream>(
+/// A round for each connection at this moment, in their order. Behind it each that is still open wakes who polls.
+pub(crate) fn poll_rounds<S: Stream>(
     exchange: &mut Exchange,
     lines: &mut [NodeLine<S>],
     cx: &mut Context<'_>,
     now: u64,
-) -> Poll<Stop>
-    ensures polls { PollsEach S.answers now exchange.old lines.old result exchange.new lines.new }
-    ensures registered { OnPending result (AllByRecursion (λ l. IfOpen l.line (λ wire. Covers cx.new (S.reader wire.stream))) lines.new) }
+) -> Result<(), AllocError>
+    ensures rounds { RoundsEach S.answers now exchange.old lines.old result exchange.new lines.new }
+    ensures registered { OnOk result (AllByRecursion (λ l. IfOpen l.line (λ wire. Covers cx.new (S.reader wire.stream))) lines.new) }
     ensures kept { Keeps cx.old cx.new }
 {
     for line in lines.iter_mut() {
-        if let Some(stop) = end_of(line.poll_turn(exchange, cx, now)) {
-            return Poll::Ready(stop);
+        match line.poll_round(exchange, cx, now) {
+            Ok(()) => {}
+            Err(refused) => return Err(refused),
         }
     }
-    Poll::Pending
+    Ok(())
 }
 
-/// With what the poll ends, where the turn over one connection came to this: a connection that waits, or was given up, stops
-/// no other.
-fn end_of(turned: Poll<Stop>) -> Option<Stop>
-    ensures { MatchOption result (GoesOnBehind turned) (λ stop. EndsWith turned stop) }
+/// The first connection that was given up.
+pub(crate) fn first_lost<S: Stream>(lines: &[NodeLine<S>]) -> Option<&NodeLine<S>>
+    ensures { option_copied result ≡ find is_lost lines.now }
 {
-    match turned {
-        Poll::Ready(Stop::Done) => Some(Stop::Done),
-        Poll::Ready(Stop::OutOfMemory) => Some(Stop::OutOfMemory),
-        Poll::Ready(Stop::NeedStream(_)) | Poll::Pending => None,
-    }
+    lines.iter().find(|line| line.is_lost())
 }
 
 /// The first connection to this node that was given up.

@@ -1,17 +1,16 @@
 //! A connection to a node.
 
-ghost use Rattle.std.specs.Prelude.{◌≡◌, true};
-ghost use Rattle.futures.specs.Poll.{OnPending};
+ghost use Rattle.std.specs.Prelude.{◌≡◌, true, OnOk};
 ghost use Rattle.futures.specs.Task.{Covers, Keeps};
 ghost use Rattle.kp_engine.specs.Engine.{IfOpen, is_sound, stop_in};
 
 use crate::engine::Line;
 use crate::exchange::Exchange;
 use crate::stop::Stop;
-use crate::turn::turn;
-use futures::task::{Context, Poll};
+use crate::turn::round::round;
+use futures::task::Context;
 use kp_connection::{Stream, Wire};
-use std::alloc::Global;
+use std::alloc::{AllocError, Global};
 
 /// The connection to a node.
 #[derive(Drop)]
@@ -22,7 +21,7 @@ pub(crate) struct NodeLine<S> {
 }
 
 impl<S: Stream> NodeLine<S> {
-    ghost use Rattle.kp_engine.specs.Lines.{IsFresh, PollsLine, is_given_up};
+    ghost use Rattle.kp_engine.specs.Lines.{IsFresh, LineRound, goes_to, is_given_up, is_lost};
 
     /// A connection to this node, over which nothing was written or read.
     pub(crate) fn new(alloc: Global, node: u32, stream: S) -> NodeLine<S>
@@ -34,11 +33,32 @@ impl<S: Stream> NodeLine<S> {
         }
     }
 
+    /// Whether it goes to this node.
+    pub(crate) fn goes_to(&self, node: u32) -> bool
+        ensures { result ≡ goes_to node self.now }
+    {
+        self.node == node
+    }
+
+    /// The node that it goes to.
+    pub(crate) fn node(&self) -> u32
+        ensures { result ≡ self.now.node }
+    {
+        self.node
+    }
+
+    /// Whether it was given up.
+    pub(crate) fn is_lost(&self) -> bool
+        ensures { result ≡ is_lost self.now }
+    {
+        self.stopped().is_some()
+    }
+
     /// Whether it went to this node and was given up.
     pub(crate) fn is_given_up(&self, node: u32) -> bool
         ensures { result ≡ is_given_up node self.now }
     {
-        self.node == node && self.stopped().is_some()
+        self.goes_to(node) && self.is_lost()
     }
 
     /// What it was given up for, if it was.
@@ -51,26 +71,31 @@ impl<S: Stream> NodeLine<S> {
         }
     }
 
-    /// One turn for its node, unless it was given up: then the same is answered again.
-    pub(crate) fn poll_turn(
+    /// Its round in a poll at this moment, unless it was given up: then there is none.
+    pub(crate) fn poll_round(
         &mut self,
         exchange: &mut Exchange,
         cx: &mut Context<'_>,
         now: u64,
-    ) -> Poll<Stop>
-        ensures polls { PollsLine S.answers now self.old exchange.old result exchange.new self.new }
-        ensures registered { OnPending result (IfOpen self.new.line (λ wire. Covers cx.new (S.reader wire.stream))) }
+    ) -> Result<(), AllocError>
+        ensures round { LineRound S.answers now self.old exchange.old result exchange.new self.new }
+        ensures registered { OnOk result (IfOpen self.new.line (λ wire. Covers cx.new (S.reader wire.stream))) }
         ensures kept { Keeps cx.old cx.new }
     {
-        exchange.clear();
         let wire = match &mut self.line {
-            Line::Stopped(stop) => return Poll::Ready(*stop),
+            Line::Stopped(_) => return Ok(()),
             Line::Open(wire) => wire,
         };
-        let polled = turn(exchange, wire, cx, self.node, now);
-        if let Poll::Ready(stop) = &polled {
-            self.line = Line::Stopped(*stop);
+        match round(exchange, wire, cx, self.node, now) {
+            Ok(None) => Ok(()),
+            Ok(Some(cause)) => {
+                self.line = Line::Stopped(Stop::NeedStream(cause));
+                Ok(())
+            }
+            Err(refused) => {
+                self.line = Line::Stopped(Stop::OutOfMemory);
+                Err(refused)
+            }
         }
-        polled
     }
 }

@@ -9,6 +9,7 @@ ghost use Rattle.kp_engine.specs.Polls.{GoesOnBehind, IsUndone, TalksAll, Turns,
 pub(crate) mod away;
 mod ending;
 mod hearing;
+pub(crate) mod round;
 mod writing;
 
 use crate::exchange::Exchange;

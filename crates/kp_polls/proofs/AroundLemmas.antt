@@ -12,24 +12,24 @@ use Rattle.kp_engine.proofs.BegunLemmas.{empty_at, new_places, since_new}
 use Rattle.kp_engine.proofs.ClosingLemmas.{polls_serve}
 use Rattle.kp_engine.proofs.FreshLemmas.{none_at}
 use Rattle.kp_engine.proofs.IntakeLemmas.{taken_is}
-use Rattle.kp_headline.specs.Assumptions.{IsHonest, IsNotMadeUp, IsInTurn, KeepsIdsApart, Assumed}
-use Rattle.kp_headline.specs.Laws.{AfterAnyMoves, calls_in, LeadTo}
-use Rattle.kp_headline.specs.Moves.{Move, Calling, IsMove, AreMoves, Throughout, after, led}
-use Rattle.kp_headline.specs.Offering.{AllOffered, AreOffered, MayComeFirst, accepting, having_accepted}
-use Rattle.kp_headline.specs.Outside.{State, new_state}
+use Rattle.kp_headline.specs.Assumptions.{IsInTurn}
+use Rattle.kp_headline.specs.Laws.{AfterAnyMoves, LeadTo}
+use Rattle.kp_headline.specs.Moves.{Move, Throughout, led}
+use Rattle.kp_headline.specs.Offering.{AllOffered, AreOffered, having_accepted}
+use Rattle.kp_headline.specs.Outside.{State}
 use Rattle.kp_headline.proofs.LifeLemmas.{leads_to}
 use Rattle.kp_headline.proofs.FedLemmas.{Alone, all_alone, of_fed}
 use Rattle.kp_lanes.specs.Entries.{items_of}
 use Rattle.kp_lanes.specs.Intake.{lanes_of, passed_lists, passed_of}
 use Rattle.kp_lanes.specs.declared.intake.Intake.{Intake}
 use Rattle.kp_rules.specs.Auditing.{opened, without_audits}
-use Rattle.kp_rules.specs.Calls.{Call, Life, Lives}
+use Rattle.kp_rules.specs.Calls.{Call, Lives}
 use Rattle.kp_rules.specs.Opening.{new_core}
 use Rattle.kp_rules.specs.Records.{Core}
 use Rattle.kp_rules.specs.Reports.{reports_to}
 use Rattle.kp_rules.proofs.ListLemmas.{all_front}
 use Rattle.kp_world.specs.World.{Opening}
-use Rattle.kp_headline.specs.Around.{Around, AssumedAround, accepted_in}
+use Rattle.kp_headline.specs.Around.{Around}
 use Rattle.kp_polls.specs.Around.{AfterAnyPolls, AroundAnyPolls}
 use Rattle.kp_polls.specs.Laws.{ReportsAreOfTold}
 use Rattle.kp_polls.specs.Polling.{HaveAccepted, Polling, core_of}

@@ -17,6 +17,7 @@ use Rattle.kp_engine.specs.declared.engine.Line.TheVariants.{Open, Stopped}
 use Rattle.kp_engine.specs.declared.exchange.Exchange.{Exchange}
 use Rattle.kp_engine.specs.declared.stop.Stop.TheVariants.{NeedStream}
 use Rattle.kp_engine.proofs.ClosingLemmas.{polls_serve, polls_then}
+use Rattle.kp_engine.proofs.RoundLemmas.{made_polled, made_serves, round_made}
 use Rattle.kp_engine.proofs.ServedLemmas.{away_serves, poll_serves_its}
 use Rattle.kp_frames.specs.declared.frame.TheConstants.{CONTENT_LIMIT}
 use Rattle.kp_frames.specs.Stream.{Split, at_most, frame, stream}
@@ -204,6 +205,9 @@ over_polls answers first calls given x _ _ _ _ _ p OverStream.not_yet = subst (�
 over_polls answers first calls given x _ _ _ _ _ p (OverStream.once_more y z more mine xs line left result before poll) =
     subst (λ (cs : List Call). Polled answers first cs z) (append_assoc calls more (calls_of_poll answers line y result z left poll))
     (Polled.once_more y z (calls ++ more) line left result (over_polls answers first calls given x more mine xs y line p before) poll)
+over_polls answers first calls given x _ _ _ _ _ p (OverStream.talked y z more mine its xs news node now wire left before round) =
+    subst (λ (cs : List Call). Polled answers first cs z) (append_assoc calls more its)
+    (made_polled answers first y z (calls ++ more) its (over_polls answers first calls given x more mine xs y (Open wire) p before) (round_made answers node now y wire its news z left round))
 over_polls answers first calls given x _ _ _ _ _ p (OverStream.away y z more mine xs cause stop before turn) =
     subst (λ (cs : List Call). Polled answers first cs z) (append_assoc calls more turn.calls)
     (Polled.away y z (calls ++ more) cause stop (over_polls answers first calls given x more mine xs y (Stopped (NeedStream cause)) p before) turn)
@@ -284,6 +288,9 @@ over_framed answers c names given x _ _ _ _ _ places config named order OverStre
 over_framed answers c names given x _ _ _ _ _ places config named order (OverStream.once_more y z calls mine xs line left result before poll) =
     let p : FramedOver c names x calls mine y = over_framed answers c names given x calls mine xs y line places config named order before in
     mine_then c names x y z calls mine (calls_of_poll answers line y result z left poll) p (poll_serves_its answers line y result z left p.places poll)
+over_framed answers c names given x _ _ _ _ _ places config named order (OverStream.talked y z calls mine its xs news node now wire left before round) =
+    let p : FramedOver c names x calls mine y = over_framed answers c names given x calls mine xs y (Open wire) places config named order before in
+    mine_then c names x y z calls mine its p (made_serves y z its p.places (round_made answers node now y wire its news z left round))
 over_framed answers c names given x _ _ _ _ _ places config named order (OverStream.away y z calls mine xs cause stop before turn) =
     let p : FramedOver c names x calls mine y = over_framed answers c names given x calls mine xs y (Stopped (NeedStream cause)) places config named order before in
     mine_then c names x y z calls mine turn.calls p (away_serves cause y stop z p.places turn)

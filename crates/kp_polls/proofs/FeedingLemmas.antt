@@ -10,7 +10,7 @@ use Rattle.futures.specs.declared.task.Poll.TheVariants.{Ready, Pending}
 use Rattle.kp_accum.specs.declared.item.Item.{Item}
 use Rattle.kp_connection.specs.Wire.{Told, Wired}
 use Rattle.kp_engine.specs.Away.{EndsAway, MakesTurnAway, cut_if_late}
-use Rattle.kp_engine.specs.Closing.{Polled, calls_of_poll, calls_of_turn}
+use Rattle.kp_engine.specs.Closing.{IsTalk, Polled, calls_of_poll, calls_of_turn}
 use Rattle.kp_engine.specs.Agreement.{held_at}
 use Rattle.kp_engine.specs.Engine.{Cleared, Polls}
 use Rattle.kp_engine.specs.Exchange.{mail_of, senders_of, side_of}
@@ -24,6 +24,7 @@ use Rattle.kp_engine.specs.declared.stop.Cause.{Cause}
 use Rattle.kp_engine.specs.declared.stop.Stop.{Stop}
 use Rattle.kp_engine.specs.declared.stop.Stop.TheVariants.{Done, NeedStream, OutOfMemory}
 use Rattle.kp_engine.proofs.ClosingLemmas.{polls_serve}
+use Rattle.kp_engine.proofs.RoundLemmas.{talk_none}
 use Rattle.kp_engine.proofs.ServedLemmas.{away_serves, poll_serves_its}
 use Rattle.kp_engine.proofs.ServingLemmas.{before_nothing, none_asked, none_of, reports_none, reports_until_none}
 use Rattle.kp_frames.specs.declared.fault.FrameFault.{FrameFault}
@@ -31,10 +32,24 @@ use Rattle.kp_lanes.specs.Entries.{has_mark, items_of}
 use Rattle.kp_lanes.specs.Intake.{asked_at_of, lanes_of, passed_lists, passed_of}
 use Rattle.kp_lanes.specs.declared.intake.Intake.{Intake}
 use Rattle.kp_rules.specs.Calls.{Call, Close, End, Flush, Lead}
+use Rattle.kp_rules.specs.Calls as call
 use Rattle.kp_rules.specs.declared.outgoing.Outgoing.{Outgoing}
 use Rattle.kp_rules.proofs.ListLemmas.{all_back, all_front}
 use Rattle.kp_headline.proofs.FeedLemmas.{Feeds, Offer, Theirs, all_appended, all_feed, feeds_then, offered_by, offers, wait_last}
 use Rattle.kp_polls.proofs.OfferLemmas.{appends_elsewhere, appends_here, fails_elsewhere, fails_feeds, refused, refused_feeds, refuses_elsewhere, refuses_here}
+
+-- a call that talks offers nothing
+no_offer : (i : ℕ) (c : Call) → IsTalk c → offered_by i c ≡ []
+no_offer i (call.Append x answer) t = absurd t
+no_offer i (call.Request node now answer) t = refl
+no_offer i (call.Reply now content answer) t = refl
+no_offer i (call.Tick node now answer) t = refl
+no_offer i (call.Disconnect node now) t = refl
+no_offer i (call.Lead partition leader now) t = absurd t
+no_offer i call.Close t = absurd t
+no_offer i call.Flush t = absurd t
+no_offer i (call.End reports) t = absurd t
+no_offer i (call.Fetch sender answer) t = absurd t
 
 -- ---- one sender's side
 
@@ -370,6 +385,14 @@ module _ {S : Type 0} (answers : Told S) where
         let further : Served y turn.calls z = away_serves cause y stop z served.places turn in
         fed_then calls turn.calls y z served further own (λ own_y. polls_feed calls y before own_y)
         (λ sized_y sized_z had_y. away_turn_feeds cause y stop z sized_y sized_z further.lanes.senders own had_y turn) i
+    polls_feed _ _ (Polled.talked y z calls its life before talk lives held only) own i =
+        let alike : (k : ℕ) → side_of z k ≡ side_of y k = same_side y z only.intake only.items in
+        let f : Feeding (side_of first) calls (side_of y) = polls_feed calls y before (λ k. subst (λ (s : Side). Theirs k (items_of s.passed)) (alike k) (own k)) in
+        subst (λ (os : List Offer). FeedsSide (side_of first i) os (side_of z i))
+        (sym (before_nothing (offered_by i) calls its (offers i calls) refl (talk_none (offered_by i) (no_offer i) its talk)))
+        (subst (λ (os : List Offer). FeedsSide (side_of first i) os (side_of z i)) (append-nil (offers i calls))
+        (sides_then (side_of first i) (side_of y i) (side_of z i) (offers i calls) [] (f i)
+        (side_stays (side_of y i) (side_of z i) (ap (λ (s : Side). items_of s.passed) (alike i)) (ap (λ (s : Side). s.held) (alike i)))))
     polls_feed _ _ (Polled.ended y z calls told before step only) own i =
         let alike : (k : ℕ) → side_of z k ≡ side_of y k = same_side y z only.intake only.items in
         let f : Feeding (side_of first) calls (side_of y) = polls_feed calls y before (λ k. subst (λ (s : Side). Theirs k (items_of s.passed)) (alike k) (own k)) in

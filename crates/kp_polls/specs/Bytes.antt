@@ -10,6 +10,7 @@ use Rattle.kp_engine.specs.Away.{MakesTurnAway}
 use Rattle.kp_engine.specs.Closing.{Polled, calls_of_poll}
 use Rattle.kp_engine.specs.Engine.{Polls, fresh_wire}
 use Rattle.kp_engine.specs.Polls.{Turns}
+use Rattle.kp_engine.specs.Rounds.{Rounds}
 use Rattle.kp_engine.specs.Serving.{asked_by, replied_by}
 use Rattle.kp_engine.specs.declared.engine.Line.{Line}
 use Rattle.kp_engine.specs.declared.engine.Line.TheVariants.{Open, Stopped}
@@ -41,15 +42,17 @@ abbrev pub answered_in_poll : {S : Type 0} (answers : Told S) (line : Line S) (x
 answered_in_poll answers (Open wire) x result y left poll = answered_in_turn answers poll.node poll.now poll.begun wire result y poll.after poll.turns
 answered_in_poll answers (Stopped stop) x result y left poll = []
 
--- Polls over one stream, from when it was given, behind it those with no connection, and meanwhile others: polls over other
--- streams, ends, leaders told. All their calls on the core; those of the polls over the stream and behind it; and all that
--- the stream's calls answered.
+-- Polls over one stream and its rounds, from when it was given, behind it those with no connection, and meanwhile others: polls over
+-- other streams and their rounds, ends, leaders told. All their calls on the core; those of the polls over the stream and behind it;
+-- and all that the stream's calls answered.
 pub data OverStream {S : Type 0} (answers : Told S) (given : S) (x : Exchange) : List Call → List Call → List Answer → Exchange → Line S → Type 0 where
   not_yet : OverStream answers given x [] [] [] x (Open (fresh_wire given))
   once_more : (y z : Exchange) (calls mine : List Call) (xs : List Answer) (line left : Line S) (result : Poll Stop) → OverStream answers given x calls mine xs y line
       → (poll : Polls answers line y result z left)
       → OverStream answers given x (calls ++ calls_of_poll answers line y result z left poll) (mine ++ calls_of_poll answers line y result z left poll)
       (xs ++ answered_in_poll answers line y result z left poll) z left
+  talked : (y z : Exchange) (calls mine its : List Call) (xs news : List Answer) (node now : ℕ) (wire : Wired S) (left : Line S) → OverStream answers given x calls mine xs y (Open wire)
+      → Rounds answers node now y wire its news z left → OverStream answers given x (calls ++ its) (mine ++ its) (xs ++ news) z left
   away : (y z : Exchange) (calls mine : List Call) (xs : List Answer) (cause : Cause) (stop : Stop) → OverStream answers given x calls mine xs y (Stopped (NeedStream cause))
       → (turn : MakesTurnAway cause y stop z) → OverStream answers given x (calls ++ turn.calls) (mine ++ turn.calls) xs z (Stopped stop)
   meanwhile : (y z : Exchange) (calls mine others : List Call) (xs : List Answer) (line : Line S) → OverStream answers given x calls mine xs y line

@@ -3,12 +3,14 @@
 ghost use Rattle.std.specs.Prelude.{◌++◌, List};
 ghost use Rattle.kp_connection.specs.Answers.{Answer};
 ghost use Rattle.kp_engine.specs.Clocked.{PollsOnce};
+ghost use Rattle.kp_engine.specs.declared.cluster.ClusterEngine.{ClusterEngine as PolledOver};
 ghost use Rattle.kp_engine.specs.declared.engine.Engine.{Engine as Polled};
 ghost use Rattle.kp_engine.specs.declared.exchange.Exchange.{Exchange};
 ghost use Rattle.kp_engine.specs.declared.stop.Stop.{Stop};
 ghost use Rattle.kp_polls.specs.Bytes.{OverStream};
 ghost use Rattle.kp_polls.specs.Polling.{Polling};
 ghost use Rattle.kp_rules.specs.Calls.{Call};
+ghost use Rattle.kp_running.specs.Fleet.{FleetPolls};
 ghost use Rattle.kp_running.specs.Lasting.{LastsBy};
 ghost use Rattle.kp_running.specs.Running.{Reaches};
 ghost use Rattle.kp_running.specs.declared.lasting.Over.{Over};
@@ -35,5 +37,14 @@ pub fn the_polls_of_an_engine_that_lasts_are_polls<S: Stream, C: Clock, K: Conne
     ensures { (engine : E → Polled S C) (connecting : E → K) (o : Opening) (calls : List Call) (old new : E) (stop : Over)
         → Polling S.answers o calls (engine old).exchange
         → Reaches (λ was result is. LastsBy S.answers C.moments K.limit K.made (engine was) (connecting was) result (engine is) (connecting is)) old stop new
+        → (more : List Call) × Polling S.answers o (calls ++ more) (engine new).exchange }
+{}
+
+/// So it is with an engine over several nodes, whatever keeps its connections: with what it does of what is new, and with its
+/// polls over those that there are. (The engine is what this gives of an `E`.)
+pub fn the_polls_of_a_fleet_are_polls<S: Stream, C: Clock, E>()
+    ensures { (engine : E → PolledOver S C) (o : Opening) (calls : List Call) (old new : E) (stop : Over)
+        → Polling S.answers o calls (engine old).exchange
+        → Reaches (λ was result is. FleetPolls S.answers C.moments (engine was) result (engine is)) old stop new
         → (more : List Call) × Polling S.answers o (calls ++ more) (engine new).exchange }
 {}

@@ -139,7 +139,9 @@ fn put_producer(text: &mut Vec<u8>, producer: &Embed) -> Result<(), AllocError> 
     put_named(text, b",\"nodes\":", seen.nodes)?;
     match producer.phase() {
         Phase::Ready => text.extend_from_slice(b",\"is_ready\":true")?,
-        Phase::Opening | Phase::Failed | Phase::Spent => text.extend_from_slice(b",\"is_ready\":false")?,
+        Phase::Opening | Phase::Failed | Phase::Spent => text.extend_from_slice(
+            b",\"is_ready\":false",
+        )?,
     }
     match seen.refused {
         Some(code) => put_named(text, b",\"refused\":", code),

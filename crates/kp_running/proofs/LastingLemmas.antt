@@ -16,7 +16,6 @@ use Rattle.kp_engine.specs.declared.stop.Stop.TheVariants.{Done, NeedStream, Out
 use Rattle.kp_running.specs.Lasting.{IfGivenUp, IsGiven, IsGoing, IsLeft, IsSpent, LastsBy, LastsOnce, over_of}
 use Rattle.kp_running.specs.Running.{GoesThrough, Reaches}
 use Rattle.kp_running.specs.declared.lasting.Over.{Over}
-use Rattle.kp_running.specs.declared.lasting.Over.TheVariants as over
 
 none_is : {A : Type 0} {x : A} → Some x ≡ None → ⊥
 none_is is = cc

@@ -3,3 +3,4 @@ mod EngineLemmas
 mod ReachesLemmas
 mod NumberedLemmas
 pub mod LastingLemmas
+pub mod FleetLemmas

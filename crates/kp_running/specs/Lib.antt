@@ -4,3 +4,4 @@ pub mod Engines
 pub mod Pace
 pub mod Running
 pub mod Lasting
+pub mod Fleet

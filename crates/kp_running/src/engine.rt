@@ -35,7 +35,7 @@ impl<S: Stream, C: Clock> Turning for Engine<S, C> {
 }
 
 /// How long after now something is due, in milliseconds: None where nothing is, or was already.
-fn due_after(now: u64, due: Option<u64>) -> Option<u64>
+pub(crate) fn due_after(now: u64, due: Option<u64>) -> Option<u64>
     ensures { result ≡ due_after now due }
 {
     match due {

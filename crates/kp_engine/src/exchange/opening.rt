@@ -4,7 +4,7 @@ ghost use Rattle.std.specs.Prelude.{◌≡◌, ◌+◌, ◌≤◌, [], Some, Non
 ghost use Rattle.std.specs.List.{flat_map};
 ghost use Rattle.std.specs.Option.{option_copied};
 ghost use Rattle.std.specs.Str.{IsUtf8};
-ghost use Rattle.kp_rules.specs.Calls.{End, Lead, Step};
+ghost use Rattle.kp_rules.specs.Calls.{Disconnect, End, Lead, Step};
 ghost use Rattle.kp_engine.specs.Engine.{Cleared};
 ghost use Rattle.kp_engine.specs.Exchange.{OnlyCore};
 ghost use Rattle.kp_engine.specs.Opening.{MayTurn};
@@ -88,6 +88,14 @@ impl Exchange {
         ensures same { OnlyCore self.old self.new × (self.new.notes ≡ self.old.notes) }
     {
         self.core.lead(partition, node, now);
+    }
+
+    /// What is in flight to this node is dropped, to be sent again.
+    pub(crate) fn lose(&mut self, node: u32, now: u64)
+        ensures step { Step self.old.core (Disconnect node now) self.new.core }
+        ensures same { OnlyCore self.old self.new × (self.new.notes ≡ self.old.notes) }
+    {
+        self.core.on_disconnect(node, now);
     }
 
     /// The core and the lanes' end, with what is held between them.

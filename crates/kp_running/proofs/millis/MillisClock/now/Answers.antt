@@ -1,4 +1,4 @@
-use Rattle.std.proofs.Common.{◌≡◌, ◌∙◌, ap, map, Some}
+use Rattle.std.proofs.Common.{◌∙◌, ap, map, Some}
 use Rattle.std.specs.List.{last_or}
 use Rattle.kp_running.proofs.MillisLemmas.{told_last}
 use Rattle.kp_running.proofs.millis.MillisClock.now.Goals as goal

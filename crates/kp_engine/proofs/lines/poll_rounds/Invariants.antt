@@ -1,7 +1,7 @@
 use Rattle.std.proofs.Common.{take}
 use Rattle.futures.specs.Task.{Keeps}
 use Rattle.kp_engine.proofs.LineLemmas.{AllWake, Carries}
-use Rattle.kp_engine.proofs.lines.poll_lines.Given as goal
+use Rattle.kp_engine.proofs.lines.poll_rounds.Given as goal
 
 abbrev pub invariant-loop-line : goal.invariant-loop-line
 invariant-loop-line g l = record {
