@@ -22,8 +22,10 @@
 //! Produce requests with a batch of 148 records each, `store N` offers each batch to a log as its request is written,
 //! and `answer N` has a broker answer each request in place of that. `turn N` sends N records through an engine to a
 //! broker in the same process, in full batches, until their reports are fetched, and `hold N` makes as many and drops
-//! them in batches; `rest N` polls an engine N times that has one sender, one partition and nothing to do, and
-//! `rests N` one with 64 senders and 1,024 partitions.
+//! them in batches; `node N` does what `turn N` does through an engine that may have several connections and has one, and
+//! `nodes N` with ten, of which nine are silent; `spread N` and `spreads N` do so with 1,024 partitions. `rest N` polls an
+//! engine N times that has one sender, one partition and nothing to do, `rests N` one with 64 senders and 1,024 partitions,
+//! and `line N` and `lines N` do as `rests N` does with one and with ten of several connections.
 #![tactic(auto)]
 
 mod answering;
@@ -50,7 +52,7 @@ use queueing::{Way, makes, queues};
 use std::alloc::{AllocError, AllocGlobal, Global};
 use std::io;
 use std::random::RandomSource;
-use turning::{holds, turns, waits};
+use turning::{Lines, holds, turns, waits};
 use work::{checksums, reads, reads_and_drops, writes};
 
 fn goes_through(
@@ -141,9 +143,15 @@ fn polled<R: RandomSource + AllocGlobal>(rt: &R, line: &str) -> io::Result<Optio
     let alloc = rt.alloc();
     let task = MockTask::new(rt)?;
     let sum = match work {
-        "turn" => task.enter(|cx| turns(alloc, cx, times)),
-        "rest" => task.enter(|cx| waits(alloc, cx, 1, 1, times)),
-        "rests" => task.enter(|cx| waits(alloc, cx, 64, 1024, times)),
+        "turn" => task.enter(|cx| turns(alloc, cx, Lines::Single, 1, times)),
+        "node" => task.enter(|cx| turns(alloc, cx, Lines::Several(1), 1, times)),
+        "nodes" => task.enter(|cx| turns(alloc, cx, Lines::Several(10), 1, times)),
+        "spread" => task.enter(|cx| turns(alloc, cx, Lines::Several(1), 1024, times)),
+        "spreads" => task.enter(|cx| turns(alloc, cx, Lines::Several(10), 1024, times)),
+        "rest" => task.enter(|cx| waits(alloc, cx, Lines::Single, 1, 1, times)),
+        "rests" => task.enter(|cx| waits(alloc, cx, Lines::Single, 64, 1024, times)),
+        "line" => task.enter(|cx| waits(alloc, cx, Lines::Several(1), 64, 1024, times)),
+        "lines" => task.enter(|cx| waits(alloc, cx, Lines::Several(10), 64, 1024, times)),
         _ => return Ok(None),
     };
     Ok(Some(sum?))

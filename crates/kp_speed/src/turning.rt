@@ -1,5 +1,5 @@
-//! Records that go from a sender through an engine to a broker in the same process, and reports that come back; and polls of
-//! an engine that has nothing to do.
+//! Records that go from a sender through an engine, over one connection or with several, to a broker in the same process, and
+//! reports that come back; and polls of an engine that has nothing to do.
 
 ghost use Rattle.std.specs.Prelude.{map, IfOk};
 ghost use Rattle.kp_engine.specs.Opening.{MayTurn};
@@ -11,7 +11,7 @@ use kp_accum::Config;
 use kp_broker::Broker;
 use kp_connection::Stream;
 use kp_core::{Core, Names, Outcome};
-use kp_engine::{Clock, Engine, Stop};
+use kp_engine::{Clock, ClusterEngine, Engine, Stop};
 use kp_lanes::{Closer, Intake, Sender, Target, open_lanes};
 use kp_wire::Text;
 use std::alloc::{AllocError, Global};
@@ -34,7 +34,7 @@ const MAX_RECORD: u64 = 1_000_000;
 const SIZE_LEN: usize = 4;
 
 /// More polls than the last records need.
-const LAST_POLLS: u32 = 8;
+const LAST_POLLS: u32 = 1024;
 
 /// Only full batches go out.
 const FULL: Config = Config {
@@ -100,9 +100,12 @@ fn ask(broker: &mut Broker, frame: &[u8]) -> Result<Vec<u8>, AllocError> {
 }
 
 impl Far {
-    fn new(alloc: Global) -> Result<Far, AllocError> {
+    fn new(alloc: Global, partitions: u32) -> Result<Far, AllocError> {
+        if partitions == 0 || partitions > 1024 {
+            return Err(AllocError);
+        }
         Ok(Far {
-            broker: Broker::new(alloc, "t", 1, 9092)?,
+            broker: Broker::new(alloc, "t", partitions, 9092)?,
             answers: Vec::new(alloc),
             read: 0,
         })
@@ -149,41 +152,99 @@ fn ends_of(
     Ok((senders, closer, core, intake))
 }
 
+/// The connections that an engine has.
+#[derive(Clone, Copy)]
+pub(crate) enum Lines {
+    /// One, of an engine that has no other.
+    Single,
+    /// So many, each to a node, of which the first leads all partitions.
+    Several(u32),
+}
+
+/// An engine over one connection, or over several.
+#[derive(Drop)]
+enum Turned {
+    Single(Engine<Far, Still>),
+    Several(ClusterEngine<Far, Still>),
+}
+
+impl Turned {
+    fn poll(&mut self, cx: &mut Context<'_>) -> Poll<Stop> {
+        match self {
+            Turned::Single(engine) => engine.poll_turn(cx),
+            Turned::Several(engine) => engine.poll_turns(cx),
+        }
+    }
+}
+
 /// An engine, its senders and what shuts it.
 #[derive(Drop)]
 struct Producer {
     senders: Vec<Sender>,
     closer: Closer,
-    engine: Engine<Far, Still>,
+    engine: Turned,
 }
 
-fn engine_of(
+fn single(
     alloc: Global,
     core: Core,
     intake: Intake,
+    clock: Still,
     far: Far,
 ) -> Result<Engine<Far, Still>, AllocError>
     requires { MayTurn core intake }
 {
-    let clock = Still { asked: Log::new() };
     match Engine::new(alloc, core, intake, far, clock, false) {
         Ok(engine) => Ok(engine),
         Err(_) => Err(AllocError),
     }
 }
 
-fn producer_of(alloc: Global, senders: u32, partitions: u32) -> Result<Producer, AllocError> {
-    let far = Far::new(alloc)?;
+fn several(
+    alloc: Global,
+    core: Core,
+    intake: Intake,
+    clock: Still,
+    nodes: u32,
+    partitions: u32,
+) -> Result<ClusterEngine<Far, Still>, AllocError>
+    requires { MayTurn core intake }
+{
+    let Ok(mut engine) = ClusterEngine::new(alloc, core, intake, clock) else {
+        return Err(AllocError);
+    };
+    for node in 0..nodes {
+        if engine.connect(node, Far::new(alloc, partitions)?).is_err() {
+            return Err(AllocError);
+        }
+    }
+    Ok(engine)
+}
+
+fn producer_of(
+    alloc: Global,
+    lines: Lines,
+    senders: u32,
+    partitions: u32,
+) -> Result<Producer, AllocError> {
     let (senders, closer, core, intake) = ends_of(alloc, senders, partitions)?;
+    let clock = Still { asked: Log::new() };
     Ok(Producer {
         senders,
         closer,
-        engine: engine_of(alloc, core, intake, far)?,
+        engine: match lines {
+            Lines::Single => Turned::Single(single(
+                alloc,
+                core,
+                intake,
+                clock,
+                Far::new(alloc, partitions)?,
+            )?),
+            Lines::Several(nodes) => Turned::Several(several(
+                alloc, core, intake, clock, nodes, partitions,
+            )?),
+        },
     })
-}
-
-fn poll(engine: &mut Engine<Far, Still>, cx: &mut Context<'_>) -> Poll<Stop> {
-    engine.poll_turn(cx)
 }
 
 fn send(alloc: Global, sender: &mut Sender) -> Result<(), AllocError> {
@@ -225,7 +286,7 @@ impl Producer {
         for _ in 0..records {
             send(alloc, sender)?;
         }
-        let _ = poll(&mut self.engine, cx);
+        let _ = self.engine.poll(cx);
         Ok(fetch_all(sender, CAPACITY))
     }
 
@@ -237,8 +298,8 @@ impl Producer {
         for _ in 0..LAST_POLLS {
             sum = sum.wrapping_add(self.turn(alloc, cx, 0)?);
         }
-        match self.engine.stopped() {
-            Some(Stop::Done) => Ok(sum),
+        match self.engine.poll(cx) {
+            Poll::Ready(Stop::Done) => Ok(sum),
             _ => Err(AllocError),
         }
     }
@@ -246,8 +307,14 @@ impl Producer {
 
 /// So many records go from one sender to the broker, in full batches, until their reports are fetched. The answer is the sum
 /// of their offsets. Nothing of the broker is dropped, even at the end.
-pub(crate) fn turns(alloc: Global, cx: &mut Context<'_>, records: u32) -> Result<u64, AllocError> {
-    let mut producer = producer_of(alloc, 1, 1)?;
+pub(crate) fn turns(
+    alloc: Global,
+    cx: &mut Context<'_>,
+    lines: Lines,
+    partitions: u32,
+    records: u32,
+) -> Result<u64, AllocError> {
+    let mut producer = producer_of(alloc, lines, 1, partitions)?;
     let mut sum = 0u64;
     for first in (0..records).step_by(ROUND as usize) {
         let round = records.saturating_sub(first).min(ROUND);
@@ -276,14 +343,15 @@ pub(crate) fn holds(alloc: Global, records: u32) -> Result<u64, AllocError> {
 pub(crate) fn waits(
     alloc: Global,
     cx: &mut Context<'_>,
+    lines: Lines,
     senders: u32,
     partitions: u32,
     polls: u32,
 ) -> Result<u64, AllocError> {
-    let mut producer = producer_of(alloc, senders, partitions)?;
+    let mut producer = producer_of(alloc, lines, senders, partitions)?;
     let mut sum = 0u64;
     for _ in 0..polls {
-        sum = sum.wrapping_add(u64::from(poll(&mut producer.engine, cx).is_pending()));
+        sum = sum.wrapping_add(u64::from(producer.engine.poll(cx).is_pending()));
     }
     Ok(sum)
 }
