@@ -58,6 +58,7 @@ class Core:
         self._on_report = on_report
         self._is_opening = True
         self._is_short = False  # Memory was refused, and the call is to be made again.
+        self._is_spent = False  # Each request was used, and no value is queued any more.
         self._ticked = 0  # When the last tick was.
         self._turn = 0  # The partition of the next of many values that name none.
         self._next = 0  # One more than that of the last record that named none and had no key; 0 before there is one.
@@ -171,7 +172,8 @@ class Core:
 
     def _queues(self, record: One) -> bool:
         """Begins to queue values with this one, as many as there surely is room for, where that may be: whether it has."""
-        may_queue = self.is_attended and self._next > 0 and not self._is_closing and self._config.max_request_size >= CHARGE
+        is_open = not (self._is_closing or self._is_spent)
+        may_queue = self.is_attended and self._next > 0 and is_open and self._config.max_request_size >= CHARGE
         if not may_queue or not isinstance(record.sent, bytes):
             return False
         self.queue.open((self._config.buffer_memory - self._see().buffer_used) // CHARGE)
@@ -190,6 +192,7 @@ class Core:
                 self._next = (self._next + accepted - 1) % partitions + 1
             del queue[:accepted]
             if status == Status.SPENT:
+                self._is_spent = True
                 self._leave_unsent(queue)
             elif status != Status.OK:
                 self._is_short = self._is_short or status == Status.OUT_OF_MEMORY
