@@ -1,144 +1,147 @@
 -- An engine is run to its end, through outages.
-use Rattle.std.proofs.Common.{◌≡◌, List, [], ◌∷◌, ◌++◌, refl, sym, ap, ◌∙◌, subst, inr, ⊎_elim}
-use Rattle.std.specs.Prelude.{ℕ, Bool, Option, Some, IfSome, Result, Ok, Err, IfOk}
+use Rattle.std.proofs.Common.{◌≡◌, List, [], ◌∷◌, ◌++◌, refl, sym, ap, ◌∙◌, subst, inl, inr, ⊎_elim, append_assoc}
+use Rattle.std.specs.Prelude.{ℕ, Bool, false, not, filter, Option, Some, None, IfSome, Result, Ok, Err, IfOk}
 use Rattle.futures.specs.declared.task.Poll.{Poll}
 use Rattle.futures.specs.declared.task.Poll.TheVariants.{Ready, Pending}
-use Rattle.kp_connection.specs.Wire.{Told, Wired}
-use Rattle.kp_engine.specs.Clocked.{PollsAway, PollsOnce}
-use Rattle.kp_engine.specs.Engine.{IsNew, Polls}
-use Rattle.kp_engine.specs.Closing.{Polled, calls_of_poll}
-use Rattle.kp_engine.specs.Made.{WasPolled, anything}
+use Rattle.kp_connection.specs.Wire.{Told}
+use Rattle.kp_engine.specs.Engine.{IsNew, fresh_wire}
+use Rattle.kp_engine.specs.Lines.{goes_to, is_given_up, stop_at}
+use Rattle.kp_engine.specs.Made.{AreCut, IsCut, WasPolled, anything}
 use Rattle.kp_engine.specs.Opening.{MayTurn}
 use Rattle.kp_engine.specs.Polls.{IsDone}
 use Rattle.kp_engine.specs.Serving.{HasServed}
-use Rattle.kp_engine.specs.declared.engine.Engine.{Engine}
+use Rattle.kp_engine.specs.declared.cluster.ClusterEngine.{ClusterEngine}
 use Rattle.kp_engine.specs.declared.engine.Line.{Line}
-use Rattle.kp_engine.specs.declared.engine.Line.TheVariants.{Open, Stopped}
+use Rattle.kp_engine.specs.declared.engine.Line.TheVariants.{Open}
 use Rattle.kp_engine.specs.declared.exchange.Exchange.{Exchange}
+use Rattle.kp_engine.specs.declared.node_line.NodeLine.{NodeLine}
 use Rattle.kp_engine.specs.declared.stop.Cause.{Cause}
 use Rattle.kp_engine.specs.declared.stop.Cause.TheVariants.{Io}
 use Rattle.kp_engine.specs.declared.stop.Stop.{Stop}
-use Rattle.kp_engine.specs.declared.stop.Stop.TheVariants.{NeedStream}
-use Rattle.kp_engine.proofs.MadeLemmas.{has_served, new_polled, polled_away}
-use Rattle.kp_engine.proofs.StreamlessLemmas.{no_line, poll_so}
+use Rattle.kp_engine.specs.declared.stop.Stop.TheVariants as stop
+use Rattle.kp_engine.proofs.CutLemmas.{all_more, cluster_cut, cut_more, polled_by, stopped_cut}
+use Rattle.kp_engine.proofs.MadeLemmas.{has_served, new_polled}
 use Rattle.kp_lanes.specs.Intake.{lanes_of}
 use Rattle.kp_lanes.specs.declared.intake.Intake.{Intake}
 use Rattle.kp_rules.specs.Calls.{Call}
 use Rattle.kp_rules.specs.Records.{Core}
-use Rattle.kp_running.specs.Lasting.{IfGivenUp, IsGoing, IsLeft, IsSpent, LastsBy, LastsOnce}
+use Rattle.kp_rules.proofs.ListLemmas.{all_filter}
+use Rattle.kp_wire.proofs.ListLemmas.{all_append}
+use Rattle.kp_running.specs.Fleet.{FleetOnce, FleetPolls, Heeds, IsGoing, IsLeft, TakesNews, why_after}
+use Rattle.kp_running.specs.Over.{IfGivenUp, IsSpent}
 use Rattle.kp_running.specs.Running.{GoesThrough, Reaches}
-use Rattle.kp_running.specs.declared.lasting.Over.{Over}
-use Rattle.kp_running.specs.declared.lasting.Over.TheVariants as kinds
-use Rattle.kp_running.proofs.LastingLemmas.{once_left}
+use Rattle.kp_running.specs.declared.fleet.Fleet.{Fleet}
+use Rattle.kp_running.specs.declared.keeping.News.{News}
+use Rattle.kp_running.specs.declared.keeping.News.TheVariants.{Connected, Dropped, Ended as No_more, Led}
+use Rattle.kp_running.specs.declared.over.Over.{Over}
+use Rattle.kp_running.specs.declared.over.Over.TheVariants as kinds
+use Rattle.kp_running.proofs.FleetLemmas.{once_left, told}
 use Rattle.kp_settings.specs.declared.fault.ServiceFault.{ServiceFault}
 use Rattle.kp_settings.specs.declared.policy.Policy.{Policy}
 use Rattle.kp_client.specs.Ends.{EndsAs, HasEnded, MayEnd, WasServed, WasUnserved}
 use Rattle.kp_client.specs.Left.{parts_in}
 use Rattle.kp_client.specs.Policy.{limit_of}
-use Rattle.kp_client.specs.Serving.{ending_for, GivesUpFor, GoesOn, IsServing, LastGave, Serves}
+use Rattle.kp_client.specs.Serving.{ending_for, GivesUpFor, GoesOn, IsServing, LostFor, Serves}
 use Rattle.kp_client.specs.declared.left.Ended.{Ended}
 use Rattle.kp_client.specs.declared.left.Ending.TheVariants.{Done}
 use Rattle.kp_client.specs.declared.tended.Tended.{Tended}
 
-open_stopped : {S : Type 0} {wire : Wired S} {stop : Stop} → Open wire ≡ Stopped stop → ⊥
-open_stopped e = absurd cc
-
-stopped_alike : (S : Type 0) (one other : Stop) → ◌≡◌ {A = Line S} (Stopped one) (Stopped other) → one ≡ other
-stopped_alike S one other e = cc
+pub lost_more : (core : Core) (intake : Intake) (calls more : List Call) (why : Cause) → LostFor core intake calls why → LostFor core intake (calls ++ more) why
+lost_more core intake calls more why (inl is) = inl is
+lost_more core intake calls more why (inr cut) = inr (cut_more core intake calls more why cut)
 
 -- ---- one poll
 
-module _ {S C : Type 0} (answers : Told S) (moments : C → List ℕ) where
-  abbrev stop_of : Stop → Poll Stop → Stop
-  stop_of other (Ready stop) = stop
-  stop_of other Pending = other
+module _ (core : Core) (intake : Intake) (calls : List Call) where
+  module _ {S : Type 0} where
+    -- connections of which some are dropped
+    some_cut : (test : NodeLine S → Bool) (old new : List (NodeLine S)) → new ≡ filter test old → AreCut core intake calls old → AreCut core intake calls new
+    some_cut test old new is cut =
+        subst (AreCut core intake calls) (sym is) (all_filter (λ l. IsCut core intake calls l.line) test old cut)
 
-  stops_at : (line : Line S) (x : Exchange) (stop : Stop) (y : Exchange) (left : Line S) → Polls answers line x (Ready stop) y left → left ≡ Stopped stop
-  stops_at (Open wire) x stop y left p = p.line
-  stops_at (Stopped other) x stop y left p = p.2 ∙ ap (λ (s : Stop). Stopped s) (sym (ap (stop_of other) p.1))
+    -- why the last connection was lost
+    why_lost : (node : ℕ) (ls : List (NodeLine S)) (o : Option Stop) (why : Cause) → stop_at node ls ≡ o → AreCut core intake calls ls → LostFor core intake calls why
+        → LostFor core intake calls (why_after o why)
+    why_lost node ls None why is cut lost = lost
+    why_lost node ls (Some stop.Done) why is cut lost = lost
+    why_lost node ls (Some (stop.NeedStream cause)) why is cut lost = inr (stopped_cut core intake node calls ls cause cut is)
+    why_lost node ls (Some stop.OutOfMemory) why is cut lost = lost
 
-  still_open : (line : Line S) (x y : Exchange) (left : Line S) → Polls answers line x Pending y left → (stop : Stop) → left ≡ Stopped stop → ⊥
-  still_open (Open wire) x y left p stop is = open_stopped (sym p.line ∙ is)
-  still_open (Stopped other) x y left p stop is = waits p.1
-    where
-      waits : Pending ≡ Ready other → ⊥
-      waits e = absurd cc
+  module _ {S C : Type 0} (moments : C → List ℕ) where
+    heeds_cut : (why : Cause) (news : News S) (old : ClusterEngine S C) (result : Result (Unit {0}) Over) (new : ClusterEngine S C) → Heeds moments why news old result new
+        → AreCut core intake calls old.lines.items → AreCut core intake calls new.lines.items
+    heeds_cut why (Connected node stream) old (Ok done) new h cut =
+        subst (AreCut core intake calls) (sym h.lines.all)
+        (all_append (λ l. IsCut core intake calls l.line) (filter (λ l. not (is_given_up node l)) old.lines.items) (h.lines.last ∷ [])
+        (all_filter (λ l. IsCut core intake calls l.line) (λ l. not (is_given_up node l)) old.lines.items cut)
+        (subst (λ (l : Line S). IsCut core intake calls l) (sym h.lines.fresh.line) tt, tt))
+    heeds_cut why (Connected node stream) old (Err over) new h cut = subst (AreCut core intake calls) (sym h.0.lines) cut
+    heeds_cut why (Led partition node) old result new h cut = subst (AreCut core intake calls) (sym h.0.lines) cut
+    heeds_cut why (Dropped node) old result new h cut = some_cut (λ l. not (goes_to node l)) old.lines.items new.lines.items h.0.lines cut
+    heeds_cut why No_more old result new h cut = subst (λ (e : ClusterEngine S C). AreCut core intake calls e.lines.items) (sym h.0) cut
 
-  -- what a poll gave that left the connection given up
-  gave_so : (core : Core) (intake : Intake) (earlier : List Call) (x : Exchange) → WasPolled core intake earlier x → (line : Line S) (polled : Poll Stop) (y : Exchange) (left : Line S)
-      → (poll : Polls answers line x polled y left) (stop : Stop) → left ≡ Stopped stop
-      → LastGave core intake (earlier ++ calls_of_poll anything (no_line line) x polled y (no_line left) (poll_so answers line x polled y left poll)) stop y
-  gave_so core intake earlier x h line (Ready gave) y left poll stop is =
-      let same : gave ≡ stop = stopped_alike S gave stop (sym (stops_at line x gave y left poll) ∙ is) in
-      let so = poll_so answers line x (Ready gave) y left poll in
-      subst (λ (s : Stop). LastGave core intake (earlier ++ calls_of_poll anything (no_line line) x (Ready gave) y (no_line left) so) s y) same
-      (LastGave.over_one earlier x y (no_line line) (no_line left) gave h so)
-  gave_so core intake earlier x h line Pending y left poll stop is = absurd (still_open line x y left poll stop is)
+module _ {S C K : Type 0} (answers : Told S) (moments : C → List ℕ) where
+  module _ (core : Core) (intake : Intake) (calls : List Call) where
+    told_cut : (old : Fleet S C K) (result : Result Bool Over) (new : Fleet S C K) → TakesNews moments old result new
+        → AreCut core intake calls old.engine.lines.items → AreCut core intake calls new.engine.lines.items
+    told_cut old _ _ (TakesNews.lost new node loses) cut =
+        some_cut core intake calls (λ l. not (goes_to node l)) old.engine.lines.items new.engine.lines.items loses.drops.lines cut
+    told_cut old _ _ (TakesNews.nothing new none same why) cut = subst (λ (e : ClusterEngine S C). AreCut core intake calls e.lines.items) (sym same) cut
+    told_cut old _ _ (TakesNews.heeds new news none heeds why) cut = heeds_cut core intake calls moments old.why news old.engine (Ok tt) new.engine heeds cut
+    told_cut old _ _ (TakesNews.ends new news over none heeds why) cut = heeds_cut core intake calls moments old.why news old.engine (Err over) new.engine heeds cut
 
-  turned : (old new : Engine S C) (polled : Poll Stop) → PollsOnce answers moments old polled new → GoesOn old new
-  turned old new polled p core intake h =
-      let so = poll_so answers old.line old.exchange polled new.exchange new.line p.polls in record {
-        calls = h.calls ++ calls_of_poll anything (no_line old.line) old.exchange polled new.exchange (no_line new.line) so;
-        polled = record {
-          may_turn = h.polled.may_turn;
-          keeps = h.polled.keeps;
-          first = h.polled.first;
-          is_new = h.polled.is_new;
-          polled = Polled.once_more old.exchange new.exchange h.calls (no_line old.line) (no_line new.line) polled h.polled.polled so;
-        };
-        gave = gave_so core intake h.calls old.exchange h.polled old.line polled new.exchange new.line p.polls;
+    told_lost : (old : Fleet S C K) (result : Result Bool Over) (new : Fleet S C K) → TakesNews moments old result new
+        → AreCut core intake calls old.engine.lines.items → LostFor core intake calls old.why → LostFor core intake calls new.why
+    told_lost old _ _ (TakesNews.lost new node loses) cut lost =
+        subst (LostFor core intake calls) (sym loses.why) (why_lost core intake calls node old.engine.lines.items (stop_at node old.engine.lines.items) old.why refl cut lost)
+    told_lost old _ _ (TakesNews.nothing new none same why) cut lost = subst (LostFor core intake calls) (sym why) lost
+    told_lost old _ _ (TakesNews.heeds new news none heeds why) cut lost = subst (LostFor core intake calls) (sym why) lost
+    told_lost old _ _ (TakesNews.ends new news over none heeds why) cut lost = subst (LostFor core intake calls) (sym why) lost
+
+  takes_news : (old : Fleet S C K) (result : Result Bool Over) (new : Fleet S C K) → TakesNews moments old result new → GoesOn old new
+  takes_news old result new news core intake h =
+      let more = told answers moments anything h.polled.first h.calls old result new h.polled.polled news in record {
+        calls = h.calls ++ more.0;
+        polled = polled_by core intake h.calls more.0 old.engine.exchange new.engine.exchange h.polled more.1;
+        cut = all_more core intake h.calls more.0 new.engine.lines.items (told_cut core intake h.calls old result new news h.cut);
+        lost = lost_more core intake h.calls more.0 new.why (told_lost core intake h.calls old result new news h.cut h.lost);
       }
 
-  turned_away : (old new : Engine S C) (stop : Stop) → PollsAway moments old stop new → GoesOn old new
-  turned_away old new stop p core intake h = record {
-    calls = h.calls ++ p.turn.calls;
-    polled = polled_away core intake h.calls old.exchange h.polled p.cause stop new.exchange p.turn;
-    gave = λ told is.
-        let same : stop ≡ told = stopped_alike S stop told (sym p.line ∙ is) in
-        subst (λ (s : Stop). LastGave core intake (h.calls ++ p.turn.calls) s new.exchange) same
-        (LastGave.with_none h.calls old.exchange new.exchange p.cause stop h.polled p.turn);
-  }
-
-  -- over a stream that it was given
-  still_serves : (old new : Engine S C) (wire : Wired S) → new.exchange ≡ old.exchange → new.line ≡ Open wire → GoesOn old new
-  still_serves old new wire same is_open core intake h = record {
-    calls = h.calls;
-    polled = subst (λ (x : Exchange). WasPolled core intake h.calls x) (sym same) h.polled;
-    gave = λ stop is. absurd (open_stopped (sym is_open ∙ is));
-  }
-
-  once : (old : Engine S C) (result : Poll Over) (new : Engine S C) → LastsOnce answers moments old result new → GoesOn old new
-  once old _ _ (LastsOnce.over_it new polled none p) = turned old new polled p
-  once old _ _ (LastsOnce.over_the_next mid new stream polled given p) =
-      λ core intake h. turned mid new polled p core intake (still_serves old mid _ given.exchange given.line core intake h)
-  once old _ _ (LastsOnce.with_none new stop p) = turned_away old new stop p
-  once old _ _ (LastsOnce.given_up cause is) = λ core intake h. h
-  once old _ _ (LastsOnce.used_up is) = λ core intake h. h
+  pub once : (old : Fleet S C K) (result : Poll Over) (new : Fleet S C K) → FleetOnce answers moments old result new → GoesOn old new
+  once old _ _ (FleetOnce.turned mid new again polled open_still news polls why) core intake h =
+      let m = takes_news old (Ok again) mid news core intake h in
+      let more = cluster_cut core intake answers moments m.calls mid.engine new.engine polled m.polled m.cut polls in record {
+        calls = m.calls ++ more.0;
+        polled = more.1;
+        cut = more.2;
+        lost = lost_more core intake m.calls more.0 new.why (subst (LostFor core intake m.calls) (sym why) m.lost);
+      }
+  once old _ _ (FleetOnce.ended new over open_still news) core intake h = takes_news old (Err over) new news core intake h
+  once old _ _ (FleetOnce.used_up is) core intake h = h
 
   -- ---- any number of polls
 
-  module _ {K : Type 0} (limit : K → Option ℕ) (made : K → ℕ) where
+  module _ (limit : K → Option ℕ) (made : K → ℕ) where
     abbrev pub polls : Tended S C K → Poll Over → Tended S C K → Type 0
-    polls old polled new = LastsBy answers moments limit made old.lasting.engine old.lasting.connecting polled new.lasting.engine new.lasting.connecting
+    polls old polled new = FleetPolls answers moments limit made old.fleet polled new.fleet
 
-    goes : (old : Tended S C K) (between : List (Tended S C K)) (over : Over) (new : Tended S C K) → GoesThrough polls old between over new
-        → GoesOn old.lasting.engine new.lasting.engine
-    goes old [] over new p = once old.lasting.engine (Ready over) new.lasting.engine p.once
-    goes old (next ∷ rest) over new (p, more) = λ core intake h. goes next rest over new more core intake (once old.lasting.engine Pending next.lasting.engine p.once core intake h)
+    goes : (old : Tended S C K) (between : List (Tended S C K)) (over : Over) (new : Tended S C K) → GoesThrough polls old between over new → GoesOn old.fleet new.fleet
+    goes old [] over new p = once old.fleet (Ready over) new.fleet p.once
+    goes old (next ∷ rest) over new (p, more) = λ core intake h. goes next rest over new more core intake (once old.fleet Pending next.fleet p.once core intake h)
 
     leaves : (old : Tended S C K) (between : List (Tended S C K)) (over : Over) (new : Tended S C K) → GoesThrough polls old between over new
-        → IsGoing old.lasting.engine.line → IsLeft (Ready over) new.lasting.engine
-    leaves old [] over new p going = once_left answers moments old.lasting.engine (Ready over) new.lasting.engine p.once going
+        → IsGoing old.fleet → IsLeft (Ready over) new.fleet
+    leaves old [] over new p going = once_left answers moments old.fleet (Ready over) new.fleet p.once going
     leaves old (next ∷ rest) over new (p, more) going =
-        leaves next rest over new more (once_left answers moments old.lasting.engine Pending next.lasting.engine p.once going)
+        leaves next rest over new more (once_left answers moments old.fleet Pending next.fleet p.once going)
 
     keeps : (old : Tended S C K) (between : List (Tended S C K)) (over : Over) (new : Tended S C K) → GoesThrough polls old between over new
-        → limit new.lasting.connecting ≡ limit old.lasting.connecting
+        → limit new.fleet.keeping ≡ limit old.fleet.keeping
     keeps old [] over new p = p.same
     keeps old (next ∷ rest) over new (p, more) = keeps next rest over new more ∙ p.same
 
     spends : (old : Tended S C K) (between : List (Tended S C K)) (over : Over) (new : Tended S C K) → GoesThrough polls old between over new
-        → IfGivenUp (Ready over) (IsSpent (limit new.lasting.connecting) (made new.lasting.connecting))
+        → IfGivenUp (Ready over) (IsSpent (limit new.fleet.keeping) (made new.fleet.keeping))
     spends old [] over new p = p.spent
     spends old (next ∷ rest) over new (p, more) = spends next rest over new more
 
@@ -146,52 +149,57 @@ module _ {S C : Type 0} (answers : Told S) (moments : C → List ℕ) where
       reached : IfSome o (λ e. Reaches polls e over new) → Reaches polls old over new
       reached r = subst (λ (p : Option (Tended S C K)). IfSome p (λ e. Reaches polls e over new)) is r
 
-      pub runs_on : IfSome o (λ e. Reaches polls e over new) → GoesOn old.lasting.engine new.lasting.engine
+      pub runs_on : IfSome o (λ e. Reaches polls e over new) → GoesOn old.fleet new.fleet
       runs_on r = let reaches = reached r in goes old reaches.between over new reaches.goes
 
-      pub runs_to : IfSome o (λ e. Reaches polls e over new) → IsGoing old.lasting.engine.line → IsLeft (Ready over) new.lasting.engine
+      pub runs_to : IfSome o (λ e. Reaches polls e over new) → IsGoing old.fleet → IsLeft (Ready over) new.fleet
       runs_to r = let reaches = reached r in leaves old reaches.between over new reaches.goes
 
       -- it is given up only where as many were made as it may make at first
-      pub runs_out : IfSome o (λ e. Reaches polls e over new) → IfGivenUp (Ready over) (IsSpent (limit old.lasting.connecting) (made new.lasting.connecting))
+      pub runs_out : IfSome o (λ e. Reaches polls e over new) → IfGivenUp (Ready over) (IsSpent (limit old.fleet.keeping) (made new.fleet.keeping))
       runs_out r =
           let reaches = reached r in
-          subst (λ (l : Option ℕ). IfGivenUp (Ready over) (IsSpent l (made new.lasting.connecting))) (keeps old reaches.between over new reaches.goes)
+          subst (λ (l : Option ℕ). IfGivenUp (Ready over) (IsSpent l (made new.fleet.keeping))) (keeps old reaches.between over new reaches.goes)
           (spends old reaches.between over new reaches.goes)
 
 -- ---- its end
 
-pub done_left : {S C : Type 0} (over : Over) (engine : Engine S C) → ending_for over ≡ Done → IsLeft (Ready over) engine → IsDone engine.exchange
-done_left kinds.Done engine is left = left.1
-done_left (kinds.GaveUp cause) engine is left = absurd cc
-done_left kinds.Spent engine is left = absurd cc
-done_left kinds.OutOfMemory engine is left = absurd cc
+module _ {S C K : Type 0} where
+  pub done_left : (over : Over) (fleet : Fleet S C K) → ending_for over ≡ Done → IsLeft (Ready over) fleet → IsDone fleet.engine.exchange
+  done_left kinds.Done fleet is left = left
+  done_left (kinds.GaveUp cause) fleet is left = absurd cc
+  done_left kinds.Spent fleet is left = absurd cc
+  done_left kinds.OutOfMemory fleet is left = absurd cc
 
-pub gave_up_for : {S C : Type 0} (over : Over) (engine : Engine S C) → IsLeft (Ready over) engine → GivesUpFor (ending_for over) engine
-gave_up_for kinds.Done engine left = tt
-gave_up_for (kinds.GaveUp cause) engine left = left
-gave_up_for kinds.Spent engine left = left
-gave_up_for kinds.OutOfMemory engine left = tt
+  pub gave_up_for : (over : Over) (fleet : Fleet S C K) → IsLeft (Ready over) fleet → GivesUpFor (ending_for over) fleet
+  gave_up_for kinds.Done fleet left = tt
+  gave_up_for (kinds.GaveUp cause) fleet left = left
+  gave_up_for kinds.Spent fleet left = left
+  gave_up_for kinds.OutOfMemory fleet left = tt
+
+  pub new_serves : (core : Core) (intake : Intake) (fleet : Fleet S C K) → MayTurn core intake → IsNew core intake false fleet.engine.exchange
+      → fleet.engine.lines.items ≡ [] → fleet.why ≡ Io → Serves core intake fleet
+  new_serves core intake fleet may is_new none why = record {
+    calls = [];
+    polled = new_polled core intake false fleet.engine.exchange may is_new;
+    cut = subst (AreCut core intake []) (sym none) tt;
+    lost = inl why;
+  }
+
+  pub serving_on : (old new : Fleet S C K) → GoesOn old new → IsServing old → IsServing new
+  serving_on old new goes h = record { core = h.core; intake = h.intake; serves = goes h.core h.intake h.serves }
+
+  -- What was served of an engine that was just made.
+  pub ended_anew : (core : Core) (intake : Intake) (fleet : Fleet S C K) (result : Result Ended ServiceFault) → MayTurn core intake → IsNew core intake false fleet.engine.exchange
+      → fleet.engine.lines.items ≡ [] → fleet.why ≡ Io → IfOk result (EndsAs fleet) → IfOk result (HasEnded core intake)
+  ended_anew core intake fleet (Ok ended) may is_new none why h = h core intake (new_serves core intake fleet may is_new none why)
+  ended_anew core intake fleet (Err fault) may is_new none why h = tt
 
 pub may_end : (over : Over) (policy : Policy) (made : ℕ) → IfGivenUp (Ready over) (IsSpent (limit_of policy) made) → MayEnd policy (ending_for over) made
 may_end kinds.Done policy made h = tt
 may_end (kinds.GaveUp cause) policy made h = h
 may_end kinds.Spent policy made h = tt
 may_end kinds.OutOfMemory policy made h = tt
-
-pub new_serves : {S C : Type 0} (core : Core) (intake : Intake) (keeps : Bool) (engine : Engine S C) → MayTurn core intake
-    → IsNew core intake keeps engine.exchange → engine.line ≡ Stopped (NeedStream Io) → Serves core intake engine
-new_serves {S = S} core intake keeps engine may is_new needs =
-    let polled = new_polled core intake keeps engine.exchange may is_new in record {
-      calls = [];
-      polled = polled;
-      gave = λ stop is.
-          subst (λ (s : Stop). LastGave core intake [] s engine.exchange) (stopped_alike S (NeedStream Io) stop (sym needs ∙ is))
-          (LastGave.not_yet engine.exchange polled);
-    }
-
-pub serving_on : {S C : Type 0} (old new : Engine S C) → GoesOn old new → IsServing old → IsServing new
-serving_on old new goes h = record { core = h.core; intake = h.intake; serves = goes h.core h.intake h.serves }
 
 -- The lanes stay.
 pub same_lanes : (core : Core) (intake : Intake) (ended : Ended) → HasEnded core intake ended → lanes_of (parts_in ended).intake ≡ lanes_of intake
@@ -210,13 +218,6 @@ still_lanes core intake (Err fault) h = tt
 
 pub unserved_ended : (core : Core) (intake : Intake) (ended : Ended) → WasUnserved core intake [] ended → HasEnded core intake ended
 unserved_ended core intake ended h = record { calls = []; how = inr h }
-
--- What was served of an engine that was just made.
-pub ended_anew : {S C : Type 0} (core : Core) (intake : Intake) (keeps : Bool) (engine served : Engine S C) (result : Result Ended ServiceFault) → MayTurn core intake
-    → IsNew core intake keeps engine.exchange → engine.line ≡ Stopped (NeedStream Io) → served ≡ engine → IfOk result (EndsAs served) → IfOk result (HasEnded core intake)
-ended_anew core intake keeps engine served (Ok ended) may is_new needs is h =
-    h core intake (subst (λ (e : Engine _ _). Serves core intake e) (sym is) (new_serves core intake keeps engine may is_new needs))
-ended_anew core intake keeps engine served (Err fault) may is_new needs is h = tt
 
 pub unserved_back : (core k : Core) (intake t : Intake) (ended : Ended) → WasUnserved k t [] ended → k ≡ core → t ≡ intake → HasEnded core intake ended
 unserved_back core k intake t ended h same_core same_intake =

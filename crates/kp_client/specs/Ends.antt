@@ -3,22 +3,21 @@ use Rattle.std.specs.Prelude.{◌≡◌, ◌≢◌, ◌⊎◌, ℕ, true, All, L
 use Rattle.kp_core.specs.Spent.{can_only_end}
 use Rattle.kp_engine.specs.Made.{WasEnded, WasPolled}
 use Rattle.kp_engine.specs.Opening.{MayTurn}
-use Rattle.kp_engine.specs.declared.engine.Engine.{Engine}
 use Rattle.kp_engine.specs.declared.exchange.Exchange.{Exchange}
 use Rattle.kp_engine.specs.declared.parts.Parts.{Parts}
 use Rattle.kp_engine.specs.declared.stop.Cause.{Cause}
-use Rattle.kp_engine.specs.declared.stop.Stop.TheVariants.{NeedStream}
 use Rattle.kp_lanes.specs.Intake.{intake_limits, lanes_of, passed_lists, taken_lists, told_lists}
 use Rattle.kp_lanes.specs.Settling.{IsOf, SameFinished}
 use Rattle.kp_lanes.specs.declared.intake.Intake.{Intake}
 use Rattle.kp_lanes.specs.declared.sender.Finished.{Finished}
 use Rattle.kp_rules.specs.Calls.{Call, End}
 use Rattle.kp_rules.specs.Records.{Core}
-use Rattle.kp_running.specs.Lasting.{IsSpent}
+use Rattle.kp_running.specs.Over.{IsSpent}
+use Rattle.kp_running.specs.declared.fleet.Fleet.{Fleet}
 use Rattle.kp_settings.specs.declared.policy.Policy.{Policy}
 use Rattle.kp_client.specs.Left.{ending_of, new_connections_of, parts_in}
 use Rattle.kp_client.specs.Policy.{limit_of}
-use Rattle.kp_client.specs.Serving.{LastGave, Serves}
+use Rattle.kp_client.specs.Serving.{LostFor, Serves}
 use Rattle.kp_client.specs.declared.left.Ended.{Ended}
 use Rattle.kp_client.specs.declared.left.Ending.{Ending}
 use Rattle.kp_client.specs.declared.left.Ending.TheVariants.{Done, GaveUp, Spent}
@@ -31,14 +30,6 @@ pub record Looks (old new : Intake) : Type 0 where
   pub taken : taken_lists new ≡ taken_lists old
   pub told : told_lists new ≡ told_lists old
 
--- These are the calls of an engine that needed a connection before its end, for this cause.
-pub record NeededStream (core : Core) (intake : Intake) (calls : List Call) (cause : Cause) : Type 0 where
-  pub earlier : List Call
-  pub last : Exchange
-  pub gave : LastGave core intake earlier (NeedStream cause) last
-  pub told : ℕ
-  pub made : calls ≡ earlier ++ End told ∷ []
-
 -- These are the calls of an engine whose core could only end.
 pub record CouldOnlyEnd (core : Core) (intake : Intake) (calls : List Call) : Type 0 where
   pub earlier : List Call
@@ -48,8 +39,8 @@ pub record CouldOnlyEnd (core : Core) (intake : Intake) (calls : List Call) : Ty
   pub told : ℕ
   pub made : calls ≡ earlier ++ End told ∷ []
 
--- An engine was made of them, polled over one stream after the other and with none, ended, and taken apart. It was closed,
--- where the service says that it is done; it needed a stream for the cause for which the service gave up; and where it says that
+-- An engine was made of them, polled over the connections that there were and with none, ended, and taken apart. It was closed,
+-- where the service says that it is done; it lost a connection for the cause for which the service gave up; and where it says that
 -- it was spent, its core could only end.
 pub record WasServed (core : Core) (intake : Intake) (calls : List Call) (ended : Ended) : Type 0 where
   pub parts : Parts
@@ -58,7 +49,7 @@ pub record WasServed (core : Core) (intake : Intake) (calls : List Call) (ended 
   pub same_held : (parts_in ended).held ≡ parts.held
   pub looks : Looks parts.intake (parts_in ended).intake
   pub done : ending_of ended ≡ Done → engine.last.closed ≡ true
-  pub gave_up : (cause : Cause) → ending_of ended ≡ GaveUp cause → NeededStream core intake calls cause
+  pub gave_up : (cause : Cause) → ending_of ended ≡ GaveUp cause → LostFor core intake calls cause
   pub spent : ending_of ended ≡ Spent → CouldOnlyEnd core intake calls
 
 -- No engine was made: nothing was called, taken or told.
@@ -85,9 +76,9 @@ pub record HasEnded (core : Core) (intake : Intake) (ended : Ended) : Type 0 whe
   pub how : WasServed core intake calls ended ⊎ WasUnserved core intake calls ended
 
 -- Whatever the engine was made of, a service of it has come to this.
-abbrev pub EndsAs : {S C : Type 0} → Engine S C → Ended → Type 0
-EndsAs engine ended =
-    (core : Core) (intake : Intake) → Serves core intake engine → HasEnded core intake ended
+abbrev pub EndsAs : {S C K : Type 0} → Fleet S C K → Ended → Type 0
+EndsAs fleet ended =
+    (core : Core) (intake : Intake) → Serves core intake fleet → HasEnded core intake ended
 
 -- Whatever service has come to the one has come to the other.
 abbrev pub StaysEnded : Ended → Ended → Type 0

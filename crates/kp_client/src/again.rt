@@ -1,7 +1,7 @@
 //! When the next connection is made.
 
 ghost use Rattle.std.specs.Prelude.{◌≡◌, ◌+◌, ◌-◌, ◌^◌, max, min, IfSome, IfNone};
-ghost use Rattle.kp_running.specs.Lasting.{IsSpent};
+ghost use Rattle.kp_running.specs.Over.{IsSpent};
 ghost use Rattle.kp_client.specs.Policy.{limit_of, made_after_reply, none_made, wait_after, MayMake};
 
 use kp_settings::Policy;

@@ -1,9 +1,9 @@
 //! What makes a service's connections, beside its engine's turns.
 
-ghost use Rattle.std.specs.Prelude.{◌≡◌, ℕ, None};
+ghost use Rattle.std.specs.Prelude.{◌≡◌, ◌≤◌, ℕ};
 ghost use Rattle.futures.specs.Poll.{OnPending};
 ghost use Rattle.futures.specs.Task.{Hears, Keeps};
-ghost use Rattle.kp_running.specs.Lasting.{IsSpent};
+ghost use Rattle.kp_running.specs.Over.{IfEnded, IsSpent};
 ghost use Rattle.kp_client.specs.Connecting.{waits_of};
 ghost use Rattle.kp_client.specs.Policy.{limit_of, made_after_reply};
 
@@ -13,7 +13,9 @@ use crate::shared::Shared;
 use futures::Future;
 use futures::task::{Context, Poll};
 use kp_connection::Plain;
-use kp_running::Connecting;
+use kp_core::Core;
+use kp_engine::Moves;
+use kp_running::{Keeping, News};
 use std::net::Net;
 use std::time::{Clock, Duration, Instant};
 use tokio::net::{ConnectFuture, TcpStream};
@@ -28,7 +30,12 @@ pub(crate) enum Stage {
     /// The next try waits for its moment.
     Pausing(Sleep),
     Trying(Timeout<ConnectFuture>),
+    /// It was made.
+    Made,
 }
+
+/// The only node: whoever is reached at the service's address.
+const NODE: u32 = 0;
 
 /// Makes a service's connections: the first is no new one; where it can't be made, and in place of one that was lost, new
 /// ones are, as often and at such distances as the policy has it.
@@ -68,18 +75,11 @@ impl<'a, R: Net + Clock> Connector<'a, R> {
         }
     }
 
-    /// How many new connections its policy has counted.
-    pub(crate) fn made(&self) -> u32
-        ensures { result ≡ self.now.again.made }
-    {
-        self.again.made()
-    }
-
-    /// Begins the next try, or the wait before it. None where the policy allows no more.
-    fn begin<T>(&mut self, cx: &mut Context<'_>) -> Poll<Option<T>>
+    /// Begins the next try, or the wait before it, unless the policy allows no more.
+    fn begin<T>(&mut self, cx: &mut Context<'_>) -> Poll<News<T>>
         ensures registered { OnPending result ((s : ℕ) → waits_of self.new.stage s → Hears cx.new s) }
         ensures policy { self.new.again.policy ≡ self.old.again.policy }
-        ensures spent { result ≡ Poll.Ready None → IsSpent (limit_of self.new.again.policy) self.new.again.made }
+        ensures spent { IfEnded result (IsSpent (limit_of self.new.again.policy) self.new.again.made) }
         ensures kept { Keeps cx.old cx.new }
     {
         if !self.begun {
@@ -88,7 +88,7 @@ impl<'a, R: Net + Clock> Connector<'a, R> {
             return self.go_on(cx);
         }
         match self.again.next() {
-            None => Poll::Ready(None),
+            None => Poll::Ready(News::Ended),
             Some(wait) => {
                 self.stage = self.begin_wait(wait);
                 self.go_on(cx)
@@ -97,13 +97,13 @@ impl<'a, R: Net + Clock> Connector<'a, R> {
     }
 
     /// Asks to be polled again, where a try or a wait was begun; where memory was refused to it, whoever polls comes back.
-    fn go_on<T>(&self, cx: &mut Context<'_>) -> Poll<Option<T>>
+    fn go_on<T>(&self, cx: &mut Context<'_>) -> Poll<News<T>>
         ensures pending { result ≡ Poll.Pending }
         ensures registered { (s : ℕ) → waits_of self.now.stage s → Hears cx.new s }
         ensures kept { Keeps cx.old cx.new }
     {
         match &self.stage {
-            Stage::Idle => Poll::Pending,
+            Stage::Idle | Stage::Made => Poll::Pending,
             Stage::Pausing(_) | Stage::Trying(_) => cx.yield_now(),
         }
     }
@@ -141,7 +141,7 @@ impl<'a, R: Net + Clock> Connector<'a, R> {
     }
 }
 
-impl<R: Net + Clock> Connecting for Connector<'_, R> {
+impl<R: Net + Clock> Keeping for Connector<'_, R> {
     type Stream = Plain<TcpStream>;
 
     ghost waits = { λ connector. waits_of connector.stage };
@@ -150,16 +150,14 @@ impl<R: Net + Clock> Connecting for Connector<'_, R> {
 
     ghost made = { λ connector. connector.again.made };
 
-    ghost noted = { λ old new. (new.again.wait ≡ 0) × (new.again.made ≡ made_after_reply old.again.policy old.again.made) };
+    ghost noted = { λ old moves new. 1 ≤ moves.replies → (new.again.wait ≡ 0) × (new.again.made ≡ made_after_reply old.again.policy old.again.made) };
 
-    fn poll_connect(
-        &mut self,
-        cx: &mut Context<'_>,
-        wanted: bool,
-    ) -> Poll<Option<Plain<TcpStream>>> {
+    /// None is begun while nothing waits for its report: then a pending poll waits for nothing.
+    fn poll_news(&mut self, cx: &mut Context<'_>, core: &Core) -> Poll<News<Plain<TcpStream>>> {
         match &mut self.stage {
+            Stage::Made => Poll::Pending,
             Stage::Idle => {
-                if !wanted {
+                if core.untold() == 0 {
                     return Poll::Pending;
                 }
                 self.begin(cx)
@@ -181,13 +179,24 @@ impl<R: Net + Clock> Connecting for Connector<'_, R> {
                     };
                     let _set = inner.set_nodelay(true);
                     self.shared.counts.connections.add(1);
-                    Poll::Ready(Some(Plain { inner }))
+                    self.stage = Stage::Made;
+                    Poll::Ready(News::Connected(NODE, Plain { inner }))
                 }
             },
         }
     }
 
-    fn note_reply(&mut self) {
-        self.again.note_reply();
+    fn new_connections(&self) -> u32 {
+        self.again.made()
+    }
+
+    fn note_lost(&mut self, _node: u32) {
+        self.stage = Stage::Idle;
+    }
+
+    fn note_moves(&mut self, moves: &Moves) {
+        if moves.replies() > 0 {
+            self.again.note_reply();
+        }
     }
 }

@@ -15,11 +15,9 @@ use std::alloc::{AllocError, Global};
 use std::sync::{Arc, Wait};
 use std::time::{Clock, Duration, Instant};
 
-/// How long a wait for room is at most before the lane is looked at again, in milliseconds.
-const ROOM_WAIT: u64 = 1;
-
-/// How long a wait for a report is at most before the ring is looked at again, in milliseconds.
-const REPORT_WAIT: u64 = 20;
+/// How long a wait is at most before the lane, or the ring of reports, is looked at again, in milliseconds: the bell ends it
+/// sooner, where there is room or a report.
+const LONGEST_WAIT: u64 = 1000;
 
 /// A sender's handle: its records go to their partitions in the order in which they are sent. One thread uses it at a
 /// time.
@@ -119,7 +117,7 @@ impl Producer {
                 return Err((fault, back));
             }
             self.bell()
-                .wait(rt, left.min(Duration::from_millis(ROOM_WAIT)));
+                .wait(rt, left.min(Duration::from_millis(LONGEST_WAIT)));
             body = back;
         }
         unreachable!()
@@ -169,7 +167,7 @@ impl Producer {
                 return report;
             }
             self.bell()
-                .wait(rt, left.min(Duration::from_millis(REPORT_WAIT)));
+                .wait(rt, left.min(Duration::from_millis(LONGEST_WAIT)));
         }
         unreachable!()
     }

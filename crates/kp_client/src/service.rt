@@ -9,7 +9,7 @@ ghost use Rattle.kp_client.specs.Left.{parts_in};
 ghost use Rattle.kp_client.specs.Ends.{EndsAs, GaveUpLast, HasEnded};
 ghost use Rattle.kp_client.specs.Left.{ending_of, new_connections_of};
 ghost use Rattle.kp_client.specs.Serving.{ending_for, GivesUpFor, IsServing};
-ghost use Rattle.kp_running.specs.Lasting.{IsGoing};
+ghost use Rattle.kp_running.specs.Fleet.{IsGoing};
 
 use crate::again::Again;
 use crate::connecting::Way;
@@ -19,10 +19,10 @@ use crate::shared::Shared;
 use crate::tended::Tended;
 use kp_connection::{Plain, Stream};
 use kp_core::Core;
-use kp_engine::{Clock as Moments, Engine};
+use kp_engine::{Clock as Moments, ClusterEngine};
 use kp_hello::Hello;
 use kp_lanes::Intake;
-use kp_running::{Connecting, Millis, Over, Running};
+use kp_running::{Keeping, Millis, Over, Running};
 use kp_settings::{OpenFault, ServiceFault, Settings};
 use std::alloc::{AllocGlobal, Global};
 use std::net::Net;
@@ -113,9 +113,9 @@ impl Service {
         self.hello.partitions
     }
 
-    /// Sends what the senders' lanes accept, and hands reports to them, until the producer was closed and all is reported,
-    /// or no connection can be had any more, or no request can go out, or memory is refused. Then what has no report is given up, and all that is
-    /// left comes back. Senders that wait are told that it has ended.
+    /// Sends what the senders' lanes accept, and hands reports to them, until the producer was closed and all is reported, or no
+    /// connection can be had any more, or no request can go out, or memory is refused. Then what has no report is given up, and all
+    /// that is left comes back. Senders that wait are told that it has ended.
     pub fn run<R>(self, rt: &R) -> Result<Ended, ServiceFault>
     where
         R: Wait + Threads + Clock + RandomSource + AllocGlobal + Sync + Net,
@@ -165,7 +165,7 @@ where
     };
     let connector = Connector::new(rt, handle, way, again, shared);
     let clock = Millis::since(rt, shared.start);
-    match Engine::without_stream(alloc, core, intake, clock, false) {
+    match ClusterEngine::new(alloc, core, intake, clock) {
         Ok(engine) => {
             let tended = Tended::new(engine, connector, shared);
             serve_on(rt, &mut runtime, shared, tended)
@@ -179,7 +179,7 @@ where
 /// The engine of a service.
 type Served<'a, R> = Tended<'a, Plain<TcpStream>, Millis<'a, R>, Connector<'a, R>>;
 
-/// Serves over one connection after the other, and with none.
+/// Serves over the connections that there are, and with none.
 fn serve_on<'a, R>(
     rt: &'a R,
     runtime: &mut Runtime,
@@ -188,19 +188,19 @@ fn serve_on<'a, R>(
 ) -> Result<Ended, ServiceFault>
 where
     R: Wait + Threads + Clock + RandomSource + AllocGlobal + Sync + Net,
-    requires serves { IsServing tended.lasting.engine }
-    requires going { IsGoing tended.lasting.engine.line }
-    ensures ended { IfOk result (EndsAs tended.entry.lasting.engine) }
-    ensures gave_up { IfOk result (GaveUpLast tended.entry.lasting.connecting.again.policy) }
+    requires serves { IsServing tended.fleet }
+    requires going { IsGoing tended.fleet }
+    ensures ended { IfOk result (EndsAs tended.entry.fleet) }
+    ensures gave_up { IfOk result (GaveUpLast tended.entry.fleet.keeping.again.policy) }
 {
     match Running::new(rt, runtime.handle(), &shared.bells, tended) {
         Ok(running) => {
             let (tended, over) = runtime.block_on(rt, running)?;
-            let made = tended.lasting.connecting.made();
+            let made = tended.fleet.keeping.new_connections();
             Ok(ended(tended, ending_for(over), made))
         }
         Err((_refused, tended)) => {
-            let made = tended.lasting.connecting.made();
+            let made = tended.fleet.keeping.new_connections();
             Ok(ended(tended, Ending::OutOfMemory, made))
         }
     }
@@ -219,15 +219,15 @@ fn ending_for(over: Over) -> Ending
 }
 
 /// Gives up what has no report, and takes the engine apart.
-fn ended<S: Stream, C: Moments, K: Connecting<Stream = S>>(
+fn ended<S: Stream, C: Moments, K: Keeping<Stream = S>>(
     tended: Tended<'_, S, C, K>,
     ending: Ending,
     made: u32,
 ) -> Ended
-    requires serves { IsServing tended.lasting.engine }
-    requires done { ending ≡ Ending.Done → IsDone tended.lasting.engine.exchange }
-    requires cause { GivesUpFor ending tended.lasting.engine }
-    ensures ended { EndsAs tended.entry.lasting.engine result }
+    requires serves { IsServing tended.fleet }
+    requires done { ending ≡ Ending.Done → IsDone tended.fleet.engine.exchange }
+    requires cause { GivesUpFor ending tended.fleet }
+    ensures ended { EndsAs tended.entry.fleet result }
     ensures told { (ending_of result ≡ ending) × (new_connections_of result ≡ made) }
 {
     tended.count_batches();

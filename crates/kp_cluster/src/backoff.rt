@@ -1,31 +1,23 @@
 //! How long a slot is left alone after failures.
 
-ghost use Rattle.std.specs.Prelude.{◌≡◌, ◌≤◌, ◌<◌, ◌+◌, ◌-◌, ◌/◌, ◌^◌, min};
+ghost use Rattle.std.specs.Prelude.{◌≡◌};
 ghost use Rattle.kp_cluster.specs.Backoff.{wait_after, IsJittered};
 
 use crate::config::ClusterConfig;
+use rand::rngs::SmallRng;
+use rand::{RngExt, SeedableRng};
 
-/// A source of numbers that are spread, from a seed: a linear congruential generator of 64 bits (Donald Knuth's MMIX).
-#[derive(Clone, Copy, Debug, PartialEq, Eq)]
+/// What spreads waits: random numbers, from a seed.
+#[derive(Debug, Drop)]
 pub(crate) struct Spread {
-    state: u64,
+    numbers: SmallRng,
 }
 
 impl Spread {
     pub(crate) fn new(seed: u64) -> Spread {
-        Spread { state: seed }
-    }
-
-    /// A number that is at most `most`.
-    fn up_to(&mut self, most: u64) -> u64
-        requires { most < 2 ^ 63 }
-        ensures { result ≤ most }
-    {
-        self.state = self
-            .state
-            .wrapping_mul(6_364_136_223_846_793_005)
-            .wrapping_add(1_442_695_040_888_963_407);
-        (self.state >> 32) % (most + 1)
+        Spread {
+            numbers: SmallRng::seed_from_u64(seed),
+        }
     }
 
     /// The wait after so many failures in a row, less a jitter, so that not all come back at once.
@@ -33,8 +25,7 @@ impl Spread {
         ensures { IsJittered (wait_after config.now failures) result }
     {
         let whole = wait_after(config, failures);
-        let off = self.up_to(whole / 5);
-        whole - off
+        whole - self.numbers.random_range(0..=whole / 5)
     }
 }
 

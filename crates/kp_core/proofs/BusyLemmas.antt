@@ -220,16 +220,12 @@ pub any_missed : (f : Partition → Bool) (b : Bool) (ts : List Partition) (ds :
 any_missed f b ts ds i whole is end so_far =
     sym (any_none (λ p. f (partition_at p ts)) (busy_in ts) i (subst (λ (ps : List ℕ). length ps ≤ i) is end) so_far) ∙ whole
 
-pub first_found : (f : Partition → Bool) (o : Option ℕ) (ts : List Partition) (ds : List ℕ) (i : ℕ)
-    → find (λ p. f (partition_at p ts)) (busy_in ts) ≡ o → ds ≡ busy_in ts → i < length ds → f (partition_at (get_or ds i 0) ts) ≡ true
-    → find (λ p. f (partition_at p ts)) (drop i (busy_in ts)) ≡ find (λ p. f (partition_at p ts)) (busy_in ts) → Some (get_or ds i 0) ≡ o
-first_found f o ts ds i whole is l passes so_far =
-    let m : i < length (busy_in ts) = subst (λ (ps : List ℕ). i < length ps) is l in
-    let same : get_or ds i 0 ≡ get_or (busy_in ts) i 0 = ap (λ (ps : List ℕ). get_or ps i 0) is in
-    ap Some same ∙ sym (find_here (λ p. f (partition_at p ts)) (busy_in ts) i m (ap (λ (p : ℕ). f (partition_at p ts)) (sym same) ∙ passes) so_far) ∙ whole
+pub first_found : (g : ℕ → Bool) (o : Option ℕ) (ps ds : List ℕ) (i : ℕ) → find g ps ≡ o → ds ≡ ps → i < length ds → g (get_or ds i 0) ≡ true
+    → find g (drop i ps) ≡ find g ps → Some (get_or ds i 0) ≡ o
+first_found g o ps ds i whole is l passes so_far =
+    let m : i < length ps = subst (λ (qs : List ℕ). i < length qs) is l in
+    let same : get_or ds i 0 ≡ get_or ps i 0 = ap (λ (qs : List ℕ). get_or qs i 0) is in
+    ap Some same ∙ sym (find_here g ps i m (ap g (sym same) ∙ passes) so_far) ∙ whole
 
-pub first_missed : (f : Partition → Bool) (o : Option ℕ) (ts : List Partition) (ds : List ℕ) (i : ℕ)
-    → find (λ p. f (partition_at p ts)) (busy_in ts) ≡ o → ds ≡ busy_in ts → length ds ≤ i
-    → find (λ p. f (partition_at p ts)) (drop i (busy_in ts)) ≡ find (λ p. f (partition_at p ts)) (busy_in ts) → None ≡ o
-first_missed f o ts ds i whole is end so_far =
-    sym (find_none (λ p. f (partition_at p ts)) (busy_in ts) i (subst (λ (ps : List ℕ). length ps ≤ i) is end) so_far) ∙ whole
+pub first_missed : (g : ℕ → Bool) (o : Option ℕ) (ps ds : List ℕ) (i : ℕ) → find g ps ≡ o → ds ≡ ps → length ds ≤ i → find g (drop i ps) ≡ find g ps → None ≡ o
+first_missed g o ps ds i whole is end so_far = sym (find_none g ps i (subst (λ (qs : List ℕ). length qs ≤ i) is end) so_far) ∙ whole

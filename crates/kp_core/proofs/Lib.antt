@@ -25,3 +25,7 @@ pub mod BusyLemmas
 pub mod IdleLemmas
 pub mod ListedLemmas
 pub mod WalkLemmas
+pub mod LedLemmas
+pub mod ByLeaderLemmas
+pub mod LeaderLemmas
+pub mod WorkLemmas

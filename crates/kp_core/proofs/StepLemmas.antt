@@ -1,10 +1,7 @@
 -- Calls that tell or only change the core, case by case: closing, a lost connection, the time and the end.
 use Rattle.std.proofs.Common.{◌≡◌, ◌∙◌, ℕ, Bool, true, false, sym, ap}
-use Rattle.std.specs.Prelude.{if◌then◌else◌, ◌&&◌}
-use Rattle.std.specs.List.{list_any}
-use Rattle.kp_accum.specs.Ready.{is_over}
+use Rattle.std.specs.Prelude.{if◌then◌else◌}
 use Rattle.kp_rules.specs.declared.ticked.Ticked.{Ticked}
-use Rattle.kp_rules.specs.Attempts.{goes_to}
 use Rattle.kp_rules.specs.Calls.{Gives}
 use Rattle.kp_rules.specs.Closing.{close_step, end_all, end_step}
 use Rattle.kp_rules.specs.Dropping.{disconnect_step, drop_requests}
@@ -71,25 +68,19 @@ looked_at node now s u t reports reconnect is answer after = (
   after ∙ ap (λ (x : Ticks). x.after) (sym is),
 )
 
-timed_out-is : (node now : ℕ) (s : Core) (late : Bool) → late ≡ list_any (λ r. goes_to node r && is_over r.sent s.config.request_timeout_ms now) s.requests
-    → has_timed_out node now s ≡ late
-unfolding has_timed_out
-timed_out-is node now s late e = sym e
-
 pub ticks_late : (node now : ℕ) (s u t : Core) (reports : ℕ) → s.ended ≡ false
-    → true ≡ list_any (λ r. goes_to node r && is_over r.sent s.config.request_timeout_ms now) s.requests → u ≡ drop_requests node now s
+    → has_timed_out node now s ≡ true → u ≡ drop_requests node now s
     → reports ≡ (at_each (heed_deadlines u.config now) u).answer → t ≡ (at_each (heed_deadlines u.config now) u).after
     → Gives (tick_step node now s) (record { reports = reports; reconnect = true }) t
 unfolding tick_step
 ticks_late node now s u t reports e late dropped answer after =
     looked_at node now s u t reports true
-    (ap (by_end node now s) e ∙ ap (by_time node now s) (timed_out-is node now s true late)
+    (ap (by_end node now s) e ∙ ap (by_time node now s) late
     ∙ ap (tick_partitions heed_deadlines now true) (sym dropped)) answer after
 
 pub ticks_in_time : (node now : ℕ) (s t : Core) (reports : ℕ) → s.ended ≡ false
-    → false ≡ list_any (λ r. goes_to node r && is_over r.sent s.config.request_timeout_ms now) s.requests
-    → reports ≡ (at_each (heed_deadlines s.config now) s).answer → t ≡ (at_each (heed_deadlines s.config now) s).after
+    → has_timed_out node now s ≡ false → reports ≡ (at_each (heed_deadlines s.config now) s).answer → t ≡ (at_each (heed_deadlines s.config now) s).after
     → Gives (tick_step node now s) (record { reports = reports; reconnect = false }) t
 unfolding tick_step
 ticks_in_time node now s t reports e early answer after =
-    looked_at node now s s t reports false (ap (by_end node now s) e ∙ ap (by_time node now s) (timed_out-is node now s false early)) answer after
+    looked_at node now s s t reports false (ap (by_end node now s) e ∙ ap (by_time node now s) early) answer after

@@ -6,4 +6,5 @@ pub mod Choosing
 pub mod Matching
 pub mod Hearing
 pub mod Busy
+pub mod ByLeader
 pub mod Spent

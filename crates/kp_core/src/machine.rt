@@ -7,6 +7,7 @@ ghost use Rattle.kp_rules.specs.Appending.{may_append};
 ghost use Rattle.kp_rules.specs.Auditing.{opened};
 ghost use Rattle.kp_rules.specs.Calls.{Append, Close, Disconnect, End, Fetch, Flush, Lead, Reply, Request as Requested, Tick, Step};
 ghost use Rattle.kp_rules.specs.Opening.{MayOpen, new_core};
+ghost use Rattle.kp_rules.specs.Tick.{has_timed_out};
 ghost use Rattle.kp_core.specs.Answers.{answer_of};
 
 mod appending;
@@ -24,7 +25,7 @@ mod replying;
 mod ticking;
 
 use crate::machine::partitions::Partitions;
-use crate::requests::Request;
+use crate::requests::{Request, any_timed_out};
 use crate::turns::Turn;
 use kp_accum::{AppendFault, Config, Item};
 use kp_parts::Desk;
@@ -188,6 +189,14 @@ impl Core {
             };
         }
         self.look_at(node, now)
+    }
+
+    /// Whether a request to this node has waited for `request.timeout.ms`.
+    #[tactic(auto, unfolding(kp_rules::specs::Tick::has_timed_out))]
+    pub fn is_late(&self, node: u32, now: u64) -> bool
+        ensures { result ≡ has_timed_out node now self.now }
+    {
+        any_timed_out(&self.requests, node, &self.config, now)
     }
 
     /// The connection to this node is lost: what was in flight there is sent again, once `retry.backoff.ms` has passed from

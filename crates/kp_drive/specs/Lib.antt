@@ -4,7 +4,6 @@ pub mod Links
 pub mod Doing
 pub mod Waiting
 pub mod Turning
-pub mod Dialing
 pub mod Driving
 pub mod Connection
 pub mod Using

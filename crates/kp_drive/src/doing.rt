@@ -5,11 +5,11 @@ ghost use Rattle.kp_drive.specs.Doing.{Does, DoesAll, Tells};
 ghost use Rattle.kp_drive.specs.Links.{OnlyAt, link_at};
 ghost use Rattle.kp_embed.specs.Connecting.{Loses};
 
-use crate::dial::Dial;
 use crate::host::Host;
 use crate::link::Link;
 use kp_cluster::{Action, SLOT_LIMIT};
 use kp_connection::Stream;
+use kp_dial::Dial;
 use kp_embed::Embed;
 
 /// Does what the producer tells, until there is nothing: whether there was anything.

@@ -18,7 +18,6 @@ ghost use Rattle.kp_rules.specs.Calls.{Close, End, Fetch, Flush};
 ghost use Rattle.kp_rules.specs.Opening.{NAME_LIMIT};
 ghost use Rattle.tokio.specs.Timers.{sleep_deadline, sleep_source};
 
-use crate::dial::Dial;
 use crate::doing::do_all;
 use crate::host::Host;
 use crate::link::Link;
@@ -26,13 +25,15 @@ use crate::links::poll_links;
 use futures::task::{Context, Poll};
 use kp_batch::Record;
 use kp_cluster::Address;
-use kp_connection::Stream;
+use kp_connection::{Plain, Stream};
 use kp_core::{Names, Report};
+use kp_dial::{Dial, Dialing, Sockets};
 use kp_embed::{Embed, EmbedConfig, SendFault, Target, Ticket};
 use kp_running::Passed;
 use std::alloc::Global;
 use std::io;
 use std::time::{Clock, Duration, Instant};
+use tokio::net::TcpStream;
 use tokio::runtime::Handle;
 use tokio::time::Sleep;
 
@@ -53,6 +54,9 @@ pub struct Drive<'r, R, D, K, S> {
     ghost few: { length links.items ≤ SLOT_LIMIT },
     ghost one_clock: { clock.start ≡ start },
 }
+
+/// A producer over tokio's sockets.
+pub type SocketDrive<'r, R, L, K> = Drive<'r, R, Sockets<'r, R, L>, Dialing<K>, Plain<TcpStream>>;
 
 impl<'r, R: Clock, K: Drop, S: Stream, D: Dial<Dialing = K, Stream = S>> Drive<'r, R, D, K, S> {
     ghost use Rattle.kp_drive.specs.Driving.{GoesOn, OnlyProducer, links_of, moment_of, producer_of, start_of, timer_of};

@@ -5,12 +5,12 @@ ghost use Rattle.futures.specs.Task.{Keeps};
 ghost use Rattle.kp_drive.specs.Links.{LinkTurns};
 ghost use Rattle.kp_drive.specs.Waiting.{LinkWaits};
 
-use crate::dial::Dial;
 use crate::flow::Flow;
 use crate::host::Host;
 use crate::pipe::Pipe;
 use futures::task::{Context, Poll};
 use kp_connection::Stream;
+use kp_dial::Dial;
 use kp_embed::Embed;
 use std::alloc::Global;
 

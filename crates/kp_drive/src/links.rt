@@ -6,11 +6,11 @@ ghost use Rattle.kp_cluster.specs.declared.learning.TheConstants.{SLOT_LIMIT};
 ghost use Rattle.kp_drive.specs.Links.{EachTurns, link_at};
 ghost use Rattle.kp_drive.specs.Waiting.{LinkWaits};
 
-use crate::dial::Dial;
 use crate::host::Host;
 use crate::link::Link;
 use futures::task::Context;
 use kp_connection::Stream;
+use kp_dial::Dial;
 
 /// A turn for each link, in their order: whether anything has moved. Where nothing has, the poll has registered for all that they
 /// wait for.

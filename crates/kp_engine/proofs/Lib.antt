@@ -28,4 +28,5 @@ pub mod StreamlessLemmas
 pub mod MadeLemmas
 pub mod RoundLemmas
 pub mod LineLemmas
+pub mod CutLemmas
 pub mod AwayLemmas

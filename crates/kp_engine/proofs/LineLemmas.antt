@@ -87,38 +87,39 @@ rounds_as_many answers now _ _ _ _ _ (RoundsEach.each_had_one x) = refl
 rounds_as_many answers now _ _ _ _ _ (RoundsEach.goes_on x y z l m ls ms last line rest) = ap suc (rounds_as_many answers now y z ls ms last rest)
 rounds_as_many answers now _ _ _ _ _ (RoundsEach.ends x y l m ls refused line) = refl
 
--- ---- they are polls
+-- ---- they are polls, also where something else is said of streams
 
-abbrev ArePolls : {S : Type 0} → Told S → Exchange → Exchange → Type 0
-ArePolls answers x y = (calls : List Call) × Polled answers x calls y
+abbrev ArePolls : {T : Type 0} → Told T → Exchange → Exchange → Type 0
+ArePolls other x y = (calls : List Call) × Polled other x calls y
 
-none_polled : {S : Type 0} (answers : Told S) (x y : Exchange) → y ≡ x → ArePolls answers x y
-none_polled answers x y is = subst (ArePolls answers x) (sym is) ([], Polled.not_yet)
+module _ {S T : Type 0} (answers : Told S) (other : Told T) where
+  none_polled : (x y : Exchange) → y ≡ x → ArePolls other x y
+  none_polled x y is = subst (ArePolls other x) (sym is) ([], Polled.not_yet)
 
-round_polled : {S : Type 0} (answers : Told S) (node now : ℕ) (line : Line S) (x : Exchange) (result : Result (Unit {0}) AllocError) (y : Exchange) (left : Line S)
-    → RoundOver answers node now line x result y left → ArePolls answers x y
-round_polled answers node now (Open wire) x result y left r =
-    (r.0.calls, made_polled answers x x y [] r.0.calls Polled.not_yet (round_made answers node now x wire r.0.calls r.0.told y left r.0.round))
-round_polled answers node now (Stopped stop) x result y left r = none_polled answers x y r.0
+  round_polled : (node now : ℕ) (line : Line S) (x : Exchange) (result : Result (Unit {0}) AllocError) (y : Exchange) (left : Line S)
+      → RoundOver answers node now line x result y left → ArePolls other x y
+  round_polled node now (Open wire) x result y left r =
+      (r.0.calls, made_polled other x x y [] r.0.calls Polled.not_yet (round_made answers node now x wire r.0.calls r.0.told y left r.0.round))
+  round_polled node now (Stopped stop) x result y left r = none_polled x y r.0
 
-rounds_polled : {S : Type 0} (answers : Told S) (now : ℕ) (x y : Exchange) (ls ms : List (NodeLine S)) (result : Result (Unit {0}) AllocError)
-    → RoundsEach answers now x ls result y ms → ArePolls answers x y
-rounds_polled answers now x _ _ _ _ (RoundsEach.each_had_one _) = ([], Polled.not_yet)
-rounds_polled answers now x _ _ _ _ (RoundsEach.goes_on _ y z l m ls ms last line rest) =
-    let first = round_polled answers l.node now l.line x (Ok tt) y m.line line.round in
-    let others = rounds_polled answers now y z ls ms last rest in
-    (first.0 ++ others.0, polls_then answers x y z first.0 others.0 first.1 others.1)
-rounds_polled answers now x _ _ _ _ (RoundsEach.ends _ y l m ls refused line) = round_polled answers l.node now l.line x (Err refused) y m.line line.round
+  rounds_polled : (now : ℕ) (x y : Exchange) (ls ms : List (NodeLine S)) (result : Result (Unit {0}) AllocError)
+      → RoundsEach answers now x ls result y ms → ArePolls other x y
+  rounds_polled now x _ _ _ _ (RoundsEach.each_had_one _) = ([], Polled.not_yet)
+  rounds_polled now x _ _ _ _ (RoundsEach.goes_on _ y z l m ls ms last line rest) =
+      let first = round_polled l.node now l.line x (Ok tt) y m.line line.round in
+      let others = rounds_polled now y z ls ms last rest in
+      (first.0 ++ others.0, polls_then other x y z first.0 others.0 first.1 others.1)
+  rounds_polled now x _ _ _ _ (RoundsEach.ends _ y l m ls refused line) = round_polled l.node now l.line x (Err refused) y m.line line.round
 
--- a poll over several
-pub cluster_polled : {S C : Type 0} (answers : Told S) (moments : C → List ℕ) (old new : ClusterEngine S C) (result : Poll Stop)
-    → PollsCluster answers moments old result new → ArePolls answers old.exchange new.exchange
-cluster_polled answers moments old _ _ (PollsCluster.was_over stop is) = ([], Polled.not_yet)
-cluster_polled answers moments old _ _ (PollsCluster.is_over new stop open_still had ends lines over) =
-    (had.turn.calls, Polled.away old.exchange new.exchange [] _ stop Polled.not_yet had.turn)
-cluster_polled answers moments old _ _ (PollsCluster.goes_on new stop mid result open_still had goes rounds over) =
-    let others = rounds_polled answers had.turn.now mid new.exchange old.lines.items new.lines.items result rounds in
-    (had.turn.calls ++ others.0, polls_then answers old.exchange mid new.exchange had.turn.calls others.0 (Polled.away old.exchange mid [] _ stop Polled.not_yet had.turn) others.1)
+  -- a poll over several
+  pub cluster_polled : {C : Type 0} (moments : C → List ℕ) (old new : ClusterEngine S C) (result : Poll Stop)
+      → PollsCluster answers moments old result new → ArePolls other old.exchange new.exchange
+  cluster_polled moments old _ _ (PollsCluster.was_over stop is) = ([], Polled.not_yet)
+  cluster_polled moments old _ _ (PollsCluster.is_over new stop open_still had ends lines over) =
+      (had.turn.calls, Polled.away old.exchange new.exchange [] _ stop Polled.not_yet had.turn)
+  cluster_polled moments old _ _ (PollsCluster.goes_on new stop mid result open_still had goes rounds over) =
+      let others = rounds_polled had.turn.now mid new.exchange old.lines.items new.lines.items result rounds in
+      (had.turn.calls ++ others.0, polls_then other old.exchange mid new.exchange had.turn.calls others.0 (Polled.away old.exchange mid [] _ stop Polled.not_yet had.turn) others.1)
 
 -- ---- those that were given up
 

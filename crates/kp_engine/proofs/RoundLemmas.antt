@@ -121,28 +121,24 @@ makes_then x y z a b p q = record { runs = runs_then x y z a b p.runs q.runs; on
 
 pub round_made : {S : Type 0} (answers : Told S) (node now : ℕ) (x : Exchange) (w : Wired S) (calls : List Call) (xs : List Answer) (y : Exchange) (left : Line S)
     → Rounds answers node now x w calls xs y left → IsMade x calls y
-round_made answers node now x w _ _ _ _ (Rounds.goes_on mid y ticked v looks on_time talks) = record {
-  makes = makes_then x mid y (Tick node now ticked ∷ []) (talks.asked ++ talks.replied) looks (record { runs = talks.talks.runs; only = talks.talks.only });
-  talk = (tt, of_both node now talks.sent talks.heard talks.asked talks.replied talks.of_requests talks.of_replies.made);
+round_made answers node now x w _ _ _ _ (Rounds.goes_on y v on_time talks) = record {
+  makes = record { runs = talks.talks.runs; only = talks.talks.only };
+  talk = of_both node now talks.sent talks.heard talks.asked talks.replied talks.of_requests talks.of_replies.made;
 }
-round_made answers node now x w _ _ _ _ (Rounds.is_cut mid after y ticked cause v looks talks drops) =
+round_made answers node now x w _ _ _ _ (Rounds.is_cut after y cause v talks drops) =
     let spoken = of_both node now talks.sent talks.heard talks.asked talks.replied talks.of_requests talks.of_replies.made in
     record {
-      makes = makes_then x after y (Tick node now ticked ∷ (talks.asked ++ talks.replied)) (Disconnect node now ∷ [])
-          (makes_then x mid after (Tick node now ticked ∷ []) (talks.asked ++ talks.replied) looks (record { runs = talks.talks.runs; only = talks.talks.only })) drops;
-      talk = all_append IsTalk (Tick node now ticked ∷ (talks.asked ++ talks.replied)) (Disconnect node now ∷ []) (tt, spoken) (tt, tt);
+      makes = makes_then x after y (talks.asked ++ talks.replied) (Disconnect node now ∷ []) (record { runs = talks.talks.runs; only = talks.talks.only }) drops;
+      talk = all_append IsTalk (talks.asked ++ talks.replied) (Disconnect node now ∷ []) spoken (tt, tt);
     }
-round_made answers node now x w _ _ _ _ (Rounds.no_tick y none) = record { makes = none; talk = tt }
-round_made answers node now x w _ _ _ _ (Rounds.no_talk mid y ticked v looks talks) = record {
-  makes = makes_then x mid y (Tick node now ticked ∷ []) talks.calls looks (record { runs = talks.talks.runs; only = talks.talks.only });
-  talk = (tt, of_until node now talks.sent talks.heard talks.calls talks.until);
+round_made answers node now x w _ _ _ _ (Rounds.no_talk y v talks) = record {
+  makes = record { runs = talks.talks.runs; only = talks.talks.only };
+  talk = of_until node now talks.sent talks.heard talks.calls talks.until;
 }
-round_made answers node now x w _ _ _ _ (Rounds.no_drop mid after y ticked cause v looks talks none) =
-    let spoken = of_both node now talks.sent talks.heard talks.asked talks.replied talks.of_requests talks.of_replies.made in
-    let made = Tick node now ticked ∷ (talks.asked ++ talks.replied) in
+round_made answers node now x w _ _ _ _ (Rounds.no_drop after y cause v talks none) =
+    let made = talks.asked ++ talks.replied in
     record {
       makes = subst (λ (cs : List Call). Makes cs x y) (append-nil made)
-          (makes_then x after y made []
-          (makes_then x mid after (Tick node now ticked ∷ []) (talks.asked ++ talks.replied) looks (record { runs = talks.talks.runs; only = talks.talks.only })) none);
-      talk = (tt, spoken);
+          (makes_then x after y made [] (record { runs = talks.talks.runs; only = talks.talks.only }) none);
+      talk = of_both node now talks.sent talks.heard talks.asked talks.replied talks.of_requests talks.of_replies.made;
     }

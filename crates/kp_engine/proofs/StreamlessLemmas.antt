@@ -1,12 +1,12 @@
 -- A poll over a stream is one of which the stream tells nothing.
-use Rattle.std.proofs.Common.{◌≡◌, ℕ, List, refl, ap, ◌∙◌, inl, inr}
+use Rattle.std.proofs.Common.{◌≡◌, Bool, ℕ, List, refl, ap, ◌∙◌, inl, inr}
 use Rattle.futures.specs.declared.task.Poll.{Poll}
 use Rattle.futures.specs.declared.task.Poll.TheVariants.{Ready, Pending}
 use Rattle.kp_connection.specs.Answers.{Answer}
 use Rattle.kp_connection.specs.Wire.{Goes, Stops, Told, Wired}
 use Rattle.kp_engine.specs.Engine.{Polls, line_after}
 use Rattle.kp_engine.specs.Made.{anything}
-use Rattle.kp_engine.specs.Polls.{Turns, TurnsCut, TurnsOn, TurnsOut}
+use Rattle.kp_engine.specs.Polls.{TalksCut, Turns, TurnsCut, TurnsOn, TurnsOut}
 use Rattle.kp_engine.specs.declared.engine.Line.{Line}
 use Rattle.kp_engine.specs.declared.engine.Line.TheVariants.{Open, Stopped}
 use Rattle.kp_engine.specs.declared.exchange.Exchange.{Exchange}
@@ -94,3 +94,19 @@ module _ {S : Type 0} where
       line = ap no_line p.line ∙ left_so result p.after;
     }
     poll_so (Stopped stop) x result y left p = (p.0, p.1, ap no_line p.2)
+
+    -- what cuts a connection
+    pub talks_cut_so : (node now : ℕ) (late : Bool) (x : Exchange) (w : Wired S) (cause : Cause) (y : Exchange) (v : Wired S) → TalksCut answers node now late x w cause y v
+        → TalksCut anything node now late x (no_wire w) cause y (no_wire v)
+    talks_cut_so node now late x w cause y v t = record {
+      sent = t.sent;
+      heard = t.heard;
+      refused = t.refused;
+      asked = t.asked;
+      replied = t.replied;
+      xs = t.xs;
+      of_requests = t.of_requests;
+      of_replies = t.of_replies;
+      talks = record { runs = t.talks.runs; only = t.talks.only; stops = stops_so w v _ _ t.xs t.talks.stops };
+      cut = t.cut;
+    }

@@ -1,15 +1,23 @@
 -- An engine from when it was made until it is taken apart.
-use Rattle.std.specs.Prelude.{◌≡◌, Bool, true, List}
-use Rattle.kp_connection.specs.Wire.{Told}
+use Rattle.std.specs.Prelude.{◌≡◌, ◌++◌, ℕ, Bool, true, List}
+use Rattle.std.specs.List.{AllByRecursion}
+use Rattle.kp_connection.specs.Wire.{Told, Wired}
 use Rattle.kp_lanes.specs.declared.intake.Intake.{Intake}
 use Rattle.kp_rules.specs.Calls.{Call}
 use Rattle.kp_rules.specs.Records.{Core}
+use Rattle.kp_rules.specs.Tick.{has_timed_out}
 use Rattle.kp_engine.specs.Closing.{Polled}
 use Rattle.kp_engine.specs.Engine.{IsNew}
 use Rattle.kp_engine.specs.Opening.{MayTurn}
 use Rattle.kp_engine.specs.Parts.{ArePartsOf}
+use Rattle.kp_engine.specs.Polls.{TalksCut}
+use Rattle.kp_engine.specs.declared.engine.Line.{Line}
+use Rattle.kp_engine.specs.declared.engine.Line.TheVariants.{Open, Stopped}
 use Rattle.kp_engine.specs.declared.exchange.Exchange.{Exchange}
+use Rattle.kp_engine.specs.declared.node_line.NodeLine.{NodeLine}
 use Rattle.kp_engine.specs.declared.parts.Parts.{Parts}
+use Rattle.kp_engine.specs.declared.stop.Cause.{Cause}
+use Rattle.kp_engine.specs.declared.stop.Stop.TheVariants.{Done, NeedStream, OutOfMemory}
 
 -- of whatever streams there were nothing is told but what was written and read
 abbrev pub anything : Told (Unit {0})
@@ -30,3 +38,30 @@ pub record WasEnded (core : Core) (intake : Intake) (calls : List Call) (parts :
   pub polled : WasPolled core intake calls last
   pub ended : last.core.ended ≡ true
   pub apart : ArePartsOf last parts
+
+-- ---- what a connection was given up for
+
+-- Among these calls are some behind which a connection to a node was given up for this, by what was written and read over it or
+-- for a request that had waited too long.
+pub record WasCut (core : Core) (intake : Intake) (calls : List Call) (cause : Cause) : Type 0 where
+  pub earlier : List Call
+  pub later : List Call
+  pub among : calls ≡ earlier ++ later
+  pub x : Exchange
+  pub polled : WasPolled core intake earlier x
+  pub node : ℕ
+  pub now : ℕ
+  pub before : Wired (Unit {0})
+  pub y : Exchange
+  pub after : Wired (Unit {0})
+  pub cut : TalksCut anything node now (has_timed_out node now x.core) x before cause y after
+
+-- where it was given up, it was cut for this
+abbrev pub IsCut : {S : Type 0} → Core → Intake → List Call → Line S → Type 0
+IsCut core intake calls (Open wire) = Unit {0}
+IsCut core intake calls (Stopped Done) = Unit {0}
+IsCut core intake calls (Stopped (NeedStream cause)) = WasCut core intake calls cause
+IsCut core intake calls (Stopped OutOfMemory) = Unit {0}
+
+abbrev pub AreCut : {S : Type 0} → Core → Intake → List Call → List (NodeLine S) → Type 0
+AreCut core intake calls lines = AllByRecursion (λ l. IsCut core intake calls l.line) lines

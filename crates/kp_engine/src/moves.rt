@@ -17,6 +17,7 @@ pub struct Moves {
     served: [bool; MOST_SENDERS],
     requests: u64,
     replies: u64,
+    unreported_replies: u64,
     bytes_given: u64,
     bytes_heard: u64,
 }
@@ -50,6 +51,13 @@ impl Moves {
         self.replies
     }
 
+    /// How many of these replies told of no record, so that a partition's leader may have moved.
+    pub fn unreported_replies(&self) -> u64
+        ensures { result ≡ self.now.unreported_replies }
+    {
+        self.unreported_replies
+    }
+
     /// How many bytes the requests had that went out.
     pub fn bytes_given(&self) -> u64
         ensures { result ≡ self.now.bytes_given }
@@ -79,6 +87,7 @@ impl Moves {
             served: [false; MOST_SENDERS],
             requests: 0,
             replies: 0,
+            unreported_replies: 0,
             bytes_given: 0,
             bytes_heard: 0,
         }
@@ -94,6 +103,10 @@ impl Moves {
             Turned::Reply(_, content, Ok(replied)) => {
                 self.note_move();
                 self.replies = self.replies.saturating_add(u64::from(replied.known));
+                let is_unreported = replied.known && replied.reports == 0;
+                self.unreported_replies = self
+                    .unreported_replies
+                    .saturating_add(u64::from(is_unreported));
                 self.bytes_heard = self.bytes_heard.saturating_add(content.len() as u64);
             }
             Turned::Append(_, Some(_))

@@ -21,7 +21,7 @@ use Rattle.kp_engine.proofs.AwayLemmas.{none_goes}
 use Rattle.kp_engine.specs.Rounds.{Rounds}
 use Rattle.kp_engine.proofs.FrameLemmas.{talk_goes, talk_until_goes, turn_goes, until_goes}
 use Rattle.kp_engine.proofs.ServingLemmas.{before_nothing}
-use Rattle.kp_rules.specs.Calls.{Call, Disconnect, Tick}
+use Rattle.kp_rules.specs.Calls.{Call, Disconnect}
 use Rattle.kp_polls.specs.Bytes.{OverStream, answered_in_poll, answered_in_turn}
 
 -- These calls asked for these frames, and perhaps more, and heard these contents; the stream's calls answered so, and
@@ -114,22 +114,21 @@ module _ {S : Type 0} (answers : Told S) (nothing : (s : S) → answers s [] s)
   -- a round
   round_over : (node now : ℕ) (x : Exchange) (w : Wired S) (calls : List Call) (xs : List Answer) (y : Exchange) (left : Line S) → Rounds answers node now x w calls xs y left
       → WentOver answers w calls xs left
-  round_over node now x w _ _ _ _ (Rounds.goes_on mid y ticked v looks on_time t) =
+  round_over node now x w _ _ _ _ (Rounds.goes_on y v on_time t) =
       let g = talk_goes node now t.sent t.heard t.asked t.replied t.of_requests t.of_replies.made in
-      goes_by w v (frames_of t.sent) (contents_of t.heard) (Tick node now ticked ∷ (t.asked ++ t.replied)) t.xs g.0 g.1 t.talks.goes
-  round_over node now x w _ _ _ _ (Rounds.is_cut mid after y ticked cause v looks t drops) =
+      goes_by w v (frames_of t.sent) (contents_of t.heard) (t.asked ++ t.replied) t.xs g.0 g.1 t.talks.goes
+  round_over node now x w _ _ _ _ (Rounds.is_cut after y cause v t drops) =
       let g = talk_goes node now t.sent t.heard t.asked t.replied t.of_requests t.of_replies.made in
-      let talk = Tick node now ticked ∷ (t.asked ++ t.replied) in
+      let talk = t.asked ++ t.replied in
       stops_by w v (frames_of t.sent) [] (contents_of t.heard) (talk ++ Disconnect node now ∷ []) t.xs
       (before_nothing asked_by talk (Disconnect node now ∷ []) (frames_of t.sent) g.0 refl ∙ sym (append-nil (frames_of t.sent)))
       (before_nothing replied_by talk (Disconnect node now ∷ []) (contents_of t.heard) g.1 refl) t.talks.stops
-  round_over node now x w _ _ _ _ (Rounds.no_tick y none) = stops_by w w [] [] [] [] [] refl refl (Goes-stops answers w w [] [] [] (Goes-nothing answers nothing w))
-  round_over node now x w _ _ _ _ (Rounds.no_talk mid y ticked v looks t) =
+  round_over node now x w _ _ _ _ (Rounds.no_talk y v t) =
       let g = talk_until_goes node now t.sent t.heard t.calls t.until in
-      stops_by w v (frames_of t.sent) g.0 (contents_of t.heard) (Tick node now ticked ∷ t.calls) t.xs g.1 g.2 t.talks.stops
-  round_over node now x w _ _ _ _ (Rounds.no_drop mid after y ticked cause v looks t none) =
+      stops_by w v (frames_of t.sent) g.0 (contents_of t.heard) t.calls t.xs g.1 g.2 t.talks.stops
+  round_over node now x w _ _ _ _ (Rounds.no_drop after y cause v t none) =
       let g = talk_goes node now t.sent t.heard t.asked t.replied t.of_requests t.of_replies.made in
-      stops_by w v (frames_of t.sent) [] (contents_of t.heard) (Tick node now ticked ∷ (t.asked ++ t.replied)) t.xs (g.0 ∙ sym (append-nil (frames_of t.sent))) g.1 t.talks.stops
+      stops_by w v (frames_of t.sent) [] (contents_of t.heard) (t.asked ++ t.replied) t.xs (g.0 ∙ sym (append-nil (frames_of t.sent))) g.1 t.talks.stops
 
   pub went_over : (given : S) (x : Exchange) (calls mine : List Call) (xs : List Answer) (y : Exchange) (line : Line S) → OverStream answers given x calls mine xs y line
       → WentOver answers (fresh_wire given) mine xs line

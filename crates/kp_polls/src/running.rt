@@ -3,7 +3,6 @@
 ghost use Rattle.std.specs.Prelude.{◌++◌, List};
 ghost use Rattle.kp_connection.specs.Answers.{Answer};
 ghost use Rattle.kp_engine.specs.Clocked.{PollsOnce};
-ghost use Rattle.kp_engine.specs.declared.cluster.ClusterEngine.{ClusterEngine as PolledOver};
 ghost use Rattle.kp_engine.specs.declared.engine.Engine.{Engine as Polled};
 ghost use Rattle.kp_engine.specs.declared.exchange.Exchange.{Exchange};
 ghost use Rattle.kp_engine.specs.declared.stop.Stop.{Stop};
@@ -11,14 +10,14 @@ ghost use Rattle.kp_polls.specs.Bytes.{OverStream};
 ghost use Rattle.kp_polls.specs.Polling.{Polling};
 ghost use Rattle.kp_rules.specs.Calls.{Call};
 ghost use Rattle.kp_running.specs.Fleet.{FleetPolls};
-ghost use Rattle.kp_running.specs.Lasting.{LastsBy};
 ghost use Rattle.kp_running.specs.Running.{Reaches};
-ghost use Rattle.kp_running.specs.declared.lasting.Over.{Over};
+ghost use Rattle.kp_running.specs.declared.fleet.Fleet.{Fleet};
+ghost use Rattle.kp_running.specs.declared.over.Over.{Over};
 ghost use Rattle.kp_world.specs.World.{Opening};
 
 use kp_connection::Stream;
 use kp_engine::Clock;
-use kp_running::Connecting;
+use kp_running::Keeping;
 
 /// Where an engine was polled any number of times, and was then run to its stop, all these are polls; and so are they over
 /// the stream that it had, from when this was given.
@@ -31,20 +30,11 @@ pub fn a_run_s_polls_are_polls<S: Stream, C: Clock>()
         → (more : List Call) × (ys : List Answer) × OverStream S.answers given x (calls ++ more) (mine ++ more) (xs ++ ys) new.exchange new.line }
 {}
 
-/// So it is with an engine that lasts through outages, whatever makes its connections: with its polls over a connection, with
-/// those with none, and with those over the next. (Both are what these give of an `E`.)
-pub fn the_polls_of_an_engine_that_lasts_are_polls<S: Stream, C: Clock, K: Connecting, E>()
-    ensures { (engine : E → Polled S C) (connecting : E → K) (o : Opening) (calls : List Call) (old new : E) (stop : Over)
-        → Polling S.answers o calls (engine old).exchange
-        → Reaches (λ was result is. LastsBy S.answers C.moments K.limit K.made (engine was) (connecting was) result (engine is) (connecting is)) old stop new
-        → (more : List Call) × Polling S.answers o (calls ++ more) (engine new).exchange }
-{}
-
-/// So it is with an engine over several nodes, whatever keeps its connections: with what it does of what is new, and with its
-/// polls over those that there are. (The engine is what this gives of an `E`.)
-pub fn the_polls_of_a_fleet_are_polls<S: Stream, C: Clock, E>()
-    ensures { (engine : E → PolledOver S C) (o : Opening) (calls : List Call) (old new : E) (stop : Over)
-        → Polling S.answers o calls (engine old).exchange
-        → Reaches (λ was result is. FleetPolls S.answers C.moments (engine was) result (engine is)) old stop new
-        → (more : List Call) × Polling S.answers o (calls ++ more) (engine new).exchange }
+/// So it is with an engine over several nodes that lasts through outages, whatever keeps its connections: with what it does of what
+/// is new, and with its polls over those that there are, or with none. (The engine and its keeper are what this gives of an `E`.)
+pub fn the_polls_of_a_fleet_are_polls<S: Stream, C: Clock, K: Keeping, E>()
+    ensures { (fleet : E → Fleet S C K) (o : Opening) (calls : List Call) (old new : E) (stop : Over)
+        → Polling S.answers o calls (fleet old).engine.exchange
+        → Reaches (λ was result is. FleetPolls S.answers C.moments K.limit K.made (fleet was) result (fleet is)) old stop new
+        → (more : List Call) × Polling S.answers o (calls ++ more) (fleet new).engine.exchange }
 {}

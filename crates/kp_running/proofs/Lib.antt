@@ -2,5 +2,4 @@ mod MillisLemmas
 mod EngineLemmas
 mod ReachesLemmas
 mod NumberedLemmas
-pub mod LastingLemmas
 pub mod FleetLemmas

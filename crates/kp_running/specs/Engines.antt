@@ -11,8 +11,3 @@ read_by reader (Stopped stop) source = ⊥
 
 abbrev pub reader_of : {S C : Type 0} → (S → ℕ → Type 0) → Engine S C → ℕ → Type 0
 reader_of reader engine source = read_by reader engine.line source
-
--- what a connection waits for, where it is open, and else what makes the next one
-abbrev pub read_or_made : {S : Type 0} → (S → ℕ → Type 0) → (ℕ → Type 0) → Line S → ℕ → Type 0
-read_or_made reader waits (Open wire) source = reader wire.stream source
-read_or_made reader waits (Stopped stop) source = waits source

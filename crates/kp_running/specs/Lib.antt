@@ -3,5 +3,5 @@ pub mod Bells
 pub mod Engines
 pub mod Pace
 pub mod Running
-pub mod Lasting
+pub mod Over
 pub mod Fleet

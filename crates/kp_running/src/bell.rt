@@ -92,16 +92,9 @@ impl SenderBell {
         self.number
     }
 
-    /// Ends the wait of the thread that has asked. It waits for nobody; where none has asked it only looks.
-    #[inline(always)]
+    /// Ends the wait of the thread that has asked. It waits for nobody. Of a ring and an asking the second one sees what was done
+    /// before the first, as each reads what the other wrote: so that either the wait ends, or who asked finds what there is.
     pub fn ring(&self) {
-        if self.asked.load(SeqCst) {
-            self.ring_asked();
-        }
-    }
-
-    #[cold]
-    fn ring_asked(&self) {
         if self.asked.swap(false, SeqCst) {
             self.parker.unpark();
         }
@@ -110,7 +103,7 @@ impl SenderBell {
     /// From now on the next ring is heard. What was done before it rings is to be looked for once more, and only then may
     /// its caller wait.
     pub fn ask(&self) {
-        self.asked.store(true, SeqCst);
+        self.asked.swap(true, SeqCst);
     }
 
     /// Nobody waits any more.

@@ -1,65 +1,70 @@
 //! An engine over several nodes that lasts through outages.
 
-ghost use Rattle.std.specs.Prelude.{◌≡◌, ◌⊎◌, ℕ, IfOk, false};
+ghost use Rattle.std.specs.Prelude.{◌≡◌, ◌⊎◌, ℕ, IfErr, IfOk, Some, false};
 ghost use Rattle.futures.specs.Poll.{OnPending};
 ghost use Rattle.futures.specs.Task.{Hears, Keeps};
 ghost use Rattle.futures.specs.declared.task.Poll.{Poll as Polled};
 ghost use Rattle.kp_engine.specs.Cluster.{PollsCluster};
-ghost use Rattle.kp_running.specs.Fleet.{FleetPolls, Heeds, TakesNews, read_by_each};
-ghost use Rattle.kp_running.specs.Lasting.{over_of};
+ghost use Rattle.kp_engine.specs.Lines.{node_lost};
+ghost use Rattle.kp_running.specs.Fleet.{FleetPolls, Heeds, Loses, TakesNews, read_by_each};
+ghost use Rattle.kp_running.specs.Over.{IfGaveUp, IsSpent, over_of};
+ghost use Rattle.kp_running.specs.declared.keeping.News.TheVariants.{Ended};
 
 use crate::engine::due_after;
-use crate::lasting::Over;
+use crate::keeping::{Keeping, News};
+use crate::over::Over;
 use crate::turning::Turning;
 use futures::task::{Context, Poll};
 use kp_connection::Stream;
-use kp_core::Core;
-use kp_engine::{Cause, Clock, ClusterEngine, Moves, Stop};
-
-/// What is new of an engine's nodes.
-#[derive(Drop)]
-pub enum News<S> {
-    /// A connection to this node is open.
-    Connected(u32, S),
-    /// This partition is led by this node.
-    Led(u32, u32),
-    /// The connection to this node is to be closed.
-    Dropped(u32),
-    /// There is to be no connection any more, since the last one was lost for this.
-    Ended(Cause),
-}
-
-/// What makes an engine's connections, each to a node, and knows which node leads which partition.
-pub trait Keeping: Drop {
-    type Stream;
-
-    /// Holds of each source that a pending poll waits for.
-    ghost waits: { Self → ℕ → Type 0 } = { λ _ _. ⊥ };
-
-    /// What is new, one thing at a time: pending where nothing is.
-    fn poll_news(&mut self, cx: &mut Context<'_>, core: &Core) -> Poll<News<Self::Stream>>
-        ensures registered { OnPending result ((s : ℕ) → waits self.new s → Hears cx.new s) }
-        ensures kept { Keeps cx.old cx.new };
-
-    /// The connection to this node was given up.
-    fn note_lost(&mut self, node: u32);
-
-    /// This was moved by the last poll.
-    fn note_moves(&mut self, moves: &Moves);
-}
+use kp_engine::{Cause, Clock, ClusterEngine, Stop};
 
 /// An engine, and what keeps its connections. While there is none the engine takes items, closes, ticks and reports.
 #[derive(Drop)]
 pub struct Fleet<S, C, K> {
     pub engine: ClusterEngine<S, C>,
     pub keeping: K,
+    /// Why the last connection was lost; Io where none was.
+    why: Cause,
 }
 
 impl<S: Stream, C: Clock, K: Keeping<Stream = S>> Fleet<S, C, K> {
+    pub fn new(engine: ClusterEngine<S, C>, keeping: K) -> Fleet<S, C, K>
+        ensures { result ≡ record { engine = engine; keeping = keeping; why = Cause.Io } }
+    {
+        Fleet {
+            engine,
+            keeping,
+            why: Cause::Io,
+        }
+    }
+
+    /// What keeps its connections is told what the last poll has moved.
+    fn note_moves(&mut self)
+        ensures noted { K.noted self.old.keeping self.old.engine.exchange.notes.moves self.new.keeping }
+        ensures same { K.limit self.new.keeping ≡ K.limit self.old.keeping }
+        ensures engine { (self.new.engine ≡ self.old.engine) × (self.new.why ≡ self.old.why) }
+    {
+        self.keeping.note_moves(self.engine.moves());
+    }
+
+    /// Drops the connection to a node that was lost.
+    fn drop_lost(&mut self, node: u32)
+        requires { node_lost self.old.engine.lines.items ≡ Some node }
+        ensures loses { Loses C.moments node self.old self.new }
+        ensures same { K.limit self.new.keeping ≡ K.limit self.old.keeping }
+    {
+        if let Some(Stop::NeedStream(cause)) = self.engine.stopped(node) {
+            self.why = cause;
+        }
+        self.keeping.note_lost(node);
+        self.engine.disconnect(node);
+    }
+
     /// Does what is new. Where memory is refused for a connection, it is closed, and nothing else has changed.
     fn heed(&mut self, news: News<S>) -> Result<(), Over>
-        ensures heeds { Heeds C.moments news self.old.engine result self.new.engine }
-        ensures keeping { self.new.keeping ≡ self.old.keeping }
+        ensures heeds { Heeds C.moments self.old.why news self.old.engine result self.new.engine }
+        ensures keeping { (self.new.keeping ≡ self.old.keeping) × (self.new.why ≡ self.old.why) }
+        ensures gave_up { IfErr result (λ over. IfGaveUp over (news ≡ Ended)) }
     {
         match news {
             News::Connected(node, stream) => match self.engine.connect(node, stream) {
@@ -74,20 +79,21 @@ impl<S: Stream, C: Clock, K: Keeping<Stream = S>> Fleet<S, C, K> {
                 self.engine.disconnect(node);
                 Ok(())
             }
-            News::Ended(cause) => Err(Over::GaveUp(cause)),
+            News::Ended => Err(Over::GaveUp(self.why)),
         }
     }
 
     /// Drops a connection that was lost; where there is none, does one thing that is new, if there is one: whether there was
     /// either; or why the engine does not go on.
     fn poll_news(&mut self, cx: &mut Context<'_>) -> Result<bool, Over>
-        ensures news { TakesNews C.moments self.old.engine result self.new.engine }
+        ensures news { TakesNews C.moments self.old result self.new }
+        ensures same { K.limit self.new.keeping ≡ K.limit self.old.keeping }
+        ensures spent { IfErr result (λ over. IfGaveUp over (IsSpent (K.limit self.new.keeping) (K.made self.new.keeping))) }
         ensures registered { IfOk result (λ again. again ≡ false → (s : ℕ) → K.waits self.new.keeping s → Hears cx.new s) }
         ensures kept { Keeps cx.old cx.new }
     {
         if let Some(node) = self.engine.lost() {
-            self.keeping.note_lost(node);
-            self.engine.disconnect(node);
+            self.drop_lost(node);
             return Ok(true);
         }
         match self.keeping.poll_news(cx, self.engine.core()) {
@@ -102,7 +108,7 @@ impl<S: Stream, C: Clock, K: Keeping<Stream = S>> Fleet<S, C, K> {
     /// A poll of the engine. Where it is pending and something was new, it asks to be polled again.
     fn poll_engine(&mut self, cx: &mut Context<'_>, again: bool) -> Poll<Over>
         ensures polls { (polled : Polled Stop) × PollsCluster S.answers C.moments self.old.engine polled self.new.engine × (result ≡ over_of polled) }
-        ensures keeping { self.new.keeping ≡ self.old.keeping }
+        ensures keeping { (self.new.keeping ≡ self.old.keeping) × (self.new.why ≡ self.old.why) }
         ensures again { OnPending result ((again ≡ false) ⊎ ((s : ℕ) → Hears cx.new s)) }
         ensures registered { OnPending result ((s : ℕ) → read_by_each S.reader self.new.engine.lines.items s → Hears cx.new s) }
         ensures kept { Keeps cx.old cx.new }
@@ -124,7 +130,7 @@ impl<S: Stream, C: Clock, K: Keeping<Stream = S>> Fleet<S, C, K> {
 impl<S: Stream, C: Clock, K: Keeping<Stream = S>> Turning for Fleet<S, C, K> {
     type Stop = Over;
 
-    ghost polls = { λ old polled new. FleetPolls S.answers C.moments old.engine polled new.engine };
+    ghost polls = { FleetPolls S.answers C.moments K.limit K.made };
 
     ghost reader = { λ fleet s. K.waits fleet.keeping s ⊎ read_by_each S.reader fleet.engine.lines.items s };
 
@@ -132,7 +138,7 @@ impl<S: Stream, C: Clock, K: Keeping<Stream = S>> Turning for Fleet<S, C, K> {
         if self.engine.core().can_only_end() {
             return Poll::Ready(Over::Spent);
         }
-        self.keeping.note_moves(self.engine.moves());
+        self.note_moves();
         match self.poll_news(cx) {
             Err(over) => Poll::Ready(over),
             Ok(again) => self.poll_engine(cx, again),

@@ -4,20 +4,20 @@
 
 mod bell;
 mod bells;
-mod connecting;
 mod engine;
 mod fleet;
-mod lasting;
+mod keeping;
 mod millis;
+mod over;
 mod pace;
 mod running;
 mod turning;
 
 pub use bell::{Bell, SenderBell};
 pub use bells::Bells;
-pub use connecting::Connecting;
-pub use fleet::{Fleet, Keeping, News};
-pub use lasting::{Lasting, Over};
+pub use fleet::Fleet;
+pub use keeping::{Keeping, News};
 pub use millis::{Millis, Passed};
+pub use over::Over;
 pub use running::Running;
 pub use turning::Turning;

@@ -7,6 +7,7 @@ ghost use Rattle.kp_core.specs.Busy.{busy_in};
 
 mod changing;
 mod filling;
+mod leaders;
 mod walking;
 
 use kp_parts::Partition;
@@ -19,18 +20,20 @@ pub(super) struct Partitions {
     all: Vec<Partition>,
     /// The numbers of those of which something is queued or open, upwards. There is room for all from the beginning.
     busy: Vec<u32>,
+    /// The same numbers, by the nodes that lead the partitions, and upwards where one leads several. There is room as well.
+    by_leader: Vec<u32>,
 }
 
 impl Model for Partitions {
     ghost use Rattle.std.specs.Prelude.{List, vec_capacity};
     ghost use Rattle.kp_rules.specs.Records as seen;
-    ghost use Rattle.kp_core.specs.Busy.{AreListed};
+    ghost use Rattle.kp_core.specs.ByLeader.{AreKept};
 
     ghost Value = { List seen.Partition };
 
     ghost view = { λ t. t.all.items };
 
-    ghost invariant = { λ t. AreListed t.all.items t.busy.items (vec_capacity t.busy) };
+    ghost invariant = { λ t. AreKept t.all.items t.busy.items (vec_capacity t.busy) t.by_leader.items (vec_capacity t.by_leader) };
 }
 
 impl Partitions {
@@ -45,8 +48,13 @@ impl Partitions {
             replicate count (if audits then new_partition producer_id else unaudited (new_partition producer_id))) }
     {
         let busy = Vec::with_capacity(alloc, count as usize)?;
+        let by_leader = Vec::with_capacity(alloc, count as usize)?;
         let all = new_partitions(alloc, count, producer_id, audits)?;
-        Ok(Partitions { all, busy })
+        Ok(Partitions {
+            all,
+            busy,
+            by_leader,
+        })
     }
 
     pub(super) fn all(&self) -> &[Partition]

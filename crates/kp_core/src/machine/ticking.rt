@@ -9,7 +9,7 @@ ghost use Rattle.kp_rules.specs.Telling.{at_each};
 ghost use Rattle.kp_rules.specs.Tick.{heed_deadlines};
 
 use crate::machine::Core;
-use crate::requests::{Request, any_asks_there, any_timed_out, drop_there, keep_live};
+use crate::requests::{Request, any_asks_there, drop_there, keep_live};
 use kp_rules::Ticked;
 
 impl Core {
@@ -19,7 +19,7 @@ impl Core {
         requires { self.old.ended ≡ false }
         ensures { Step self.old (Tick node now result) self.new }
     {
-        if any_timed_out(&self.requests, node, &self.config, now) {
+        if self.is_late(node, now) {
             self.drop_requests(node, now);
             return Ticked {
                 reports: self.heed_deadlines(now),

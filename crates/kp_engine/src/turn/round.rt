@@ -12,8 +12,8 @@ use futures::task::Context;
 use kp_connection::{Stream, Wire};
 use std::alloc::AllocError;
 
-/// What a poll does over one of several connections at this moment: the tick for its node; requests; replies. Why the connection
-/// is of no use any more; then what was in flight to its node is dropped.
+/// What a poll does over one of several connections at this moment: requests and replies, unless a request to its node has waited
+/// too long. Why the connection is of no use any more; then what was in flight to its node is dropped.
 pub(crate) fn round<S: Stream>(
     exchange: &mut Exchange,
     wire: &mut Wire<S>,
@@ -27,10 +27,8 @@ pub(crate) fn round<S: Stream>(
     ensures registered { IfOk result (λ cut. cut ≡ None → Covers cx.new (S.reader wire.new.stream)) }
     ensures kept { Keeps cx.old cx.new }
 {
-    let Ok(ticked) = exchange.tick(node, now) else {
-        return Err(AllocError);
-    };
-    let Ok(cut) = talk(exchange, wire, cx, node, now, ticked.reconnect) else {
+    let late = exchange.core.is_late(node, now);
+    let Ok(cut) = talk(exchange, wire, cx, node, now, late) else {
         return Err(AllocError);
     };
     match cut {

@@ -12,6 +12,13 @@ use crate::partition::Partition;
 use kp_accum::{Config, Flags};
 
 impl Partition {
+    /// The node that its batches go to.
+    pub fn leader(&self) -> u32
+        ensures { result ≡ self.now.leader }
+    {
+        self.leader
+    }
+
     /// Whether its batches go to this node.
     pub fn is_led_by(&self, node: u32) -> bool
         ensures { result ≡ leads node self.now }

@@ -1,24 +1,20 @@
-use Rattle.std.proofs.Common.{ap, subst, sym}
+use Rattle.std.proofs.Common.{ap, subst, sym, refl, ◌∙◌}
 use Rattle.std.specs.Prelude.{false}
-use Rattle.kp_engine.specs.declared.engine.Engine.{Engine}
-use Rattle.kp_engine.specs.declared.engine.Line.{Line}
-use Rattle.kp_running.specs.Lasting.{IsGoing}
+use Rattle.kp_engine.specs.Engine.{IsNew}
+use Rattle.kp_running.specs.Fleet.{IsGoing}
+use Rattle.kp_running.specs.declared.fleet.Fleet.{Fleet}
 use Rattle.kp_client.specs.Serving.{IsServing}
 use Rattle.kp_client.proofs.ServiceLemmas.{ended_anew, new_serves, unserved_back, unserved_ended}
 use Rattle.kp_client.proofs.service.serve.Goals as goal
 
 pub serve_on-requires-clause-serves : goal.serve_on-requires-clause-serves
 serve_on-requires-clause-serves g c _ _ =
-    subst (λ (e : Engine _ _). IsServing e) (sym c.new-tended.ensures.0)
-    (record {
-      core = c.args.core;
-      intake = c.args.intake;
-      serves = new_serves c.args.core c.args.intake false c.in-Ok-without_stream.engine c.requires c.in-Ok-without_stream.ensures.made c.in-Ok-without_stream.ensures.line;
-    })
+    let made = c.in-Ok-new.ensures in
+    subst (λ (f : Fleet _ _ _). IsServing f) (sym c.new-tended.ensures)
+    (record { core = c.args.core; intake = c.args.intake; serves = new_serves c.args.core c.args.intake _ c.requires made.made made.lines.0 refl })
 
 pub serve_on-requires-clause-going : goal.serve_on-requires-clause-going
-serve_on-requires-clause-going g c _ _ =
-    subst (λ (e : Engine _ _). IsGoing e.line) (sym c.new-tended.ensures.0) (subst (λ (l : Line _). IsGoing l) (sym c.in-Ok-without_stream.ensures.line) tt)
+serve_on-requires-clause-going g c _ _ = subst (λ (f : Fleet _ _ _). IsGoing f) (sym c.new-tended.ensures) c.in-Ok-new.ensures.lines.1
 
 pub returns-in_default-clause-ended : goal.returns-in_default-clause-ended
 returns-in_default-clause-ended g c = unserved_ended c.args.core c.args.intake _ c.unserved.ensures.unserved
@@ -26,9 +22,13 @@ returns-in_default-clause-ended g c = unserved_ended c.args.core c.args.intake _
 pub returns-in_default-clone-clause-ended : goal.returns-in_default-clone-clause-ended
 returns-in_default-clone-clause-ended g c = unserved_ended c.args.core c.args.intake _ c.unserved-in_default-clone.ensures.unserved
 
-pub returns-in-Ok-without_stream-clause-ended : goal.returns-in-Ok-without_stream-clause-ended
-returns-in-Ok-without_stream-clause-ended g c =
-    ended_anew c.args.core c.args.intake false c.in-Ok-without_stream.engine _ _ c.requires c.in-Ok-without_stream.ensures.made c.in-Ok-without_stream.ensures.line c.new-tended.ensures.0 c.serve_on.ensures.ended
+pub returns-in-Ok-new-clause-ended : goal.returns-in-Ok-new-clause-ended
+returns-in-Ok-new-clause-ended g c =
+    let made = c.in-Ok-new.ensures in
+    let its = c.new-tended.ensures in
+    ended_anew c.args.core c.args.intake c.new-tended.result.fleet _ c.requires
+    (subst (λ (f : Fleet _ _ _). IsNew c.args.core c.args.intake false f.engine.exchange) (sym its) made.made)
+    (ap (λ (f : Fleet _ _ _). f.engine.lines.items) its ∙ made.lines.0) (ap (λ (f : Fleet _ _ _). f.why) its) c.serve_on.ensures.ended
 
 pub returns-clause-ended : goal.returns-clause-ended
 returns-clause-ended g c =

@@ -12,13 +12,13 @@ ended-requires-clause-serves g c =
 
 pub ended-requires-clause-done : goal.ended-requires-clause-done
 ended-requires-clause-done g c is =
-    done_left c.in_ok-tended-in-Ok.over c.in_ok-tended-in-Ok.tended.lasting.engine (sym c.ending_for.ensures ∙ is)
+    done_left c.in_ok-tended-in-Ok.over c.in_ok-tended-in-Ok.tended.fleet (sym c.ending_for.ensures ∙ is)
     (runs_to _ _ _ _ c.in-Ok.running.engine c.args.tended c.in_ok-tended-in-Ok.over c.in_ok-tended-in-Ok.tended c.in-Ok.ensures.ok c.in_ok-tended-in-Ok.ensures c.requires.going)
 
 pub ended-requires-clause-cause : goal.ended-requires-clause-cause
 ended-requires-clause-cause g c =
-    subst (λ (how : Ending). GivesUpFor how c.in_ok-tended-in-Ok.tended.lasting.engine) (sym c.ending_for.ensures)
-    (gave_up_for c.in_ok-tended-in-Ok.over c.in_ok-tended-in-Ok.tended.lasting.engine
+    subst (λ (how : Ending). GivesUpFor how c.in_ok-tended-in-Ok.tended.fleet) (sym c.ending_for.ensures)
+    (gave_up_for c.in_ok-tended-in-Ok.over c.in_ok-tended-in-Ok.tended.fleet
     (runs_to _ _ _ _ c.in-Ok.running.engine c.args.tended c.in_ok-tended-in-Ok.over c.in_ok-tended-in-Ok.tended c.in-Ok.ensures.ok c.in_ok-tended-in-Ok.ensures c.requires.going))
 
 pub returns-in_ok-tended-in-Ok-clause-ended : goal.returns-in_ok-tended-in-Ok-clause-ended
@@ -28,9 +28,9 @@ returns-in_ok-tended-in-Ok-clause-ended g c = λ core intake h. c.ended.ensures.
 pub returns-in_ok-tended-in-Ok-clause-gave_up : goal.returns-in_ok-tended-in-Ok-clause-gave_up
 returns-in_ok-tended-in-Ok-clause-gave_up g c =
     let over = c.in_ok-tended-in-Ok.over in
-    let policy = c.args.tended.lasting.connecting.again.policy in
-    let made = c.in_ok-tended-in-Ok.tended.lasting.connecting.again.made in
+    let policy = c.args.tended.fleet.keeping.again.policy in
+    let made = c.in_ok-tended-in-Ok.tended.fleet.keeping.again.made in
     let may : MayEnd policy (ending_for over) made = may_end over policy made
     (runs_out _ _ _ _ c.in-Ok.running.engine c.args.tended c.in_ok-tended-in-Ok.over c.in_ok-tended-in-Ok.tended c.in-Ok.ensures.ok c.in_ok-tended-in-Ok.ensures) in
     subst (λ (how : Ending). MayEnd policy how (new_connections_of c.ended.result)) (sym (c.ended.ensures.told.0 ∙ c.ending_for.ensures))
-    (subst (λ (n : ℕ). MayEnd policy (ending_for over) n) (sym (c.ended.ensures.told.1 ∙ c.made-made.ensures)) may)
+    (subst (λ (n : ℕ). MayEnd policy (ending_for over) n) (sym (c.ended.ensures.told.1 ∙ c.new_connections-made.ensures)) may)

@@ -8,7 +8,7 @@ ghost use Rattle.kp_rules.specs.Flush.{mark};
 ghost use Rattle.kp_rules.specs.HandingOver.{send_in};
 ghost use Rattle.kp_rules.specs.InOrder.{AreDistinct};
 ghost use Rattle.kp_rules.specs.Leading.{led_by};
-ghost use Rattle.kp_rules.specs.Partitions.{changed_at, partition_at};
+ghost use Rattle.kp_rules.specs.Partitions.{changed_at, is_in, partition_at};
 ghost use Rattle.kp_rules.specs.Tick.{heed_deadlines};
 ghost use Rattle.kp_parts.specs.Desk.{tell_desk, Covers};
 ghost use Rattle.kp_core.specs.Busy.{is_busy};
@@ -17,6 +17,7 @@ ghost use Rattle.kp_core.specs.Hearing.{entry_at, id_given, offsets_by, settled_
 
 use crate::machine::matching::Entry;
 use crate::machine::partitions::Partitions;
+use crate::machine::partitions::leaders::{led_by, put_led, remove_led};
 use kp_accum::Config;
 use kp_parts::{Desk, Partition};
 use kp_rules::Reason;
@@ -27,7 +28,8 @@ impl Partitions {
     pub(crate) fn drop_each(&mut self, node: u32, now: u64)
         ensures { self.new ≡ map (drop_led node now) self.old }
     {
-        drop_at(&mut self.all, &self.busy, node, now);
+        let places = led_by(&self.by_leader, &self.all, node);
+        drop_at(&mut self.all, places, node, now);
     }
 
     /// A flush waits for all that is queued or open.
@@ -44,7 +46,7 @@ impl Partitions {
         ensures told { desk.new ≡ tell_desk (flat_map (λ t. (heed_deadlines config.now now t).told) self.old) desk.old }
     {
         heed_at(&mut self.all, desk, &self.busy, config, now);
-        keep_busy(&mut self.busy, &self.all);
+        keep_in_both(&mut self.busy, &mut self.by_leader, &self.all);
     }
 
     /// All that is left is given up, upwards.
@@ -55,6 +57,7 @@ impl Partitions {
     {
         give_up_at(&mut self.all, desk, &self.busy, why);
         self.busy.clear();
+        self.by_leader.clear();
     }
 
     /// Each of these partitions is settled by its entry.
@@ -75,7 +78,7 @@ impl Partitions {
         ensures told { desk.new ≡ tell_desk (flat_map (λ p. (settled_by now correlation (entry_at p found.now) (partition_at p self.old)).told) chosen.now) desk.old }
     {
         settle_at(&mut self.all, desk, now, correlation, chosen, found);
-        keep_busy(&mut self.busy, &self.all);
+        keep_in_both(&mut self.busy, &mut self.by_leader, &self.all);
     }
 
     /// What each of these partitions may send goes out in this request.
@@ -92,10 +95,14 @@ impl Partitions {
     pub(crate) fn lead_one(&mut self, place: u32, leader: u32, now: u64)
         ensures { self.new ≡ slice_set self.old place (led_by leader now (partition_at place self.old)) }
     {
-        let place = place as usize;
-        if place < self.all.len() {
-            let partition = &mut self.all[place];
-            partition.lead_by(leader, now);
+        if place as usize >= self.all.len() {
+            return;
+        }
+        let partition = &mut self.all[place as usize];
+        partition.lead_by(leader, now);
+        if !partition.is_idle() {
+            remove_led(&mut self.by_leader, place);
+            put_led(&mut self.by_leader, &self.all, place);
         }
     }
 
@@ -109,6 +116,21 @@ impl Partitions {
             return self.all[place].go_on_under(id);
         }
         Ok(())
+    }
+}
+
+/// Those stay in both lists of which something is queued or open. The second one has none that the first has not.
+fn keep_in_both(busy: &mut Vec<u32>, by_leader: &mut Vec<u32>, partitions: &[Partition])
+    requires { AllByRecursion (λ p. is_in p busy.old.items ≡ true) by_leader.old.items }
+    ensures busy { busy.new.items ≡ filter (λ p. is_busy (partition_at p partitions.now)) busy.old.items }
+    ensures by_leader { by_leader.new.items ≡ filter (λ p. is_busy (partition_at p partitions.now)) by_leader.old.items }
+    ensures room { vec_capacity busy.new ≡ vec_capacity busy.old }
+    ensures by_leader_room { vec_capacity by_leader.new ≡ vec_capacity by_leader.old }
+{
+    let count = busy.len();
+    keep_busy(busy, partitions);
+    if busy.len() < count {
+        keep_busy(by_leader, partitions);
     }
 }
 

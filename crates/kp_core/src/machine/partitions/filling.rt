@@ -8,6 +8,7 @@ ghost use Rattle.kp_rules.specs.Appending.{enqueue};
 ghost use Rattle.kp_rules.specs.Partitions.{partition_at};
 
 use crate::machine::partitions::Partitions;
+use crate::machine::partitions::leaders::put_led;
 use kp_accum::{Config, Item};
 use kp_batch::SIZE_LIMIT;
 use std::alloc::AllocError;
@@ -39,6 +40,7 @@ impl Partitions {
         partition.enqueue(config, charge, item, refused)?;
         if was_idle {
             put_in(&mut self.busy, place);
+            put_led(&mut self.by_leader, &self.all, place);
         }
         Ok(())
     }

@@ -1,15 +1,17 @@
 //! What the partitions that have something to do say: the others say nothing to it.
 
-ghost use Rattle.std.specs.Prelude.{◌≡◌, ◌≤◌, ◌<◌, ◌+◌, ◌++◌, ◌&&◌, [], drop, filter_map, find, flat_map, take, length, option_map, OnOk, IfErr};
+ghost use Rattle.std.specs.Prelude.{◌≡◌, ◌≤◌, ◌<◌, ◌+◌, ◌++◌, ◌&&◌, [], drop, filter, filter_map, find, flat_map, take, length, option_map, OnOk, IfErr};
 ghost use Rattle.std.specs.List.{AllByRecursion, list_any, enumerate_from};
 ghost use Rattle.kp_rules.specs.Due.{earliest, partition_moments};
 ghost use Rattle.kp_rules.specs.Flush.{has_marks};
 ghost use Rattle.kp_rules.specs.MaySend.{wants_id};
 ghost use Rattle.kp_rules.specs.Partitions.{leads, partition_at};
 ghost use Rattle.kp_core.specs.Busy.{busy_from, has_work_for};
+ghost use Rattle.kp_core.specs.ByLeader.{work_in};
 ghost use Rattle.kp_core.specs.Choosing.{sends_in};
 
 use crate::machine::partitions::Partitions;
+use crate::machine::partitions::leaders::led_by;
 use kp_accum::{Config, Flags};
 use kp_parts::{Sending, sooner};
 use std::alloc::AllocError;
@@ -19,12 +21,7 @@ impl Partitions {
     pub(crate) fn have_work(&self, node: u32) -> bool
         ensures { result ≡ list_any (has_work_for node) self.now }
     {
-        for place in &self.busy {
-            if self.at(*place).is_led_by(node) {
-                return true;
-            }
-        }
-        false
+        !self.led_by(node).is_empty()
     }
 
     /// Whether a flush waits for a batch of one of them.
@@ -55,9 +52,8 @@ impl Partitions {
     pub(crate) fn first_wanting(&self, node: u32, config: &Config) -> Option<u32>
         ensures { result ≡ option_map (λ x. x.0) (find (λ x. leads node x.1 && wants_id config.now x.1) (enumerate_from 0 self.now)) }
     {
-        for place in &self.busy {
-            let partition = self.at(*place);
-            if partition.is_led_by(node) && partition.wants_id(config) {
+        for place in self.led_by(node) {
+            if self.at(*place).wants_id(config) {
                 return Some(*place);
             }
         }
@@ -90,7 +86,7 @@ impl Partitions {
             sendings.old.items ++ filter_map (sends_in node config.now flags now) (enumerate_from first (drop first self.now))) }
         ensures some { IfErr result (λ e. filter_map (sends_in node config.now flags now) (enumerate_from first (drop first self.now)) ≡ [] → ⊥) }
     {
-        let (_, places) = self.split(first);
+        let (_, places) = self.split(node, first);
         self.gather(sendings, places, node, config, flags, now)
     }
 
@@ -109,18 +105,26 @@ impl Partitions {
             sendings.old.items ++ filter_map (sends_in node config.now flags now) (enumerate_from 0 (take first self.now))) }
         ensures some { IfErr result (λ e. filter_map (sends_in node config.now flags now) (enumerate_from 0 (take first self.now)) ≡ [] → ⊥) }
     {
-        let (places, _) = self.split(first);
+        let (places, _) = self.split(node, first);
         self.gather(sendings, places, node, config, flags, now)
     }
 
-    /// Those that have something to do, below this one, and from it on.
-    fn split(&self, first: usize) -> (&[u32], &[u32])
-        requires { first ≤ length self.now }
-        ensures below { result.0.now ≡ busy_from 0 (take first self.now) }
-        ensures behind { result.1.now ≡ busy_from first (drop first self.now) }
+    /// Those that this node leads and that have something to do, upwards.
+    fn led_by(&self, node: u32) -> &[u32]
+        ensures { result.now ≡ work_in node self.now }
     {
-        let count = self.busy.partition_point(|place| (*place as usize) < first);
-        self.busy.split_at(count)
+        led_by(&self.by_leader, &self.all, node)
+    }
+
+    /// The same below this one, and from it on.
+    fn split(&self, node: u32, first: usize) -> (&[u32], &[u32])
+        requires { first ≤ length self.now }
+        ensures below { result.0.now ≡ filter (λ p. leads node (partition_at p self.now)) (busy_from 0 (take first self.now)) }
+        ensures behind { result.1.now ≡ filter (λ p. leads node (partition_at p self.now)) (busy_from first (drop first self.now)) }
+    {
+        let places = self.led_by(node);
+        let count = places.partition_point(|place| (*place as usize) < first);
+        places.split_at(count)
     }
 
     /// What these send to this node goes behind what there is.

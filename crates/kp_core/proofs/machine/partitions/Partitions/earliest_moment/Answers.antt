@@ -13,7 +13,7 @@ use Rattle.kp_core.proofs.machine.partitions.Partitions.earliest_moment.Goals as
 
 pub at-requires : goal.at-requires
 at-requires c = listed_there c.args.self.now c.deref-place-items.result.now c.loop-place.place-index
-    (c.deref-place-items.ensures.value ∙ c.self.invariant.busy ∙ ap busy_in c.self.view_is) c.loop-place-test.true
+    (c.deref-place-items.ensures.value ∙ c.self.invariant.listed.busy ∙ ap busy_in c.self.view_is) c.loop-place-test.true
 
 pub loop-place-preserved : goal.loop-place-preserved
 loop-place-preserved c =
@@ -21,7 +21,7 @@ loop-place-preserved c =
     let ts = c.args.self.now in
     let i = c.loop-place.place-index in
     let g : ℕ → List ℕ = λ p. partition_moments c.args.config.now (partition_at p ts) in
-    let listed : c.deref-place-items.result.now ≡ busy_in ts = c.deref-place-items.ensures.value ∙ c.self.invariant.busy ∙ ap busy_in c.self.view_is in
+    let listed : c.deref-place-items.result.now ≡ busy_in ts = c.deref-place-items.ensures.value ∙ c.self.invariant.listed.busy ∙ ap busy_in c.self.view_is in
     let next : c.next_moment.result ≡ earliest from (g (get_or (busy_in ts) i 0)) =
     c.next_moment.ensures ∙ ap (λ (t : Partition). earliest from (partition_moments c.args.config.now t)) c.at.ensures
     ∙ ap (λ (ps : List ℕ). earliest from (g (get_or ps i 0))) listed in
@@ -35,7 +35,7 @@ returns c =
     let from = c.args.from in
     let ts = c.args.self.now in
     let g : ℕ → List ℕ = λ p. partition_moments c.args.config.now (partition_at p ts) in
-    let listed : c.deref-place-items.result.now ≡ busy_in ts = c.deref-place-items.ensures.value ∙ c.self.invariant.busy ∙ ap busy_in c.self.view_is in
+    let listed : c.deref-place-items.result.now ≡ busy_in ts = c.deref-place-items.ensures.value ∙ c.self.invariant.listed.busy ∙ ap busy_in c.self.view_is in
     c.loop-place.invariant
     ∙ ap (λ (ps : List ℕ). earliest from (flat_map g ps)) (take_all c.loop-place.place-index (busy_in ts) (subst (λ (ps : List ℕ). length ps ≤ c.loop-place.place-index) listed c.loop-place-test.false))
     ∙ ap (earliest from) (flat_busy (partition_moments c.args.config.now) 0 ts ts (idle_awaits_nothing c.args.config.now) (all_at ts))

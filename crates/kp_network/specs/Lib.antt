@@ -1,0 +1,4 @@
+pub mod Links
+pub mod Asking
+pub mod News
+pub mod Network
