@@ -7,7 +7,7 @@ use Rattle.kp_rules.specs.Partitions.{is_in, leads, partition_at}
 use Rattle.kp_rules.specs.Records.{Partition}
 use Rattle.kp_parts.specs.PartitionRooms.{is_idle}
 use Rattle.kp_core.specs.Busy.{busy_from, busy_in, has_work_for, is_busy}
-use Rattle.kp_core.proofs.WalkLemmas.{all_here, any_here, any_none, find_here, find_none}
+use Rattle.kp_core.proofs.WalkLemmas.{all_here, any_here, any_none}
 
 pub busy-is : (t : Partition) → is_busy t ≡ not (is_idle t)
 unfolding is_busy is_idle
@@ -219,13 +219,3 @@ pub any_missed : (f : Partition → Bool) (b : Bool) (ts : List Partition) (ds :
     → list_any (λ p. f (partition_at p ts)) (drop i (busy_in ts)) ≡ list_any (λ p. f (partition_at p ts)) (busy_in ts) → false ≡ b
 any_missed f b ts ds i whole is end so_far =
     sym (any_none (λ p. f (partition_at p ts)) (busy_in ts) i (subst (λ (ps : List ℕ). length ps ≤ i) is end) so_far) ∙ whole
-
-pub first_found : (g : ℕ → Bool) (o : Option ℕ) (ps ds : List ℕ) (i : ℕ) → find g ps ≡ o → ds ≡ ps → i < length ds → g (get_or ds i 0) ≡ true
-    → find g (drop i ps) ≡ find g ps → Some (get_or ds i 0) ≡ o
-first_found g o ps ds i whole is l passes so_far =
-    let m : i < length ps = subst (λ (qs : List ℕ). i < length qs) is l in
-    let same : get_or ds i 0 ≡ get_or ps i 0 = ap (λ (qs : List ℕ). get_or qs i 0) is in
-    ap Some same ∙ sym (find_here g ps i m (ap g (sym same) ∙ passes) so_far) ∙ whole
-
-pub first_missed : (g : ℕ → Bool) (o : Option ℕ) (ps ds : List ℕ) (i : ℕ) → find g ps ≡ o → ds ≡ ps → length ds ≤ i → find g (drop i ps) ≡ find g ps → None ≡ o
-first_missed g o ps ds i whole is end so_far = sym (find_none g ps i (subst (λ (qs : List ℕ). length qs ≤ i) is end) so_far) ∙ whole

@@ -19,7 +19,7 @@ fitting-cons : (room : ℕ) (x : Sending) (xs : List Sending) → fitting room (
 unfolding fitting
 fitting-cons room x xs = refl
 
-fitting-nil : (room : ℕ) → fitting room [] ≡ []
+pub fitting-nil : (room : ℕ) → fitting room [] ≡ []
 unfolding fitting
 fitting-nil room = refl
 

@@ -4,6 +4,7 @@ use Rattle.std.specs.Prelude.{filter, nat_lt, nat_le, ◌==◌, if◌then◌else
 use Rattle.std.specs.List.{AllByRecursion, AllWithin, insert}
 use Rattle.std.specs.List.Sorted.{IsPartitionedBy, IsPartitionPoint}
 use Rattle.std.proofs.lemmas.Bool.Decides.{nat_tests}
+use Rattle.kp_rules.proofs.ListLemmas.{all_filter}
 use Rattle.kp_core.specs.ByLeader.{Led, NoneBefore, Rises, is_before, put}
 
 -- ---- the order
@@ -91,14 +92,6 @@ length-put x (y ∷ ys) = cases (length-put x ys) (is_before y x)
     cases more false = refl
 
 -- ---- those that pass
-
-pub all_filter : (P : Led → Type 0) (q : Led → Bool) (ys : List Led) → AllByRecursion P ys → AllByRecursion P (filter q ys)
-all_filter P q [] h = tt
-all_filter P q (y ∷ ys) h = cases (all_filter P q ys h.1) (q y)
-  where
-    cases : AllByRecursion P (filter q ys) → (b : Bool) → AllByRecursion P (if b then y ∷ filter q ys else filter q ys)
-    cases more true = (h.0, more)
-    cases more false = more
 
 pub put-filter : (q : Led → Bool) (x : Led) (ys : List Led) → Rises ys → filter q (put x ys) ≡ (if q x then put x (filter q ys) else filter q ys)
 put-filter q x [] h = cases (q x)

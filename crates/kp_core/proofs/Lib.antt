@@ -29,3 +29,4 @@ pub mod LedLemmas
 pub mod ByLeaderLemmas
 pub mod LeaderLemmas
 pub mod WorkLemmas
+pub mod SilentLemmas

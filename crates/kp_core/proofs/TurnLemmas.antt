@@ -5,7 +5,6 @@ use Rattle.std.specs.List.{AllByRecursion, enumerate_from}
 use Rattle.std.proofs.lemmas.Bool.{cases_lt}
 use Rattle.std.proofs.lemmas.Bool.Decides.{nat_tests}
 use Rattle.std.proofs.lemmas.List.{drop_all, take_all}
-use Rattle.std.proofs.lemmas.List.Elements.{filter_map-append}
 use Rattle.std.proofs.lemmas.List.FromFn.{length-enumerate_from}
 use Rattle.kp_accum.specs.declared.flags.Flags.{Flags}
 use Rattle.kp_accum.specs.Queue.{size_of}
@@ -14,7 +13,7 @@ use Rattle.kp_rules.specs.Next.{Sending, fitting, flags_of, in_turn, next_batche
 use Rattle.kp_rules.specs.Records.{Core, Partition}
 use Rattle.kp_rules.proofs.FittingLemmas.{sending_fits}
 use Rattle.kp_rules.proofs.SendingLemmas.{IsSent, all_sending}
-use Rattle.kp_core.specs.Choosing.{sends_in}
+use Rattle.kp_core.specs.Choosing.{numbered_from, sends_in}
 
 -- ---- numbered lists
 
@@ -44,8 +43,8 @@ take-min n xs = elim (cases_lt n (length xs)) [
 
 -- ---- in turn
 
-pub in_turn-is : (node : ℕ) (s : Core) (first : ℕ) → first ≡ min (used_up_to node s.turns) (length s.partitions)
-    → enumerate_from first (drop first s.partitions) ++ enumerate_from 0 (take first s.partitions) ≡ in_turn node s
+in_turn-is : (node : ℕ) (s : Core) (first : ℕ) → first ≡ min (used_up_to node s.turns) (length s.partitions)
+    → numbered_from first s.partitions ≡ in_turn node s
 in_turn-is node s first is =
     let all : List (ℕ × Partition) = enumerate_from 0 s.partitions in
     let n = used_up_to node s.turns in
@@ -92,17 +91,10 @@ pub none_second : {A : Type 0} (xs ys : List A) → xs ++ ys ≡ [] → ys ≡ [
 none_second [] ys e = e
 none_second (x ∷ xs) ys e = absurd cc
 
--- ---- gathered in two parts
-
-abbrev pub behind : ℕ → ℕ → Core → ℕ → Flags → List Sending
-behind node now s first flags = filter_map (sends_in node s.config flags now) (enumerate_from first (drop first s.partitions))
-
-abbrev pub before : ℕ → ℕ → Core → ℕ → Flags → List Sending
-before node now s first flags = filter_map (sends_in node s.config flags now) (enumerate_from 0 (take first s.partitions))
+-- ---- gathered from the first in turn on
 
 pub gathered : (node now : ℕ) (s : Core) (first : ℕ) (flags : Flags) → first ≡ min (used_up_to node s.turns) (length s.partitions) → flags ≡ flags_of s
-    → behind node now s first flags ++ before node now s first flags ≡ all_sendings node now s
+    → filter_map (sends_in node s.config flags now) (numbered_from first s.partitions) ≡ all_sendings node now s
 gathered node now s first flags is pressed =
-    ap (λ (f : Flags). behind node now s first f ++ before node now s first f) pressed
-    ∙ sym (filter_map-append (sends_in node s.config (flags_of s) now) (enumerate_from first (drop first s.partitions)) (enumerate_from 0 (take first s.partitions)))
+    ap (λ (f : Flags). filter_map (sends_in node s.config f now) (numbered_from first s.partitions)) pressed
     ∙ ap (filter_map (sends_in node s.config (flags_of s) now)) (in_turn-is node s first is)

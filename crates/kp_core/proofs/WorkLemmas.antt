@@ -4,6 +4,7 @@ use Rattle.std.specs.Prelude.{Option, Result, option_map, filter, filter_map, fi
 use Rattle.std.specs.List.{AllByRecursion, cons_option, enumerate_from, insert, list_any}
 use Rattle.std.specs.List.Sorted.{IsPartitionedBy}
 use Rattle.std.proofs.lemmas.List.{drop-map, ext_get_or, get_or-map, get_or_default, length-map, map-append, take-map}
+use Rattle.std.proofs.lemmas.List.Elements.{filter-append, filter_map-append}
 use Rattle.kp_accum.specs.declared.config.Config.{Config}
 use Rattle.kp_accum.specs.declared.flags.Flags.{Flags}
 use Rattle.kp_rules.specs.Dropping.{drop_attempts, drop_led}
@@ -16,11 +17,11 @@ use Rattle.kp_rules.proofs.ListLemmas.{all_filter, all_weaker}
 use Rattle.kp_rules.proofs.PartitionLemmas.{at-changed_at, length-changed_at}
 use Rattle.kp_core.specs.Busy.{busy_from, busy_in, has_work_for}
 use Rattle.kp_core.specs.ByLeader.{Led, Rises, by_leader, is_before, led_at, led_from, places_in, put, work_in}
-use Rattle.kp_core.specs.Choosing.{sends_in}
+use Rattle.kp_core.specs.Choosing.{numbered_from, sends_in}
 use Rattle.kp_core.proofs.BusyLemmas.{AreAt, all_at, busy_once, busy_there, chosen_busy, found_busy, led_busy}
 use Rattle.kp_core.proofs.ByLeaderLemmas.{led_leaders, led_rises, under-is}
 use Rattle.kp_core.proofs.IdleLemmas.{idle_asks_nothing, idle_dropped, idle_sends_in}
-use Rattle.kp_core.proofs.ListedLemmas.{changed_busy}
+use Rattle.kp_core.proofs.ListedLemmas.{busy_split, changed_busy, first_at, last_at}
 use Rattle.kp_core.proofs.LedLemmas.{PartAt, all_under, drop_rises, insert-put, parts_at, parts_below, parts_upto}
 
 -- ---- numbers that say the same as their places in the list
@@ -232,6 +233,24 @@ pub work_sent : (node : ℕ) (c : Config) (flags : Flags) (now n : ℕ) (xs ts :
 work_sent node c flags now n xs ts at =
     given_left (λ p. leads node (partition_at p ts)) (λ p. sends_in node c flags now (p, partition_at p ts)) (λ p is. sends_none node c flags now p (partition_at p ts) is) (busy_from n xs)
     ∙ chosen_busy (sends_in node c flags now) n xs ts (idle_sends_in node c flags now) at
+
+-- ---- below one partition, and from it on
+
+abbrev pub work_from : ℕ → ℕ → List Partition → List Partition → List ℕ
+work_from node n xs ts = filter (λ p. leads node (partition_at p ts)) (busy_from n xs)
+
+pub work_split : (node m : ℕ) (ts : List Partition) → m ≤ length ts → work_in node ts ≡ work_from node 0 (take m ts) ts ++ work_from node m (drop m ts) ts
+work_split node m ts l =
+    ap (filter (λ p. leads node (partition_at p ts))) (busy_split m ts l)
+    ∙ filter-append (λ p. leads node (partition_at p ts)) (busy_from 0 (take m ts)) (busy_from m (drop m ts))
+
+pub work_sent_from : (node : ℕ) (c : Config) (flags : Flags) (now m : ℕ) (ts : List Partition) → m ≤ length ts
+    → filter_map (λ p. sends_in node c flags now (p, partition_at p ts)) (work_from node m (drop m ts) ts) ++ filter_map (λ p. sends_in node c flags now (p, partition_at p ts)) (work_from node 0 (take m ts) ts)
+    ≡ filter_map (sends_in node c flags now) (numbered_from m ts)
+work_sent_from node c flags now m ts l =
+    ap (λ (xs : List Sending). xs ++ filter_map (λ p. sends_in node c flags now (p, partition_at p ts)) (work_from node 0 (take m ts) ts)) (work_sent node c flags now m (drop m ts) ts (last_at m ts))
+    ∙ ap (λ (xs : List Sending). filter_map (sends_in node c flags now) (enumerate_from m (drop m ts)) ++ xs) (work_sent node c flags now 0 (take m ts) ts (first_at m ts l))
+    ∙ sym (filter_map-append (sends_in node c flags now) (enumerate_from m (drop m ts)) (enumerate_from 0 (take m ts)))
 
 -- ---- where all of a list pass
 

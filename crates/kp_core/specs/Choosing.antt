@@ -1,5 +1,6 @@
 -- What a partition sends to a node, with its number, and may send.
-use Rattle.std.specs.Prelude.{◌≡◌, ◌<◌, ◌^◌, ℕ, true, List, [], Option, Some, None, option_map}
+use Rattle.std.specs.Prelude.{◌≡◌, ◌<◌, ◌^◌, ◌++◌, ℕ, true, List, [], drop, take, Option, Some, None, option_map}
+use Rattle.std.specs.List.{enumerate_from}
 use Rattle.kp_accum.specs.declared.config.Config.{Config}
 use Rattle.kp_accum.specs.declared.flags.Flags.{Flags}
 use Rattle.kp_rules.specs.Attempts.{lowest_waiting}
@@ -14,6 +15,10 @@ use Rattle.kp_parts.specs.Written.{produce_packet}
 abbrev pub sends_in : ℕ → Config → Flags → ℕ → ℕ × Partition → Option Sending
 sends_in node c flags now x =
     option_map (λ b. record { partition = x.0; batch = b }) (sends_to node sends c flags now x.1)
+
+-- the partitions with their numbers, from this one on and then those below it
+abbrev pub numbered_from : ℕ → List Partition → List (ℕ × Partition)
+numbered_from first ts = enumerate_from first (drop first ts) ++ enumerate_from 0 (take first ts)
 
 -- What the partition may send has a place.
 pub record MayGoOut (t : Partition) : Type 0 where

@@ -192,6 +192,7 @@ impl Core {
     }
 
     /// Whether a request to this node has waited for `request.timeout.ms`.
+    #[inline]
     #[tactic(auto, unfolding(kp_rules::specs::Tick::has_timed_out))]
     pub fn is_late(&self, node: u32, now: u64) -> bool
         ensures { result ≡ has_timed_out node now self.now }

@@ -1,8 +1,10 @@
 //! What the next request asks for.
 
-ghost use Rattle.std.specs.Prelude.{◌≡◌, ◌<◌, [], not, take, length, min, IfOk, IfErr};
+ghost use Rattle.std.specs.Prelude.{◌≡◌, ◌<◌, ℕ, [], not, take, length, min, IfOk, IfErr};
+ghost use Rattle.std.specs.List.{AllByRecursion};
 ghost use Rattle.kp_rules.specs.Next.{flags_of, fitting, next_asking, next_batches, used_up_to};
 ghost use Rattle.kp_rules.specs.Partitions.{is_empty};
+ghost use Rattle.kp_core.specs.ByLeader.{work_in};
 
 use crate::machine::Core;
 use crate::requests::any_asks_for_id;
@@ -23,9 +25,10 @@ impl Core {
         }
     }
 
-    /// The node's partition for which a fresh producer id is asked for.
-    pub(super) fn next_asking(&self, node: u32, now: u64) -> Option<u32>
-        ensures { result ≡ next_asking node now self.now }
+    /// The partition for which a fresh producer id is asked for: one of these, which a node leads and which have work.
+    pub(super) fn next_asking(&self, places: &[u32], now: u64) -> Option<u32>
+        requires { AllByRecursion (λ p. p < length self.now.partitions) places.now }
+        ensures { (node : ℕ) → places.now ≡ work_in node self.now.partitions → result ≡ next_asking node now self.now }
     {
         if any_asks_for_id(&self.requests) {
             return None;
@@ -35,7 +38,7 @@ impl Core {
                 return None;
             }
         }
-        self.partitions.first_wanting(node, &self.config)
+        self.partitions.first_wanting(places, &self.config)
     }
 
     /// The place of the first partition behind the last one used for this node.
@@ -56,8 +59,6 @@ impl Core {
         let mut sendings = Vec::new(self.alloc);
         self.partitions
             .gather_from(&mut sendings, first, node, &self.config, flags, now)?;
-        self.partitions
-            .gather_below(&mut sendings, first, node, &self.config, flags, now)?;
         let count = count_fitting(&sendings, self.config.max_request_size);
         sendings.truncate(count);
         Ok(sendings)

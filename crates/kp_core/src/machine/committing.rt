@@ -22,10 +22,11 @@ impl Core {
         requires { self.old.ended ≡ false }
         ensures { Step self.old (Requested node now result) self.new }
     {
-        if !self.has_window(node) {
+        let places = self.partitions.led_by(node);
+        if places.is_empty() || !self.has_window(node) {
             return Ok(None);
         }
-        match self.next_asking(node, now) {
+        match self.next_asking(places, now) {
             Some(partition) => self.ask_for_id(node, now, partition),
             None => self.send_batches(node, now),
         }

@@ -49,6 +49,7 @@ fn stands_before(partitions: &[Partition], place: u32, other: u32) -> bool
 }
 
 /// The node that leads this partition; 0 where there is none.
+#[inline]
 fn leader_of(partitions: &[Partition], place: u32) -> u32
     ensures { result ≡ (partition_at place partitions.now).leader }
 {

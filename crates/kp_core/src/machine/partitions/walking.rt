@@ -1,14 +1,14 @@
 //! What the partitions that have something to do say: the others say nothing to it.
 
-ghost use Rattle.std.specs.Prelude.{◌≡◌, ◌≤◌, ◌<◌, ◌+◌, ◌++◌, ◌&&◌, [], drop, filter, filter_map, find, flat_map, take, length, option_map, OnOk, IfErr};
-ghost use Rattle.std.specs.List.{AllByRecursion, list_any, enumerate_from};
+ghost use Rattle.std.specs.Prelude.{◌≡◌, ◌≤◌, ◌<◌, ◌+◌, ◌++◌, [], drop, filter, filter_map, find, flat_map, take, length, OnOk, IfErr};
+ghost use Rattle.std.specs.List.{AllByRecursion, list_any};
 ghost use Rattle.kp_rules.specs.Due.{earliest, partition_moments};
 ghost use Rattle.kp_rules.specs.Flush.{has_marks};
 ghost use Rattle.kp_rules.specs.MaySend.{wants_id};
 ghost use Rattle.kp_rules.specs.Partitions.{leads, partition_at};
 ghost use Rattle.kp_core.specs.Busy.{busy_from, has_work_for};
 ghost use Rattle.kp_core.specs.ByLeader.{work_in};
-ghost use Rattle.kp_core.specs.Choosing.{sends_in};
+ghost use Rattle.kp_core.specs.Choosing.{numbered_from, sends_in};
 
 use crate::machine::partitions::Partitions;
 use crate::machine::partitions::leaders::led_by;
@@ -17,6 +17,14 @@ use kp_parts::{Sending, sooner};
 use std::alloc::AllocError;
 
 impl Partitions {
+    /// Those that this node leads and that have something to do, upwards.
+    #[inline]
+    pub(crate) fn led_by(&self, node: u32) -> &[u32]
+        ensures { result.now ≡ work_in node self.now }
+    {
+        led_by(&self.by_leader, &self.all, node)
+    }
+
     /// Whether something is queued or open of one that this node leads.
     pub(crate) fn have_work(&self, node: u32) -> bool
         ensures { result ≡ list_any (has_work_for node) self.now }
@@ -48,11 +56,12 @@ impl Partitions {
         false
     }
 
-    /// The number of the node's first one that wants a fresh id.
-    pub(crate) fn first_wanting(&self, node: u32, config: &Config) -> Option<u32>
-        ensures { result ≡ option_map (λ x. x.0) (find (λ x. leads node x.1 && wants_id config.now x.1) (enumerate_from 0 self.now)) }
+    /// The number of the first one of these that wants a fresh id.
+    pub(crate) fn first_wanting(&self, places: &[u32], config: &Config) -> Option<u32>
+        requires { AllByRecursion (λ p. p < length self.now) places.now }
+        ensures { result ≡ find (λ p. wants_id config.now (partition_at p self.now)) places.now }
     {
-        for place in self.led_by(node) {
+        for place in places {
             if self.at(*place).wants_id(config) {
                 return Some(*place);
             }
@@ -71,7 +80,7 @@ impl Partitions {
         earliest
     }
 
-    /// What those from this one on send to this node goes behind what there is.
+    /// What they send to this node, from this one on and then below it, goes behind what there is.
     pub(crate) fn gather_from<'a>(
         &'a self,
         sendings: &mut Vec<Sending<'a>>,
@@ -83,40 +92,15 @@ impl Partitions {
     ) -> Result<(), AllocError>
         requires { first ≤ length self.now }
         ensures ok { OnOk result (sendings.new.items ≡
-            sendings.old.items ++ filter_map (sends_in node config.now flags now) (enumerate_from first (drop first self.now))) }
-        ensures some { IfErr result (λ e. filter_map (sends_in node config.now flags now) (enumerate_from first (drop first self.now)) ≡ [] → ⊥) }
+            sendings.old.items ++ filter_map (sends_in node config.now flags now) (numbered_from first self.now)) }
+        ensures some { IfErr result (λ e. filter_map (sends_in node config.now flags now) (numbered_from first self.now) ≡ [] → ⊥) }
     {
-        let (_, places) = self.split(node, first);
-        self.gather(sendings, places, node, config, flags, now)
+        let (below, behind) = self.split(node, first);
+        self.gather(sendings, behind, node, config, flags, now)?;
+        self.gather(sendings, below, node, config, flags, now)
     }
 
-    /// What those below this one send to this node goes behind what there is.
-    pub(crate) fn gather_below<'a>(
-        &'a self,
-        sendings: &mut Vec<Sending<'a>>,
-        first: usize,
-        node: u32,
-        config: &Config,
-        flags: Flags,
-        now: u64,
-    ) -> Result<(), AllocError>
-        requires { first ≤ length self.now }
-        ensures ok { OnOk result (sendings.new.items ≡
-            sendings.old.items ++ filter_map (sends_in node config.now flags now) (enumerate_from 0 (take first self.now))) }
-        ensures some { IfErr result (λ e. filter_map (sends_in node config.now flags now) (enumerate_from 0 (take first self.now)) ≡ [] → ⊥) }
-    {
-        let (places, _) = self.split(node, first);
-        self.gather(sendings, places, node, config, flags, now)
-    }
-
-    /// Those that this node leads and that have something to do, upwards.
-    fn led_by(&self, node: u32) -> &[u32]
-        ensures { result.now ≡ work_in node self.now }
-    {
-        led_by(&self.by_leader, &self.all, node)
-    }
-
-    /// The same below this one, and from it on.
+    /// Those of the node below this one, and from it on.
     fn split(&self, node: u32, first: usize) -> (&[u32], &[u32])
         requires { first ≤ length self.now }
         ensures below { result.0.now ≡ filter (λ p. leads node (partition_at p self.now)) (busy_from 0 (take first self.now)) }

@@ -1,8 +1,10 @@
 use Rattle.std.proofs.Common.{◌≡◌, ◌∙◌, List, [], ◌++◌, take, length, min, sym, ap, rules}
+use Rattle.std.specs.Prelude.{filter_map}
+use Rattle.kp_core.specs.Choosing.{numbered_from, sends_in}
 use Rattle.kp_core.specs.Keeping.{seen_of}
 use Rattle.kp_rules.specs.Next.{Sending, flags_of, next_batches, used_up_to}
 use Rattle.kp_rules.specs.Records.{Core}
-use Rattle.kp_core.proofs.TurnLemmas.{all_sendings, before, behind, gathered, next_batches-is, none_first, none_second, some_fit}
+use Rattle.kp_core.proofs.TurnLemmas.{all_sendings, gathered, next_batches-is, some_fit}
 use Rattle.kp_core.proofs.machine.Core.next_batches.Goals as goal
 
 pub returns-in_err-gather_from-clause-some : goal.returns-in_err-gather_from-clause-some
@@ -11,16 +13,7 @@ returns-in_err-gather_from-clause-some c =
     let all = gathered c.args.node c.args.now s c.first_in_turn-first.result c.flags-flags.result
     (c.first_in_turn-first.ensures ∙ ap (λ (x : Core). min (used_up_to c.args.node x.turns) (length x.partitions)) (sym c.self.view_is)) (c.flags-flags.ensures ∙ ap flags_of (sym c.self.view_is)) in
     let some : next_batches c.args.node c.args.now c.args.self.now ≡ [] → ⊥ =
-    λ e. some_fit c.args.node c.args.now s c.self.invariant.order (λ none. c.in_err-gather_from.ensures.some (none_first _ _ (all ∙ none))) (ap (next_batches c.args.node c.args.now) c.self.view_is ∙ e) in
-    search rules
-
-pub returns-in_err-gather_below-clause-some : goal.returns-in_err-gather_below-clause-some
-returns-in_err-gather_below-clause-some c =
-    let s = seen_of c.self.inside in
-    let all = gathered c.args.node c.args.now s c.first_in_turn-first.result c.flags-flags.result
-    (c.first_in_turn-first.ensures ∙ ap (λ (x : Core). min (used_up_to c.args.node x.turns) (length x.partitions)) (sym c.self.view_is)) (c.flags-flags.ensures ∙ ap flags_of (sym c.self.view_is)) in
-    let some : next_batches c.args.node c.args.now c.args.self.now ≡ [] → ⊥ =
-    λ e. some_fit c.args.node c.args.now s c.self.invariant.order (λ none. c.in_err-gather_below.ensures.some (none_second _ _ (all ∙ none))) (ap (next_batches c.args.node c.args.now) c.self.view_is ∙ e) in
+    λ e. some_fit c.args.node c.args.now s c.self.invariant.order (λ none. c.in_err-gather_from.ensures.some (all ∙ none)) (ap (next_batches c.args.node c.args.now) c.self.view_is ∙ e) in
     search rules
 
 pub returns-clause-all : goal.returns-clause-all
@@ -28,11 +21,8 @@ returns-clause-all c =
     let s = seen_of c.self.inside in
     let all = gathered c.args.node c.args.now s c.first_in_turn-first.result c.flags-flags.result
     (c.first_in_turn-first.ensures ∙ ap (λ (x : Core). min (used_up_to c.args.node x.turns) (length x.partitions)) (sym c.self.view_is)) (c.flags-flags.ensures ∙ ap flags_of (sym c.self.view_is)) in
-    let back : List Sending = behind c.args.node c.args.now s c.first_in_turn-first.result c.flags-flags.result in
-    let front : List Sending = before c.args.node c.args.now s c.first_in_turn-first.result c.flags-flags.result in
-    let both : c.gather_below.new.sendings.items ≡ all_sendings c.args.node c.args.now s =
-    c.in_ok-gather_below.ensures.ok
-    ∙ ap (λ (xs : List Sending). xs ++ front) (c.in_ok-gather_from.ensures.ok ∙ ap (λ (xs : List Sending). xs ++ back) c.new-sendings.ensures.items)
-    ∙ all in
+    let sent : List Sending = filter_map (sends_in c.args.node s.config c.flags-flags.result c.args.now) (numbered_from c.first_in_turn-first.result s.partitions) in
+    let whole : c.gather_from.new.sendings.items ≡ all_sendings c.args.node c.args.now s =
+    c.in_ok-gather_from.ensures.ok ∙ ap (λ (xs : List Sending). xs ++ sent) c.new-sendings.ensures.items ∙ all in
     c.truncate.ensures.items ∙ ap (take c.count_fitting-count.result) (sym c.deref.ensures.value) ∙ c.count_fitting-count.ensures
-    ∙ next_batches-is c.args.node c.args.now s c.deref.result.now (c.deref.ensures.value ∙ both) ∙ ap (next_batches c.args.node c.args.now) c.self.view_is
+    ∙ next_batches-is c.args.node c.args.now s c.deref.result.now (c.deref.ensures.value ∙ whole) ∙ ap (next_batches c.args.node c.args.now) c.self.view_is

@@ -2,13 +2,13 @@ use Rattle.std.proofs.Common.{◌≡◌, ◌∙◌, ◌<◌, ◌≤◌, ◌++◌
 use Rattle.std.specs.Prelude.{filter}
 use Rattle.std.specs.List.Sorted.{IsPartitionedBy, IsPartitionPoint}
 use Rattle.std.proofs.lemmas.Fn.{always_returns_same}
-use Rattle.std.proofs.lemmas.List.Elements.{filter-append}
 use Rattle.kp_rules.specs.Partitions.{leads, partition_at}
 use Rattle.kp_rules.proofs.ListLemmas.{all_filter}
 use Rattle.kp_core.specs.Busy.{busy_from}
 use Rattle.kp_core.proofs.BusyLemmas.{busy_above}
-use Rattle.kp_core.proofs.ListedLemmas.{below_it, busy_split}
+use Rattle.kp_core.proofs.ListedLemmas.{below_it}
 use Rattle.kp_core.proofs.WalkLemmas.{first_part, parted, point-is, second_part}
+use Rattle.kp_core.proofs.WorkLemmas.{work_split}
 use Rattle.kp_core.proofs.machine.partitions.Partitions.split.Goals as goal
 
 pub returns-clause-below : goal.returns-clause-below
@@ -21,7 +21,7 @@ returns-clause-below c =
     let lows = all_filter (λ p. p < m) its (busy_from 0 (take m ts)) (below_it m ts c.requires) in
     let highs = all_filter (λ p. m ≤ p) its (busy_from m (drop m ts)) (busy_above m m (drop m ts) (omega arith)) in
     let same : c.led_by-places.result.now ≡ below ++ above =
-    c.led_by-places.ensures ∙ ap (filter its) (busy_split m ts c.requires) ∙ filter-append its (busy_from 0 (take m ts)) (busy_from m (drop m ts)) in
+    c.led_by-places.ensures ∙ work_split c.args.node m ts c.requires in
     let bound : c.partition_point-count.result ≤ length (below ++ above) =
     subst (λ (ps : List ℕ). c.partition_point-count.result ≤ length ps) same c.partition_point-count.ensures.bound in
     let point = c.partition_point-count.ensures.partitioned (λ p. nat_lt p m) (always_returns_same _ _ _ (λ a r f k. search (rules, of_calls)))
@@ -40,7 +40,7 @@ returns-clause-behind c =
     let lows = all_filter (λ p. p < m) its (busy_from 0 (take m ts)) (below_it m ts c.requires) in
     let highs = all_filter (λ p. m ≤ p) its (busy_from m (drop m ts)) (busy_above m m (drop m ts) (omega arith)) in
     let same : c.led_by-places.result.now ≡ below ++ above =
-    c.led_by-places.ensures ∙ ap (filter its) (busy_split m ts c.requires) ∙ filter-append its (busy_from 0 (take m ts)) (busy_from m (drop m ts)) in
+    c.led_by-places.ensures ∙ work_split c.args.node m ts c.requires in
     let bound : c.partition_point-count.result ≤ length (below ++ above) =
     subst (λ (ps : List ℕ). c.partition_point-count.result ≤ length ps) same c.partition_point-count.ensures.bound in
     let point = c.partition_point-count.ensures.partitioned (λ p. nat_lt p m) (always_returns_same _ _ _ (λ a r f k. search (rules, of_calls)))
