@@ -4,9 +4,11 @@
 mod dial;
 mod lookup;
 mod names;
+mod pair;
 mod sockets;
 
 pub use dial::Dial;
 pub use lookup::{Lookup, Numeric};
 pub use names::{HostNames, Named, Resolver};
+pub use pair::Pair;
 pub use sockets::{Dialing, SETUP_TIMEOUT_MS, Sockets};

@@ -6,7 +6,6 @@ mod fault;
 mod files;
 mod input;
 mod moments;
-mod pair;
 mod publishing;
 mod threads;
 mod watch;

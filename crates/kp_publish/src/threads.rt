@@ -9,11 +9,11 @@ ghost use Rattle.kp_rules.specs.Opening.{NAME_LIMIT};
 use crate::fault::PublishFault;
 use crate::files::Files;
 use crate::input::{Input, pieces, read_all};
-use crate::pair::Pair;
 use crate::publishing::Publishing;
 use crate::watch::{Telling, Watch};
 use kp_cluster::Address;
 use kp_core::Names;
+use kp_dial::Pair;
 use kp_drive::{Drive, EmbedConfig, HostNames, Sockets};
 use kp_send::{Form, Sender, Tellings};
 use std::alloc::AllocGlobal;
@@ -77,7 +77,7 @@ where
     let (resolved, published) = thread::join(
         rt,
         move || {
-            if !pair.begin_first(rt) {
+            if !pair.begin(rt) {
                 return Ok(());
             }
             let resolved = resolver.run(rt);
@@ -85,7 +85,7 @@ where
             resolved
         },
         move || {
-            if pair.begin_second(rt) {
+            if pair.begin(rt) {
                 publish_named(rt, plan, hosts, pair, input, files, out, err)
             } else {
                 Err(PublishFault::OutOfMemory)
@@ -123,12 +123,12 @@ where
     let (_, published) = thread::join(
         rt,
         move || {
-            if pair.begin_first(rt) {
+            if pair.begin(rt) {
                 read_all(rt, input, to);
             }
         },
         move || {
-            if pair.begin_second(rt) {
+            if pair.begin(rt) {
                 let input = Input::of(rt.alloc(), from);
                 publish_pieces(rt, plan, hosts, lookups, input, files, out, err)
             } else {

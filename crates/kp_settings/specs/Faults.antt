@@ -8,7 +8,7 @@ use Rattle.kp_hello.specs.declared.fault.HandshakeFault.TheVariants as handshake
 use Rattle.kp_lanes.specs.declared.fault.OpenFault.{OpenFault as LanesFault}
 use Rattle.kp_lanes.specs.declared.fault.OpenFault.TheVariants as lanes
 use Rattle.kp_settings.specs.declared.fault.OpenFault.{OpenFault}
-use Rattle.kp_settings.specs.declared.fault.OpenFault.TheVariants.{Topic, Client, Config, Network, Handshake, Lanes, OutOfMemory}
+use Rattle.kp_settings.specs.declared.fault.OpenFault.TheVariants.{Topic, Client, Config, Policy, Network, Handshake, Lanes, OutOfMemory}
 use Rattle.kp_settings.specs.declared.fault.ServiceFault.{ServiceFault}
 use Rattle.kp_settings.specs.declared.fault.ServiceFault.TheVariants as serving
 
@@ -43,6 +43,7 @@ abbrev pub OfSettings : OpenFault → Type 0
 OfSettings Topic = Unit {0}
 OfSettings Client = Unit {0}
 OfSettings (Config fault) = Unit {0}
+OfSettings Policy = Unit {0}
 OfSettings fault = ⊥
 
 -- It is none of theirs.

@@ -6,8 +6,9 @@ use Rattle.kp_hello.specs.declared.hello.Hello.{Hello}
 use Rattle.kp_lanes.specs.declared.limits.Limits.{Limits}
 use Rattle.kp_rules.specs.Opening.{NAME_LIMIT}
 use Rattle.kp_settings.specs.declared.fault.OpenFault.{OpenFault}
-use Rattle.kp_settings.specs.declared.fault.OpenFault.TheVariants.{Topic, Client, Config}
-use Rattle.kp_settings.specs.declared.policy.Policy.TheVariants.{Unlimited}
+use Rattle.kp_settings.specs.declared.fault.OpenFault.TheVariants.{Topic, Client, Config, Policy as HasLimit}
+use Rattle.kp_settings.specs.declared.policy.Policy.{Policy}
+use Rattle.kp_settings.specs.declared.policy.Policy.TheVariants.{InAll, InARow, Unlimited}
 use Rattle.kp_settings.specs.declared.settings.Settings.{Settings}
 
 abbrev pub of_config : Result (Unit {0}) ConfigFault → Result (Unit {0}) OpenFault
@@ -34,6 +35,19 @@ checked_settings s =
     if nat_lt NAME_LIMIT (length s.names.topic) then Err Topic
     else if nat_lt NAME_LIMIT (length s.names.client) then Err Client
     else of_config (checked s.config)
+
+-- the same, and behind it the policy, which may have no limit
+abbrev pub checked_policy : Policy → Result (Unit {0}) OpenFault
+checked_policy (InAll n) = Err HasLimit
+checked_policy (InARow n) = Err HasLimit
+checked_policy Unlimited = Ok tt
+
+abbrev pub followed_by : Result (Unit {0}) OpenFault → Result (Unit {0}) OpenFault → Result (Unit {0}) OpenFault
+followed_by (Ok done) next = next
+followed_by (Err fault) next = Err fault
+
+abbrev pub checked_for_cluster : Settings → Result (Unit {0}) OpenFault
+checked_for_cluster s = followed_by (checked_settings s) (checked_policy s.policy)
 
 -- the most that a record may take
 abbrev pub record_limit : Settings → ℕ

@@ -19,6 +19,8 @@ pub enum OpenFault {
     /// The client's name has more than 249 bytes.
     Client,
     Config(ConfigFault),
+    /// The policy has a limit, where the connections are those to a cluster.
+    Policy,
     /// No connection could be made, or no hello came, within `request.timeout.ms`.
     Network,
     /// The broker's answers gave no hello.
@@ -35,6 +37,9 @@ impl fmt::Display for OpenFault {
             OpenFault::Topic => f.write_str("the topic's name has more than 249 bytes"),
             OpenFault::Client => f.write_str("the client's name has more than 249 bytes"),
             OpenFault::Config(fault) => write!(f, "{fault}"),
+            OpenFault::Policy => f.write_str(
+                "connections to a cluster are made for as long as it takes: their number has no limit",
+            ),
             OpenFault::Network => f.write_str("the broker can't be reached"),
             OpenFault::Handshake(HandshakeFault::Refused(code)) => tell_refusal(f, *code),
             OpenFault::Handshake(fault) => write!(f, "{fault}"),

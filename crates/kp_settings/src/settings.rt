@@ -2,7 +2,7 @@
 
 ghost use Rattle.std.specs.Prelude.{◌≡◌, ◌*◌, IfOk};
 ghost use Rattle.std.specs.Duration.{as_nanos};
-ghost use Rattle.kp_settings.specs.Settings.{checked_settings, default_settings, record_limit};
+ghost use Rattle.kp_settings.specs.Settings.{checked_for_cluster, checked_settings, default_settings, record_limit};
 
 use crate::fault::OpenFault;
 use crate::policy::Policy;
@@ -32,7 +32,7 @@ pub struct Settings {
     /// For how long `open` tries again while the broker can't be reached, or says that it is not ready, in milliseconds. 0 is
     /// once.
     pub open_timeout_ms: u64,
-    /// How often a connection that was lost is made anew.
+    /// How often a connection that was lost is made anew. Those to a cluster are, as often as it takes.
     pub policy: Policy,
     /// Whether a list of the records that were handed over is kept. It grows as long as the producer lives.
     pub audits: bool,
@@ -74,6 +74,17 @@ impl Settings {
         match self.config.check() {
             Ok(()) => Ok(()),
             Err(fault) => Err(OpenFault::Config(fault)),
+        }
+    }
+
+    /// The same of settings for the brokers of a cluster: their policy may have no limit.
+    pub fn check_for_cluster(&self) -> Result<(), OpenFault>
+        ensures { result ≡ checked_for_cluster self.now }
+    {
+        self.check()?;
+        match self.policy {
+            Policy::Unlimited => Ok(()),
+            Policy::InAll(_) | Policy::InARow(_) => Err(OpenFault::Policy),
         }
     }
 
