@@ -1,12 +1,12 @@
 -- What is new, and what was done for it.
-use Rattle.std.proofs.Common.{◌≡◌, ◌≢◌, ◌⊎◌, ℕ, Bool, true, false, true≢false, List, [], ◌∷◌, ◌++◌, Option, Some, None, Result, Ok, Err, refl, sym, ap, subst, inl, inr, ⊎_elim, ◌∙◌}
+use Rattle.std.proofs.Common.{◌≡◌, ◌≢◌, ◌⊎◌, ℕ, zero, suc, Bool, true, false, true≢false, List, [], ◌∷◌, ◌++◌, Option, Some, None, Result, Ok, Err, refl, sym, ap, subst, inl, inr, ⊎_elim, ◌∙◌}
 use Rattle.std.specs.Prelude.{if◌then◌else◌, nat_eq, nat_lt, min, length, is_some}
 use Rattle.std.specs.Option.{option_map, option_map_or}
 use Rattle.std.proofs.lemmas.Bool.{cases_eq, eq-eqb, ne_eqb}
 use Rattle.kp_cluster.specs.Actions.{told}
 use Rattle.kp_cluster.specs.Actions as actions
 use Rattle.kp_cluster.specs.Backoff.{Loses}
-use Rattle.kp_cluster.specs.Cluster.{Cluster, chart_refused, leader_of, with_answered, with_wanted}
+use Rattle.kp_cluster.specs.Cluster.{Cluster, chart_refused, connected, leader_of, with_answered, with_wanted}
 use Rattle.kp_cluster.specs.Learning.{learned}
 use Rattle.kp_cluster.specs.Metadata.{asked, heeded, may_ask}
 use Rattle.kp_cluster.specs.Runs.{Call, Runs, Step}
@@ -19,7 +19,7 @@ use Rattle.kp_hello.specs.declared.fault.HandshakeFault.TheVariants as fault
 use Rattle.kp_hello.specs.declared.hello.TheConstants.{PARTITION_LIMIT}
 use Rattle.kp_network.specs.Links.{AreStill, IsDialing, IsStill, OnlyAt, has, is_made, link_at}
 use Rattle.kp_network.specs.Network.{next_led}
-use Rattle.kp_network.specs.News.{Acts, ActsIf, Asks, Begins, Closes, Goes, GoesOn, Hears, IsInTurn, Knows, Makes, Obeys, Renews, Tells, all_wanted, has_after, node_of, told_after, told_leader, with_leader_wanted}
+use Rattle.kp_network.specs.News.{Acts, ActsIf, Asks, Begins, Closes, Goes, GoesOn, Hears, IsInTurn, Knows, Makes, Obeys, Renews, Tells, all_wanted, has_after, node_of, told_after, told_leader}
 use Rattle.kp_network.specs.declared.link.Link.{Link}
 use Rattle.kp_network.specs.declared.link.Link.TheVariants as link
 use Rattle.kp_network.specs.declared.nodes.Nodes.{Nodes}
@@ -40,16 +40,16 @@ module _ (now : ℕ) where
   pub goes_same : (a b : Cluster) → b ≡ a → Goes now a b
   goes_same a b e = goes_to a a b e Goes.not_yet
 
-  wants_one : (a c : Cluster) (leader : Option ℕ) → Goes now a c → Goes now a (option_map_or (λ (node : ℕ). with_wanted node c) leader c)
-  wants_one a c None g = g
-  wants_one a c (Some node) g = Goes.once_more c (with_wanted node c) (Want node) g tt refl
+  wants_one : (a c : Cluster) (node : ℕ) (has_work : Bool) → Goes now a c → Goes now a (if has_work then with_wanted node c else c)
+  wants_one a c node false g = g
+  wants_one a c node true g = Goes.once_more c (with_wanted node c) (Want node) g tt refl
 
-  wants_all : (a c : Cluster) (partitions : List ℕ) → Goes now a c → Goes now a (all_wanted partitions c)
-  wants_all a c [] g = g
-  wants_all a c (p ∷ ps) g = wants_all a (with_leader_wanted c p) ps (wants_one a c (leader_of p c) g)
+  wants_all : (has_work : ℕ → Bool) (a c : Cluster) (count : ℕ) → Goes now a c → Goes now a (all_wanted has_work count c)
+  wants_all has_work a c zero g = g
+  wants_all has_work a c (suc node) g = wants_one a (all_wanted has_work node c) node (has_work node) (wants_all has_work a c node g)
 
-  pub goes_heeding : (partitions : List ℕ) (a : Cluster) → Goes now a (all_wanted partitions (heeded now a))
-  goes_heeding partitions a = wants_all a (heeded now a) partitions (Goes.once_more a (heeded now a) (Heed now) Goes.not_yet refl refl)
+  pub goes_heeding : (has_work : ℕ → Bool) (count : ℕ) (a : Cluster) → Goes now a (all_wanted has_work count (heeded now a))
+  goes_heeding has_work count a = wants_all has_work a (heeded now a) count (Goes.once_more a (heeded now a) (Heed now) Goes.not_yet refl refl)
 
   pub goes_losing : (node : ℕ) (a b : Cluster) → Loses node now a b → Goes now a b
   goes_losing node a b lost = Goes.once_more a b (Lost node now) Goes.not_yet refl lost
@@ -87,8 +87,9 @@ module _ (now : ℕ) where
 
   pub goes_asking_on : {K S : Type 0} (a b : Cluster) (before after : ℕ) (old new : Option (Question K S)) → GoesOn now a b before after old new → Goes now a b
   goes_asking_on a b before _ _ _ (GoesOn.none same) = goes_same a b same
-  goes_asking_on a b before _ _ _ (GoesOn.waits old new node same) = goes_same a b same
-  goes_asking_on a b before _ _ _ (GoesOn.heard old answer hears) = goes_hearing old.node answer a b hears
+  goes_asking_on a b before _ _ _ (GoesOn.left old away same) = goes_same a b same
+  goes_asking_on a b before _ _ _ (GoesOn.waits old new there node same) = goes_same a b same
+  goes_asking_on a b before _ _ _ (GoesOn.heard old answer there hears) = goes_hearing old.node answer a b hears
 
 told_by : (answer : Result Chart HandshakeFault) (count : ℕ) → (told_after answer count ≡ count) ⊎ (told_after answer count ≡ 0)
 told_by (Ok chart) count = inr refl
@@ -96,8 +97,9 @@ told_by (Err fault) count = inl refl
 
 pub told_on : {K S : Type 0} (now : ℕ) (a b : Cluster) (before after : ℕ) (old new : Option (Question K S)) → GoesOn now a b before after old new → (after ≡ before) ⊎ (after ≡ 0)
 told_on now a b before _ _ _ (GoesOn.none same) = inl refl
-told_on now a b before _ _ _ (GoesOn.waits old new node same) = inl refl
-told_on now a b before _ _ _ (GoesOn.heard old answer hears) = told_by answer before
+told_on now a b before _ _ _ (GoesOn.left old away same) = inl refl
+told_on now a b before _ _ _ (GoesOn.waits old new there node same) = inl refl
+told_on now a b before _ _ _ (GoesOn.heard old answer there hears) = told_by answer before
 
 -- ---- both
 
@@ -255,10 +257,10 @@ led_told count first partition node c e =
     let led = led_by (nat_lt first (min count PARTITION_LIMIT)) first (told_leader (leader_of first c)) partition node e in
     (led.0, led.1 ∙ sym (ap (λ (p : ℕ). told_leader (leader_of p c)) led.0))
 
-pub tells_heeded : {D K S : Type 0} (now : ℕ) (partitions : List ℕ) (a h n : Nodes D K) → h.cluster ≡ all_wanted partitions (heeded now a.cluster) → h.links.items ≡ a.links.items → n ≡ h
+pub tells_heeded : {D K S : Type 0} (now : ℕ) (has_work : ℕ → Bool) (count : ℕ) (a h n : Nodes D K) → h.cluster ≡ all_wanted has_work count (heeded now a.cluster) → h.links.items ≡ a.links.items → n ≡ h
     → Tells {D = D} {K = K} {S = S} now a None n
-tells_heeded now partitions a h n cluster links is =
-    tells_nothing now a n (subst (Goes now a.cluster) (sym (ap (λ (m : Nodes _ _). m.cluster) is ∙ cluster)) (goes_heeding now partitions a.cluster))
+tells_heeded now has_work count a h n cluster links is =
+    tells_nothing now a n (subst (Goes now a.cluster) (sym (ap (λ (m : Nodes _ _). m.cluster) is ∙ cluster)) (goes_heeding now has_work count a.cluster))
     (λ k. ap (λ (m : Nodes _ _). link_at k m.links.items) is ∙ ap (link_at k) links)
 
 -- ---- calls
@@ -272,7 +274,9 @@ goes_runs now a _ (Goes.once_more b c call g quiet step) = runs_once now a b c c
 
 pub knows_runs : {S : Type 0} (now : ℕ) (a b : Cluster) (news : Option (News S)) → Knows now a news b → (calls : List Call) × Runs a calls b
 knows_runs now a b None knows = goes_runs now a b knows
-knows_runs now a b (Some (Connected node stream)) knows = runs_once now a knows.0 b (Call.Connected node) (goes_runs now a knows.0 knows.1) knows.2
+knows_runs now a b (Some (Connected node stream)) knows =
+    runs_once now a (connected node knows.0) b (Answered node)
+    (runs_once now a knows.0 (connected node knows.0) (Call.Connected node) (goes_runs now a knows.0 knows.1) refl) knows.2
 knows_runs now a b (Some (Led partition node)) knows = goes_runs now a b knows.0
 knows_runs now a b (Some (Dropped node)) knows = runs_once now a knows.0 b (Lost node now) (goes_runs now a knows.0 knows.1) knows.2
 knows_runs now a b (Some Ended) knows = absurd knows

@@ -1,10 +1,10 @@
 -- What is new, and what was done for it.
-use Rattle.std.specs.Prelude.{◌≡◌, ◌⊎◌, ◌<◌, ℕ, length, Bool, true, false, List, Option, Some, None, Result, Ok, Err, fold, min, ◌+◌, ◌-◌, ◌^◌, if◌then◌else◌, nat_eq, nat_lt}
-use Rattle.std.specs.Option.{option_map_or}
+use Rattle.std.specs.Prelude.{◌≡◌, ◌⊎◌, ◌<◌, ℕ, zero, suc, length, Bool, true, false, List, Option, Some, None, Result, Ok, Err, min, ◌+◌, ◌-◌, ◌^◌, if◌then◌else◌, nat_eq, nat_lt}
+use Rattle.std.specs.List.{list_any}
 use Rattle.futures.specs.declared.task.Poll.{Poll}
 use Rattle.futures.specs.declared.task.Poll.TheVariants.{Ready, Pending}
 use Rattle.kp_cluster.specs.Backoff.{Loses}
-use Rattle.kp_cluster.specs.Cluster.{Cluster, asking_again, chart_refused, connected, leader_of, with_answered, with_wanted}
+use Rattle.kp_cluster.specs.Cluster.{Cluster, asking_again, chart_refused, connected, is_open_at, leader_of, with_answered, with_wanted}
 use Rattle.kp_cluster.specs.Actions.{told}
 use Rattle.kp_cluster.specs.Learning.{learned}
 use Rattle.kp_cluster.specs.Metadata.{asked, may_ask}
@@ -14,11 +14,13 @@ use Rattle.kp_cluster.specs.declared.action.Action.TheVariants.{Close, Connect}
 use Rattle.kp_hello.specs.declared.chart.Chart.{Chart}
 use Rattle.kp_hello.specs.declared.fault.HandshakeFault.{HandshakeFault}
 use Rattle.kp_hello.specs.declared.fault.HandshakeFault.TheVariants.{Refused}
+use Rattle.kp_core.specs.Busy.{has_work_for}
 use Rattle.kp_network.specs.Links.{AreStill, IsDialing, OnlyAt, has, link_at}
 use Rattle.kp_network.specs.declared.link.Link.{Link}
 use Rattle.kp_network.specs.declared.link.Link.TheVariants.{Away, Made}
 use Rattle.kp_network.specs.declared.nodes.Nodes.{Nodes}
 use Rattle.kp_network.specs.declared.question.Question.{Question}
+use Rattle.kp_rules.specs.Records.{Core}
 use Rattle.kp_running.specs.declared.keeping.News.{News}
 use Rattle.kp_running.specs.declared.keeping.News.TheVariants.{Connected, Dropped, Ended, Led}
 
@@ -37,12 +39,18 @@ abbrev pub told_leader : Option ℕ → ℕ
 told_leader (Some node) = node
 told_leader None = NOBODY
 
--- the connection to a partition's leader is wanted
-abbrev pub with_leader_wanted : Cluster → ℕ → Cluster
-with_leader_wanted c partition = option_map_or (λ node. with_wanted node c) (leader_of partition c) c
+-- the connection to the node is wanted, where there is work for it
+abbrev pub with_wanted_for : (has_work : ℕ → Bool) → ℕ → Cluster → Cluster
+with_wanted_for has_work node c = if has_work node then with_wanted node c else c
 
-abbrev pub all_wanted : List ℕ → Cluster → Cluster
-all_wanted partitions c = fold with_leader_wanted c partitions
+-- the same of each of so many nodes
+abbrev pub all_wanted : (has_work : ℕ → Bool) → (count : ℕ) → Cluster → Cluster
+all_wanted has_work zero c = c
+all_wanted has_work (suc node) c = with_wanted_for has_work node (all_wanted has_work node c)
+
+-- there is work for this node: something is queued or open of a partition that it leads, as the engine was told
+abbrev pub has_work_in : Core → ℕ → Bool
+has_work_in core node = list_any (has_work_for node) core.partitions
 
 -- ---- replies
 
@@ -75,11 +83,13 @@ abbrev pub told_after : Result Chart HandshakeFault → ℕ → ℕ
 told_after (Ok chart) count = 0
 told_after (Err fault) count = count
 
--- A question waits on, or its answer is heard.
+-- A question waits on, or its answer is heard, while the connection to its node is open; else it is left.
 pub data GoesOn {K S : Type 0} (now : ℕ) (a b : Cluster) (count : ℕ) : ℕ → (old new : Option (Question K S)) → Type 0 where
   none : b ≡ a → GoesOn now a b count count None None
-  waits : (old new : Question K S) → new.node ≡ old.node → b ≡ a → GoesOn now a b count count (Some old) (Some new)
-  heard : (old : Question K S) (answer : Result Chart HandshakeFault) → Hears old.node now answer a b → GoesOn now a b count (told_after answer count) (Some old) None
+  left : (old : Question K S) → is_open_at old.node a.slots ≡ false → b ≡ a → GoesOn now a b count count (Some old) None
+  waits : (old new : Question K S) → is_open_at old.node a.slots ≡ true → new.node ≡ old.node → b ≡ a → GoesOn now a b count count (Some old) (Some new)
+  heard : (old : Question K S) (answer : Result Chart HandshakeFault) → is_open_at old.node a.slots ≡ true → Hears old.node now answer a b
+      → GoesOn now a b count (told_after answer count) (Some old) None
 
 -- ---- one connection
 
@@ -117,13 +127,14 @@ abbrev pub ActsIf : {D K : Type 0} → Bool → (now : ℕ) → (a b : Nodes D K
 ActsIf true now a b gone = Acts now a b gone
 ActsIf false now a b gone = (b ≡ a) × (gone ≡ None)
 
--- Of the connections that are being made one was made, or one is lost, or neither.
+-- Of the connections that are being made one was made, or one is lost, or neither. The failures of a node to which one was made are
+-- forgotten.
 pub data Makes {D K S : Type 0} (now : ℕ) (a b : Nodes D K) : Option (ℕ × S) → Type 0 where
   still : b.cluster ≡ a.cluster → AreStill a.links.items b.links.items → Makes now a b None
   lost : (links : List (Link K)) (node : ℕ) → AreStill a.links.items links → IsDialing (link_at node links) → OnlyAt node links b.links.items
       → Loses node now a.cluster b.cluster → link_at node b.links.items ≡ Away → Makes now a b None
   made : (links : List (Link K)) (node : ℕ) (stream : S) → AreStill a.links.items links → IsDialing (link_at node links) → OnlyAt node links b.links.items
-      → b.cluster ≡ connected node a.cluster → link_at node b.links.items ≡ Made → Makes now a b (Some (node, stream))
+      → b.cluster ≡ with_answered node (connected node a.cluster) → link_at node b.links.items ≡ Made → Makes now a b (Some (node, stream))
 
 -- ---- all of them
 
@@ -145,11 +156,11 @@ pub data Goes (now : ℕ) (a : Cluster) : Cluster → Type 0 where
   not_yet : Goes now a a
   once_more : (b c : Cluster) (call : Call) → Goes now a b → IsQuiet now call → Step b call c → Goes now a c
 
--- What the cluster knows of what is new. That a connection is open it was told last, and of no other one; that one is closed, last;
--- a leader is as it has it.
+-- What the cluster knows of what is new. Last it was told that a connection is open, and of no other one, and that its node's failures
+-- are forgotten; or that one is closed; a leader is as it has it.
 abbrev pub Knows : {S : Type 0} → (now : ℕ) → Cluster → Option (News S) → Cluster → Type 0
 Knows now a None b = Goes now a b
-Knows now a (Some (Connected node stream)) b = (mid : Cluster) × Goes now a mid × (b ≡ connected node mid)
+Knows now a (Some (Connected node stream)) b = (mid : Cluster) × Goes now a mid × (b ≡ with_answered node (connected node mid))
 Knows now a (Some (Led partition node)) b = Goes now a b × (node ≡ told_leader (leader_of partition b))
 Knows now a (Some (Dropped node)) b = (mid : Cluster) × Goes now a mid × Loses node now mid b
 Knows now a (Some Ended) b = ⊥

@@ -30,8 +30,9 @@ const NOBODY: u32 = u32::MAX;
 /// Makes and keeps a producer's connections to the nodes of a cluster.
 ///
 /// A connection is made only while something is not told, or no chart is known. What can't be made, or is lost, is tried again, for
-/// ever. Metadata is asked for over a connection of its own, which is made for it and dropped behind the answer; it is asked for again
-/// where a reply tells of no record, since a leader may have moved then. A node's failures are forgotten once it has answered it.
+/// ever. Metadata is asked for over a connection of its own, which is made for it and dropped behind the answer, or once the engine's
+/// connection to that node is lost or given up; it is asked for again where a reply tells of no record, since a leader may have moved
+/// then. A node's failures are forgotten once the engine has a connection to it, and once it has answered Metadata.
 #[derive(Drop)]
 pub struct Network<'r, R, D, K, S> {
     alloc: Global,
@@ -121,7 +122,7 @@ impl<'r, R: Clock, K: Drop, S: Stream, D: Dial<Dialing = K, Stream = S>> Network
         self.question = self.nodes.ask(node, now);
     }
 
-    /// Goes on with the question for Metadata, where there is one.
+    /// Goes on with the question for Metadata, where there is one. It is dropped once the connection to its node is not open any more.
     fn poll_question(&mut self, cx: &mut Context<'_>, now: u64) -> Poll<News<S>>
         ensures pending { result ≡ Poll.Pending }
         ensures goes_on { GoesOn now self.old.nodes.cluster self.new.nodes.cluster self.old.told self.new.told self.old.question self.new.question }
@@ -134,6 +135,9 @@ impl<'r, R: Clock, K: Drop, S: Stream, D: Dial<Dialing = K, Stream = S>> Network
         let Some(mut question) = self.question.take() else {
             return Poll::Pending;
         };
+        if !self.nodes.cluster.is_open(question.node) {
+            return Poll::Pending;
+        }
         match question.poll_chart(self.alloc, &self.names, &mut self.nodes.dial, cx) {
             Ok(Poll::Pending) => {
                 self.question = Some(question);

@@ -2,8 +2,7 @@
 
 ghost use Rattle.std.specs.Prelude.{◌≡◌, ◌<◌, ℕ, IfSome, None, false, length, true};
 ghost use Rattle.kp_cluster.specs.Metadata.{heeded, may_ask};
-ghost use Rattle.kp_core.specs.Busy.{busy_in};
-ghost use Rattle.kp_network.specs.News.{Asks, Hears as HearsAnswer, all_wanted, heeding_replies};
+ghost use Rattle.kp_network.specs.News.{Asks, Hears as HearsAnswer, all_wanted, has_work_in, heeding_replies};
 
 use crate::nodes::Nodes;
 use crate::question::{Question, Stage};
@@ -15,13 +14,13 @@ use kp_engine::Moves;
 use kp_hello::{Chart, HandshakeFault};
 
 impl<K: Drop, S: Stream, D: Dial<Dialing = K, Stream = S>> Nodes<D, K> {
-    /// The time is this. Connections are wanted to the leaders of what is busy.
+    /// The time is this. Connections are wanted to the nodes for which there is work.
     pub(crate) fn heed(&mut self, core: &Core, now: u64)
-        ensures cluster { self.new.cluster ≡ all_wanted (busy_in core.now.partitions) (heeded now self.old.cluster) }
+        ensures cluster { self.new.cluster ≡ all_wanted (has_work_in core.now) (length (heeded now self.old.cluster).slots) (heeded now self.old.cluster) }
         ensures links { self.new.links.items ≡ self.old.links.items }
     {
         self.cluster.heed(now);
-        want_all(&mut self.cluster, core.busy());
+        want_all(&mut self.cluster, core);
     }
 
     /// Metadata is wanted where replies told of no record: a leader may have moved.
@@ -82,12 +81,12 @@ impl<K: Drop, S: Stream, D: Dial<Dialing = K, Stream = S>> Nodes<D, K> {
     }
 }
 
-/// The connections to the nodes that lead these partitions are wanted.
-fn want_all(cluster: &mut Cluster, partitions: &[u32])
-    ensures { cluster.new ≡ all_wanted partitions.now cluster.old }
+/// The connections to the nodes for which there is work are wanted.
+fn want_all(cluster: &mut Cluster, core: &Core)
+    ensures { cluster.new ≡ all_wanted (has_work_in core.now) (length cluster.old.slots) cluster.old }
 {
-    for partition in partitions {
-        if let Some(node) = cluster.leader(*partition) {
+    for node in 0..cluster.nodes() as u32 {
+        if core.has_work(node) {
             cluster.want(node);
         }
     }

@@ -14,7 +14,8 @@ use kp_connection::Stream;
 use kp_dial::Dial;
 
 impl<K: Drop, S: Stream, D: Dial<Dialing = K, Stream = S>> Nodes<D, K> {
-    /// Goes on with the connections that are being made: the first that is made is for the engine.
+    /// Goes on with the connections that are being made: the first that is made is for the engine, and its node's failures are
+    /// forgotten.
     pub(crate) fn poll_made(&mut self, cx: &mut Context<'_>, now: u64) -> Poll<(u32, S)>
         ensures makes { Makes now self.old self.new (ready_of result) }
         ensures registered { OnPending result ((s : ℕ) → waited_by_each D.waits self.new.links.items s → Hears cx.new s) }
@@ -32,6 +33,7 @@ impl<K: Drop, S: Stream, D: Dial<Dialing = K, Stream = S>> Nodes<D, K> {
                     Some(stream) => {
                         self.links[place] = Link::Made;
                         self.cluster.connected(node);
+                        self.cluster.answered(node);
                         Poll::Ready((node, stream))
                     }
                 }

@@ -1,9 +1,8 @@
 use Rattle.std.proofs.Common.{◌≡◌, ◌⊎◌, ◌+◌, ℕ, Some, None, sym, ap, subst, ◌∙◌}
 use Rattle.futures.specs.declared.task.Poll.{Poll}
-use Rattle.kp_core.specs.Busy.{busy_in}
 use Rattle.kp_network.specs.Network.{may_connect, moment_of}
 use Rattle.kp_network.specs.Links.{link_at}
-use Rattle.kp_network.specs.News.{IsToldNext, Tells, ready_of}
+use Rattle.kp_network.specs.News.{IsToldNext, Tells, has_work_in, ready_of}
 use Rattle.kp_network.specs.declared.network.Network.{Network}
 use Rattle.kp_network.specs.declared.nodes.Nodes.{Nodes}
 use Rattle.kp_network.proofs.NewsLemmas.{acts_if_tells, goes_asking_on, goes_renewing, led_told, told_on, makes_tells, tells_behind, tells_heeded, tells_led, tells_nothing}
@@ -21,7 +20,7 @@ returns-in-Some-clause-tells g c =
     let n = c.next_led.new.self.nodes in
     let same = ap (λ (m : Network _ _ _ _). m.nodes) c.next_led.ensures.only in
     let shown = c.read-now.ensures.shown ∙ sym (ap (λ (m : Network _ _ _ _). m.clock.shown) c.next_led.ensures.only) in
-    let heeded : Tells {S = S} now a None n = tells_heeded now (busy_in c.args.core.now.partitions) a h n c.heed.ensures.cluster c.heed.ensures.links same in
+    let heeded : Tells {S = S} now a None n = tells_heeded now (has_work_in c.args.core.now) _ a h n c.heed.ensures.cluster c.heed.ensures.links same in
     let led = led_told _ c.args.self.now.told c.in-Some.partition c.in-Some.node h.cluster (sym c.in-Some.is ∙ c.next_led.ensures.led) in
     subst (λ (m : ℕ). Tells m a (Some (Led c.in-Some.partition c.in-Some.node)) n) shown
     (tells_behind now a n n (Some (Led c.in-Some.partition c.in-Some.node)) heeded
@@ -37,7 +36,7 @@ returns-in-Ready-clause-tells g c =
     let b = c.poll_action.new.self.nodes in
     let same = ap (λ (m : Network _ _ _ _). m.nodes) c.next_led.ensures.only in
     let shown = c.read-now.ensures.shown ∙ sym (ap (λ (p : Passed). p.shown) c.poll_action.ensures.clock ∙ ap (λ (m : Network _ _ _ _). m.clock.shown) c.next_led.ensures.only) in
-    let heeded : Tells {S = S} now a None n = tells_heeded now (busy_in c.args.core.now.partitions) a h n c.heed.ensures.cluster c.heed.ensures.links same in
+    let heeded : Tells {S = S} now a None n = tells_heeded now (has_work_in c.args.core.now) _ a h n c.heed.ensures.cluster c.heed.ensures.links same in
     subst (λ (m : ℕ). Tells m a (Some (Dropped c.in-Ready.node)) b) shown
     (tells_behind now a n b (Some (Dropped c.in-Ready.node)) heeded (acts_if_tells now (may_connect c.args.core.now n.cluster) n b (Some c.in-Ready.node) c.in-Ready.ensures.acts))
 
@@ -52,7 +51,7 @@ returns-in-Ready-poll_made-clause-tells g c =
     let d = c.poll_made.new.self in
     let same = ap (λ (m : Network _ _ _ _). m.nodes) c.next_led.ensures.only in
     let shown = c.read-now.ensures.shown ∙ sym (ap (λ (p : Passed). p.shown) c.poll_action.ensures.clock ∙ ap (λ (m : Network _ _ _ _). m.clock.shown) c.next_led.ensures.only) in
-    let heeded : Tells {S = S} now a None n = tells_heeded now (busy_in c.args.core.now.partitions) a h n c.heed.ensures.cluster c.heed.ensures.links same in
+    let heeded : Tells {S = S} now a None n = tells_heeded now (has_work_in c.args.core.now) _ a h n c.heed.ensures.cluster c.heed.ensures.links same in
     let acted : Tells {S = S} now n None b = acts_if_tells now (may_connect c.args.core.now n.cluster) n b None c.in_default-poll_action.ensures.acts in
     subst (λ (m : ℕ). Tells m a (Some (Connected c.in-Ready-poll_made.node c.in-Ready-poll_made.stream)) d) shown
     (tells_behind now a n d (Some (Connected c.in-Ready-poll_made.node c.in-Ready-poll_made.stream)) heeded (tells_behind now n b d (Some (Connected c.in-Ready-poll_made.node c.in-Ready-poll_made.stream)) acted
@@ -72,7 +71,7 @@ returns-clause-tells g c =
     let same = ap (λ (m : Network _ _ _ _). m.nodes) c.next_led.ensures.only in
     let shown = c.read-now.ensures.shown ∙ sym (ap (λ (p : Passed). p.shown) (c.poll_question.ensures.clock ∙ c.renew_question.ensures.clock ∙ c.poll_action.ensures.clock)
     ∙ ap (λ (m : Network _ _ _ _). m.clock.shown) c.next_led.ensures.only) in
-    let heeded : Tells {S = S} now a None n = tells_heeded now (busy_in c.args.core.now.partitions) a h n c.heed.ensures.cluster c.heed.ensures.links same in
+    let heeded : Tells {S = S} now a None n = tells_heeded now (has_work_in c.args.core.now) _ a h n c.heed.ensures.cluster c.heed.ensures.links same in
     let acted : Tells {S = S} now n None b = acts_if_tells now (may_connect c.args.core.now n.cluster) n b None c.in_default-poll_action.ensures.acts in
     let made : Tells {S = S} now b None d = makes_tells now b d None c.in_default-poll_made.ensures.makes in
     let renewed : Tells {S = S} now d None e = tells_nothing now d e (goes_renewing now d.cluster e.cluster c.poll_action.new.self.question c.renew_question.new.self.question c.renew_question.ensures.renews) (λ k. ap (link_at k) c.renew_question.ensures.links) in

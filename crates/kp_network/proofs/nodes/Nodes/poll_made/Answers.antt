@@ -1,5 +1,6 @@
-use Rattle.std.proofs.Common.{ℕ, sym, subst, refl}
+use Rattle.std.proofs.Common.{ℕ, ap, sym, subst, refl, ◌∙◌}
 use Rattle.futures.specs.declared.task.Poll.{Poll}
+use Rattle.kp_cluster.specs.Cluster.{with_answered}
 use Rattle.kp_network.specs.News.{Makes, ready_of}
 use Rattle.kp_network.proofs.LinkLemmas.{link_put, others_stay}
 use Rattle.kp_network.specs.declared.link.Link.TheVariants.{Made}
@@ -16,5 +17,6 @@ returns-in-None-clause-makes g c =
 pub returns-in-Some-clause-makes : goal.returns-in-Some-clause-makes
 returns-in-Some-clause-makes g c =
     let links = c.poll_links.new.links.items in
-    Makes.made links c.in-Ready.place c.in-Some.stream c.poll_links.ensures.still c.in-Ready.ensures.dialed (others_stay links c.in-Ready.place Made) c.connected.ensures
+    Makes.made links c.in-Ready.place c.in-Some.stream c.poll_links.ensures.still c.in-Ready.ensures.dialed (others_stay links c.in-Ready.place Made)
+    (c.answered.ensures ∙ ap (with_answered c.in-Ready.place) c.connected.ensures)
     (link_put links c.in-Ready.place Made c.in-Ready.ensures.there)

@@ -1,6 +1,6 @@
-use Rattle.std.proofs.Common.{◌≡◌, take}
-use Rattle.kp_network.specs.News.{all_wanted}
+use Rattle.std.proofs.Common.{◌≡◌}
+use Rattle.kp_network.specs.News.{all_wanted, has_work_in}
 use Rattle.kp_network.proofs.nodes.asking.want_all.Given as goal
 
-abbrev pub invariant-loop-partition : goal.invariant-loop-partition
-invariant-loop-partition l = l.cluster ≡ all_wanted (take l.partition-index l.partitions) l.initial.cluster
+abbrev pub invariant-loop-node : goal.invariant-loop-node
+invariant-loop-node l = l.cluster ≡ all_wanted (has_work_in l.core) l.node l.initial.cluster
