@@ -11,7 +11,7 @@ SIZE = 100  # How many bytes a value has where they are counted.
 
 
 def block_of(address, steps, **settings):
-    """The lines of a producer: its broker, its settings (`linger_ms` is linger.ms) and the steps of its senders."""
+    """The lines of a producer: its broker or its cluster, its settings (`linger_ms` is linger.ms) and the steps of its senders."""
     words = [f"{name.replace('_', '.')}={value}" for name, value in settings.items()]
     return "\n".join([" ".join([address, *words]), *steps])
 
@@ -54,6 +54,7 @@ class Report:
     """What a sender was told of a record, and when that record's send began and the report was heard, in milliseconds."""
 
     sender: int
+    partition: int
     number: int
     outcome: str
     sent: float
@@ -83,13 +84,13 @@ class Played:
         """What the senders were told, in the order in which it came."""
         begun, reports = {}, []
         for it in self.told:
-            sent = re.fullmatch(r"Ok\(Ticket \{ partition: 0, number: (\d+) \}\)", it.came)
-            heard = re.fullmatch(r"Some\(Report \{ sender: (\d+), partition: 0, number: (\d+), outcome: (.*) \}\)", it.came)
+            sent = re.fullmatch(r"Ok\(Ticket \{ partition: (\d+), number: (\d+) \}\)", it.came)
+            heard = re.fullmatch(r"Some\(Report \{ sender: (\d+), partition: (\d+), number: (\d+), outcome: (.*) \}\)", it.came)
             if it.what == "sent" and sent:
-                begun[it.sender, int(sent[1])] = it.began
+                begun[it.sender, int(sent[1]), int(sent[2])] = it.began
             if it.what == "heard" and heard:
-                sender, number = int(heard[1]), int(heard[2])
-                reports.append(Report(sender, number, heard[3], begun[sender, number], it.ended))
+                whose = tuple(int(heard[place]) for place in (1, 2, 3))
+                reports.append(Report(*whose, heard[4], begun[whose], it.ended))
         return reports
 
 

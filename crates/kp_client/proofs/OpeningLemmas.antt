@@ -1,11 +1,20 @@
--- The handles of senders, one after the other.
+-- The handles of senders, one after the other, and the brokers of a service.
 use Rattle.std.proofs.Common.{◌≡◌, ◌++◌, ◌∷◌, [], List, map, ap, ◌∙◌, refl, sym, subst, arith, ℕ, zero, suc}
-use Rattle.std.specs.Prelude.{All, slice_index_or}
+use Rattle.std.specs.Prelude.{All, IfOk, Result, Ok, Err, slice_index_or}
+use Rattle.std.specs.declared.net.socket_addr.SocketAddr.{SocketAddr}
 use Rattle.std.proofs.lemmas.List.{length-map}
 use Rattle.kp_lanes.specs.Sender.{sender_number}
 use Rattle.kp_lanes.specs.declared.sender.Sender.{Sender}
+use Rattle.kp_settings.specs.declared.fault.OpenFault.{OpenFault}
+use Rattle.kp_settings.specs.declared.settings.Settings.{Settings}
+use Rattle.kp_client.specs.Brokers.{IsAt}
+use Rattle.kp_client.specs.Opening.{Begins, IsOpen}
 use Rattle.kp_client.specs.Producer.{lane_of}
+use Rattle.kp_client.specs.declared.brokers.Brokers.{Brokers}
+use Rattle.kp_client.specs.declared.brokers.Brokers.TheVariants.{Cluster, One}
+use Rattle.kp_client.specs.declared.opening.Opened.{Opened}
 use Rattle.kp_client.specs.declared.producer.Producer.{Producer}
+use Rattle.kp_client.specs.declared.service.Service.{Service}
 
 one_more : (ps : List Producer) (p : Producer) (rest : List Sender)
     → map lane_of (ps ++ p ∷ []) ++ rest ≡ map lane_of ps ++ (lane_of p ∷ rest)
@@ -42,3 +51,33 @@ numbers_of_lanes ps ss is = mapped ps ∙ ap (λ (xs : List Sender). map sender_
     mapped : (qs : List Producer) → map (λ p. sender_number (lane_of p)) qs ≡ map sender_number (map lane_of qs)
     mapped [] = refl
     mapped (q ∷ qs) = ap (λ (ns : List ℕ). sender_number (lane_of q) ∷ ns) (mapped qs)
+
+-- ---- brokers
+
+module _ (P Q : Brokers → Type 0) (implies : (b : Brokers) → P b → Q b) where
+  pub begun_over : (s : Settings) (service : Service) → Begins P s service → Begins Q s service
+  begun_over s service h = record { greeting = h.greeting; asked = h.asked; core = h.core; brokers = implies _ h.brokers }
+
+  open_over : (s : Settings) (opened : Opened) → IsOpen P s opened → IsOpen Q s opened
+  open_over s opened h = record {
+    service = begun_over s opened.service h.service;
+    numbers = h.numbers;
+    fresh = h.fresh;
+    lanes = h.lanes;
+    senders = h.senders;
+    gate = h.gate;
+  }
+
+  pub opened_over : (s : Settings) (result : Result Opened OpenFault) → IfOk result (IsOpen P s) → IfOk result (IsOpen Q s)
+  opened_over s (Ok opened) h = open_over s opened h
+  opened_over s (Err fault) h = tt
+
+-- Settings that differ in how many senders there are say the same of a broker.
+pub at_single : (address : SocketAddr) (s : Settings) (b : Brokers) → IsAt address (record s { senders = 1 }) b → IsAt address s b
+at_single address s (One way again) h = (record { there = h.0.there; patience = h.0.patience }, h.1)
+at_single address s (Cluster cluster names) h = h
+
+-- what holds of the brokers that it was opened over holds of its
+pub opened_with : (Q : Brokers → Type 0) (brokers : Brokers) → Q brokers → (s : Settings) (result : Result Opened OpenFault)
+    → IfOk result (IsOpen (λ its. its ≡ brokers) s) → IfOk result (IsOpen Q s)
+opened_with Q brokers holds = opened_over (λ its. its ≡ brokers) Q (λ its is. subst Q (sym is) holds)

@@ -1,19 +1,17 @@
 -- An engine is run to its end, through outages.
-use Rattle.std.proofs.Common.{◌≡◌, List, [], ◌∷◌, ◌++◌, refl, sym, ap, ◌∙◌, subst, inl, inr, ⊎_elim, append_assoc}
+use Rattle.std.proofs.Common.{◌≡◌, List, [], ◌∷◌, ◌++◌, refl, sym, ap, ◌∙◌, subst, inl, inr, ⊎_elim}
 use Rattle.std.specs.Prelude.{ℕ, Bool, false, not, filter, Option, Some, None, IfSome, Result, Ok, Err, IfOk}
 use Rattle.futures.specs.declared.task.Poll.{Poll}
 use Rattle.futures.specs.declared.task.Poll.TheVariants.{Ready, Pending}
 use Rattle.kp_connection.specs.Wire.{Told}
-use Rattle.kp_engine.specs.Engine.{IsNew, fresh_wire}
+use Rattle.kp_engine.specs.Engine.{IsNew}
 use Rattle.kp_engine.specs.Lines.{goes_to, is_given_up, stop_at}
-use Rattle.kp_engine.specs.Made.{AreCut, IsCut, WasPolled, anything}
+use Rattle.kp_engine.specs.Made.{AreCut, IsCut, anything}
 use Rattle.kp_engine.specs.Opening.{MayTurn}
 use Rattle.kp_engine.specs.Polls.{IsDone}
 use Rattle.kp_engine.specs.Serving.{HasServed}
 use Rattle.kp_engine.specs.declared.cluster.ClusterEngine.{ClusterEngine}
 use Rattle.kp_engine.specs.declared.engine.Line.{Line}
-use Rattle.kp_engine.specs.declared.engine.Line.TheVariants.{Open}
-use Rattle.kp_engine.specs.declared.exchange.Exchange.{Exchange}
 use Rattle.kp_engine.specs.declared.node_line.NodeLine.{NodeLine}
 use Rattle.kp_engine.specs.declared.stop.Cause.{Cause}
 use Rattle.kp_engine.specs.declared.stop.Cause.TheVariants.{Io}
@@ -37,10 +35,8 @@ use Rattle.kp_running.specs.declared.over.Over.{Over}
 use Rattle.kp_running.specs.declared.over.Over.TheVariants as kinds
 use Rattle.kp_running.proofs.FleetLemmas.{once_left, told}
 use Rattle.kp_settings.specs.declared.fault.ServiceFault.{ServiceFault}
-use Rattle.kp_settings.specs.declared.policy.Policy.{Policy}
 use Rattle.kp_client.specs.Ends.{EndsAs, HasEnded, MayEnd, WasServed, WasUnserved}
 use Rattle.kp_client.specs.Left.{parts_in}
-use Rattle.kp_client.specs.Policy.{limit_of}
 use Rattle.kp_client.specs.Serving.{ending_for, GivesUpFor, GoesOn, IsServing, LostFor, Serves}
 use Rattle.kp_client.specs.declared.left.Ended.{Ended}
 use Rattle.kp_client.specs.declared.left.Ending.TheVariants.{Done}
@@ -195,11 +191,11 @@ module _ {S C K : Type 0} where
   ended_anew core intake fleet (Ok ended) may is_new none why h = h core intake (new_serves core intake fleet may is_new none why)
   ended_anew core intake fleet (Err fault) may is_new none why h = tt
 
-pub may_end : (over : Over) (policy : Policy) (made : ℕ) → IfGivenUp (Ready over) (IsSpent (limit_of policy) made) → MayEnd policy (ending_for over) made
-may_end kinds.Done policy made h = tt
-may_end (kinds.GaveUp cause) policy made h = h
-may_end kinds.Spent policy made h = tt
-may_end kinds.OutOfMemory policy made h = tt
+pub may_end : (over : Over) (limit : Option ℕ) (made : ℕ) → IfGivenUp (Ready over) (IsSpent limit made) → MayEnd limit (ending_for over) made
+may_end kinds.Done limit made h = tt
+may_end (kinds.GaveUp cause) limit made h = h
+may_end kinds.Spent limit made h = tt
+may_end kinds.OutOfMemory limit made h = tt
 
 -- The lanes stay.
 pub same_lanes : (core : Core) (intake : Intake) (ended : Ended) → HasEnded core intake ended → lanes_of (parts_in ended).intake ≡ lanes_of intake
@@ -219,6 +215,6 @@ still_lanes core intake (Err fault) h = tt
 pub unserved_ended : (core : Core) (intake : Intake) (ended : Ended) → WasUnserved core intake [] ended → HasEnded core intake ended
 unserved_ended core intake ended h = record { calls = []; how = inr h }
 
-pub unserved_back : (core k : Core) (intake t : Intake) (ended : Ended) → WasUnserved k t [] ended → k ≡ core → t ≡ intake → HasEnded core intake ended
-unserved_back core k intake t ended h same_core same_intake =
-    unserved_ended core intake ended (subst (λ (s : Core). WasUnserved s intake [] ended) same_core (subst (λ (u : Intake). WasUnserved k u [] ended) same_intake h))
+pub still_ended : (core k : Core) (intake t : Intake) (ended : Ended) → HasEnded k t ended → k ≡ core → t ≡ intake → HasEnded core intake ended
+still_ended core k intake t ended h same_core same_intake =
+    subst (λ (s : Core). HasEnded s intake ended) same_core (subst (λ (u : Intake). HasEnded k u ended) same_intake h)

@@ -1,12 +1,12 @@
 -- A producer with one sender.
-use Rattle.std.proofs.Common.{◌≡◌, ℕ, ◌+◌, List, [], ◌∷◌, ◌++◌, length, length-append, map, refl, sym, ap, ◌∙◌, subst, arith}
+use Rattle.std.proofs.Common.{◌≡◌, ℕ, List, [], ◌∷◌, ◌++◌, length, length-append, refl, sym, ap, ◌∙◌, subst, arith}
 use Rattle.std.specs.Prelude.{All, slice_index_or}
 use Rattle.std.proofs.lemmas.List.{length-map}
 use Rattle.std.proofs.lemmas.List.Elements.{All-nil, All-cons}
 use Rattle.kp_engine.specs.declared.parts.Parts.{Parts}
-use Rattle.kp_lanes.specs.Intake.{lanes_of, numbers_below}
+use Rattle.kp_lanes.specs.Intake.{lanes_of}
 use Rattle.kp_lanes.specs.Lane.{LaneId}
-use Rattle.kp_lanes.specs.Sender.{finished_id, finished_number, IsSenderOf}
+use Rattle.kp_lanes.specs.Sender.{finished_id, finished_number}
 use Rattle.kp_lanes.specs.Settling.{EachOnce, IsOf, SameFinished}
 use Rattle.kp_lanes.specs.declared.fault.SettleFault.{SettleFault}
 use Rattle.kp_lanes.specs.declared.fault.SettleFault.TheVariants.{Missing, OutOfMemory}

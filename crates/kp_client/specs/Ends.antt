@@ -1,5 +1,5 @@
 -- To what a service of a core and of lanes has come: all calls on the core are known.
-use Rattle.std.specs.Prelude.{◌≡◌, ◌≢◌, ◌⊎◌, ℕ, true, All, List, [], ◌∷◌, ◌++◌}
+use Rattle.std.specs.Prelude.{◌≡◌, ◌≢◌, ◌⊎◌, ℕ, true, All, List, Option, [], ◌∷◌, ◌++◌}
 use Rattle.kp_core.specs.Spent.{can_only_end}
 use Rattle.kp_engine.specs.Made.{WasEnded, WasPolled}
 use Rattle.kp_engine.specs.Opening.{MayTurn}
@@ -14,9 +14,7 @@ use Rattle.kp_rules.specs.Calls.{Call, End}
 use Rattle.kp_rules.specs.Records.{Core}
 use Rattle.kp_running.specs.Over.{IsSpent}
 use Rattle.kp_running.specs.declared.fleet.Fleet.{Fleet}
-use Rattle.kp_settings.specs.declared.policy.Policy.{Policy}
 use Rattle.kp_client.specs.Left.{ending_of, new_connections_of, parts_in}
-use Rattle.kp_client.specs.Policy.{limit_of}
 use Rattle.kp_client.specs.Serving.{LostFor, Serves}
 use Rattle.kp_client.specs.declared.left.Ended.{Ended}
 use Rattle.kp_client.specs.declared.left.Ending.{Ending}
@@ -62,14 +60,14 @@ pub record WasUnserved (core : Core) (intake : Intake) (calls : List Call) (ende
   pub looks : Looks intake (parts_in ended).intake
   pub not_done : ending_of ended ≢ Done
 
--- To give up, as many new connections have to be made as the policy allows.
-abbrev pub MayEnd : Policy → Ending → ℕ → Type 0
-MayEnd policy (GaveUp cause) made = IsSpent (limit_of policy) made
-MayEnd policy ending made = Unit {0}
+-- To give up, as many new connections have to be made as may be. Where there is no limit, it never does.
+abbrev pub MayEnd : Option ℕ → Ending → ℕ → Type 0
+MayEnd limit (GaveUp cause) made = IsSpent limit made
+MayEnd limit ending made = Unit {0}
 
 -- It gave up only then.
-abbrev pub GaveUpLast : Policy → Ended → Type 0
-GaveUpLast policy ended = MayEnd policy (ending_of ended) (new_connections_of ended)
+abbrev pub GaveUpLast : Option ℕ → Ended → Type 0
+GaveUpLast limit ended = MayEnd limit (ending_of ended) (new_connections_of ended)
 
 pub record HasEnded (core : Core) (intake : Intake) (ended : Ended) : Type 0 where
   pub calls : List Call

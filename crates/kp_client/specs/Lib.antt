@@ -1,4 +1,5 @@
 pub mod Accounts
+pub mod Brokers
 pub mod Closing
 pub mod Connecting
 pub mod Ends

@@ -1,7 +1,5 @@
 -- What contracts see of a producer that was opened.
-use Rattle.std.specs.Prelude.{◌≡◌, ℕ, ◌*◌, List, [], ◌∷◌, Ok, All, IfSome, length, map}
-use Rattle.std.specs.Duration.{as_nanos}
-use Rattle.std.specs.declared.net.socket_addr.SocketAddr.{SocketAddr}
+use Rattle.std.specs.Prelude.{◌≡◌, ℕ, List, [], ◌∷◌, Ok, All, IfSome, length, map}
 use Rattle.kp_hello.specs.Hello.{metadata_given, producer_id_given}
 use Rattle.kp_hello.specs.declared.hello.Hello.{Hello}
 use Rattle.kp_lanes.specs.Closer.{closer_gate}
@@ -14,11 +12,10 @@ use Rattle.kp_rules.specs.declared.names.Names.{Names}
 use Rattle.kp_settings.specs.Settings.{limits_of}
 use Rattle.kp_settings.specs.declared.settings.Settings.{Settings}
 use Rattle.kp_client.specs.Closing.{lanes_closer}
-use Rattle.kp_client.specs.Policy.{none_made}
 use Rattle.kp_client.specs.Producer.{lane_of}
-use Rattle.kp_client.specs.Service.{again_of, core_of, hello_of, intake_of, partitions_of, way_of}
+use Rattle.kp_client.specs.Service.{brokers_of, core_of, hello_of, intake_of, partitions_of}
+use Rattle.kp_client.specs.declared.brokers.Brokers.{Brokers}
 use Rattle.kp_client.specs.declared.closer.Closer.{Closer}
-use Rattle.kp_client.specs.declared.connecting.Way.{Way}
 use Rattle.kp_client.specs.declared.opening.Opened.{Opened}
 use Rattle.kp_client.specs.declared.producer.Producer.{Producer}
 use Rattle.kp_client.specs.declared.service.Service.{Service}
@@ -27,11 +24,6 @@ use Rattle.kp_client.specs.declared.service.Service.{Service}
 abbrev pub first_core : Settings → Hello → Core
 first_core s hello =
     opened s.audits (new_core s.config s.names hello.partitions s.senders hello.producer_id hello.next_correlation)
-
--- It goes to this address, and is as patient as the settings say.
-pub record IsWay (address : SocketAddr) (s : Settings) (way : Way) : Type 0 where
-  pub there : way.address ≡ address
-  pub patience : as_nanos way.patience ≡ s.config.request_timeout_ms * 1_000_000
 
 -- The contents of two answers give it: the first one names so many partitions of the topic, and the second one the producer
 -- id. Two correlation ids are spent.
@@ -42,17 +34,17 @@ pub record IsGreeting (names : Names) (hello : Hello) : Type 0 where
   pub id : producer_id_given producer_id ≡ Ok hello.producer_id
   pub correlation : hello.next_correlation ≡ 2
 
--- It begins as the settings have it. The topic has the number of partitions that was asked for, where one was.
-pub record Begins (address : SocketAddr) (s : Settings) (service : Service) : Type 0 where
+-- It begins as the settings have it, over brokers of which this holds. The topic has the number of partitions that was asked for,
+-- where one was.
+pub record Begins (Its : Brokers → Type 0) (s : Settings) (service : Service) : Type 0 where
   pub greeting : IsGreeting s.names (hello_of service)
   pub asked : IfSome s.partitions (λ n. partitions_of service ≡ n)
   pub core : core_of service ≡ first_core s (hello_of service)
-  pub way : IsWay address s (way_of service)
-  pub again : again_of service ≡ none_made s.policy s.config.retry_backoff_ms
+  pub brokers : Its (brokers_of service)
 
 -- The handles are those of new senders, numbered from 0, at the service's lanes, and the closer shuts these lanes' gate.
-pub record IsOpen (address : SocketAddr) (s : Settings) (opened : Opened) : Type 0 where
-  pub service : Begins address s opened.service
+pub record IsOpen (Its : Brokers → Type 0) (s : Settings) (opened : Opened) : Type 0 where
+  pub service : Begins Its s opened.service
   pub numbers : map (λ p. sender_number (lane_of p)) opened.producers.items ≡ numbers_below s.senders
   pub fresh : All (λ p. IsFresh s.capacity (limits_of (hello_of opened.service) s) (lane_of p)) opened.producers.items
   pub lanes : All (λ p. IsSenderOf (lanes_of (intake_of opened.service)) (lane_of p)) opened.producers.items
@@ -60,8 +52,8 @@ pub record IsOpen (address : SocketAddr) (s : Settings) (opened : Opened) : Type
   pub gate : closer_gate (lanes_closer opened.closer) ≡ intake_gate (intake_of opened.service)
 
 -- The handle is that of a new sender, the only one, at the service's only lane, and the closer shuts this lane's gate.
-pub record IsOpenSingle (address : SocketAddr) (s : Settings) (producer : Producer) (closer : Closer) (service : Service) : Type 0 where
-  pub begins : Begins address (record s { senders = 1 }) service
+pub record IsOpenSingle (Its : Brokers → Type 0) (s : Settings) (producer : Producer) (closer : Closer) (service : Service) : Type 0 where
+  pub begins : Begins Its (record s { senders = 1 }) service
   pub number : sender_number (lane_of producer) ≡ 0
   pub fresh : IsFresh s.capacity (limits_of (hello_of service) s) (lane_of producer)
   pub lane : lanes_of (intake_of service) ≡ sender_id (lane_of producer) ∷ []

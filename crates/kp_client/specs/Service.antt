@@ -4,8 +4,7 @@ use Rattle.kp_hello.specs.declared.hello.Hello.{Hello}
 use Rattle.kp_lanes.specs.Sender.{sender_number}
 use Rattle.kp_lanes.specs.declared.sender.Sender.{Sender}
 use Rattle.kp_running.specs.Bells.{sender_bells}
-use Rattle.kp_client.specs.declared.again.Again.{Again}
-use Rattle.kp_client.specs.declared.connecting.Way.{Way}
+use Rattle.kp_client.specs.declared.brokers.Brokers.{Brokers}
 use Rattle.kp_client.specs.declared.shared.Shared.{Shared}
 use Rattle.kp_lanes.specs.declared.intake.Intake.{Intake}
 use Rattle.kp_rules.specs.Records.{Core}
@@ -28,12 +27,8 @@ partitions_of service = (hello_of service).partitions
 abbrev pub audits_of : Service → Bool
 audits_of service = service.audits
 
-abbrev pub way_of : Service → Way
-way_of service = service.way
-
--- the new connections that it made
-abbrev pub again_of : Service → Again
-again_of service = service.again
+abbrev pub brokers_of : Service → Brokers
+brokers_of service = service.brokers
 
 -- one of the bells is the sender's
 abbrev pub HasBell : Shared → Sender → Type 0

@@ -9,7 +9,6 @@ ghost use Rattle.kp_client.specs.Policy.{limit_of, made_after_reply};
 
 use crate::again::Again;
 use crate::connecting::Way;
-use crate::shared::Shared;
 use futures::Future;
 use futures::task::{Context, Poll};
 use kp_connection::Plain;
@@ -45,7 +44,6 @@ pub(crate) struct Connector<'a, R> {
     handle: Handle,
     way: Way,
     again: Again,
-    shared: &'a Shared,
     /// The first try was begun.
     begun: bool,
     /// When the last try ended, if one did.
@@ -54,13 +52,7 @@ pub(crate) struct Connector<'a, R> {
 }
 
 impl<'a, R: Net + Clock> Connector<'a, R> {
-    pub(crate) fn new(
-        rt: &'a R,
-        handle: Handle,
-        way: Way,
-        again: Again,
-        shared: &'a Shared,
-    ) -> Connector<'a, R>
+    pub(crate) fn new(rt: &'a R, handle: Handle, way: Way, again: Again) -> Connector<'a, R>
         ensures { result.again ≡ again }
     {
         Connector {
@@ -68,7 +60,6 @@ impl<'a, R: Net + Clock> Connector<'a, R> {
             handle,
             way,
             again,
-            shared,
             begun: false,
             tried: None,
             stage: Stage::Idle,
@@ -178,7 +169,6 @@ impl<R: Net + Clock> Keeping for Connector<'_, R> {
                         return cx.yield_now();
                     };
                     let _set = inner.set_nodelay(true);
-                    self.shared.counts.connections.add(1);
                     self.stage = Stage::Made;
                     Poll::Ready(News::Connected(NODE, Plain { inner }))
                 }

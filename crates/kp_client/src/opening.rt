@@ -1,19 +1,26 @@
 //! Opening a producer.
 
-ghost use Rattle.std.specs.Prelude.{◌≡◌, ◌++◌, ◌∷◌, [], Ok, Err, OnOk, IfOk, IfErr, IfSome, All, length, map};
+ghost use Rattle.std.specs.Prelude.{◌≡◌, ◌≤◌, ◌++◌, ◌∷◌, [], Ok, Err, OnOk, IfOk, IfErr, IfSome, All, length, map};
 ghost use Rattle.std.specs.Arc.{arc_value};
 ghost use Rattle.kp_settings.specs.Faults.{IsLater, OfSettings};
 ghost use Rattle.kp_client.specs.Producer.{lane_of};
 ghost use Rattle.kp_client.specs.Service.{HasBell};
-ghost use Rattle.kp_settings.specs.Settings.{checked_settings};
+ghost use Rattle.kp_settings.specs.Settings.{checked_for_cluster, checked_settings};
+ghost use Rattle.kp_cluster.specs.declared.learning.TheConstants.{SLOT_LIMIT};
+ghost use Rattle.kp_client.specs.Brokers.{IsAt, IsOf};
 ghost use Rattle.kp_engine.specs.Opening.{MayTurn};
-ghost use Rattle.kp_client.specs.Opening.{IsGreeting, IsOpen, IsOpenSingle, IsWay};
+ghost use Rattle.kp_client.specs.Opening.{IsGreeting, IsOpen, IsOpenSingle};
 
+use crate::again::Again;
+use crate::brokers::Brokers;
 use crate::closer::Closer;
-use crate::connecting::{Way, expect_partitions, greet_until};
+use crate::connecting::Way;
+use crate::greeting::{Asked, greet_until};
 use crate::producer::Producer;
 use crate::service::Service;
 use crate::shared::Shared;
+use kp_cluster::{Address, Cluster, ClusterConfig};
+use kp_dial::SETUP_TIMEOUT_MS;
 use kp_hello::Hello;
 use kp_lanes::{Sender, open_lanes};
 use kp_settings::{OpenFault, Settings};
@@ -22,7 +29,7 @@ use std::net::{Net, SocketAddr};
 use std::random::RandomSource;
 use std::sync::{Arc, Wait};
 use std::thread::Threads;
-use std::time::{Clock, Instant};
+use std::time::{Clock, Duration, Instant};
 
 /// A producer: the handles of its senders, each for a thread of its own, what closes it, and the service that sends for
 /// all of them, on a thread of its own.
@@ -39,7 +46,7 @@ pub struct Opened {
 pub fn open<R>(rt: &R, address: SocketAddr, settings: Settings) -> Result<Opened, OpenFault>
 where
     R: Wait + Threads + Clock + RandomSource + AllocGlobal + Sync + Net,
-    ensures opened { IfOk result (IsOpen address settings) }
+    ensures opened { IfOk result (IsOpen (IsAt address settings) settings) }
 
     // A fault of the settings is looked for first, and told just where there is one.
     ensures first { IfErr (checked_settings settings) (λ fault. result ≡ Err fault) }
@@ -48,13 +55,60 @@ where
     settings.check()?;
     let alloc = rt.alloc();
     let start = Instant::now(rt)?;
-    let way = Way {
-        address,
-        patience: settings.patience(),
+    let patience = settings.patience();
+    let hello = greet_until(rt, Asked::One(address), patience, &settings, start)?;
+    let again = Again::new(settings.policy, settings.config.retry_backoff_ms);
+    let brokers = Brokers::One(Way { address, patience }, again);
+    open_known(alloc, brokers, settings, hello, start)
+}
+
+/// Opens a producer over the cluster of which a broker may be at each of these addresses (`bootstrap.servers`), as `open` does
+/// over one: the first that can be reached is asked. The service finds who leads each partition, and connects to those that there
+/// is something to send to, under the host and the port by which the cluster names them; their names are looked up each time.
+pub fn open_cluster<R>(
+    rt: &R,
+    bootstrap: Vec<Address>,
+    settings: Settings,
+) -> Result<Opened, OpenFault>
+where
+    R: Wait + Threads + Clock + RandomSource + AllocGlobal + Sync + Net,
+    requires some { 1 ≤ length bootstrap.items }
+    requires few { length bootstrap.items ≤ SLOT_LIMIT }
+    ensures opened { IfOk result (IsOpen (IsOf bootstrap.items settings) settings) }
+
+    // A fault of the settings is looked for first, and told just where there is one.
+    ensures first { IfErr (checked_for_cluster settings) (λ fault. result ≡ Err fault) }
+    ensures only { IfErr result (λ fault. OfSettings fault → checked_for_cluster settings ≡ Err fault) }
+{
+    settings.check_for_cluster()?;
+    let alloc = rt.alloc();
+    let start = Instant::now(rt)?;
+    let patience = settings
+        .patience()
+        .min(Duration::from_millis(SETUP_TIMEOUT_MS));
+    let hello = greet_until(rt, Asked::Each(&bootstrap), patience, &settings, start)?;
+    let config = ClusterConfig {
+        request_timeout_ms: settings.config.request_timeout_ms,
+        ..ClusterConfig::DEFAULT
     };
-    let hello = greet_until(rt, way, &settings, start)?;
-    expect_partitions(hello, settings.partitions)?;
-    open_known(alloc, way, settings, hello, start)
+    let names = settings.copy_names(alloc)?;
+    let cluster = Cluster::new(alloc, config, bootstrap, seed(rt))?;
+    open_known(
+        alloc,
+        Brokers::Cluster(cluster, names),
+        settings,
+        hello,
+        start,
+    )
+}
+
+/// What spreads the waits of producers that are opened at the same time; 0 where there is nothing random.
+fn seed<R: RandomSource>(rt: &R) -> u64 {
+    let mut seed = [0; 8];
+    match rt.fill_bytes(&mut seed) {
+        Ok(()) => u64::from_be_bytes(seed),
+        Err(_) => 0,
+    }
 }
 
 /// Opens a producer with one sender, whatever the settings say of senders: its handle, what closes it, and its service.
@@ -65,7 +119,7 @@ pub fn open_single<R>(
 ) -> Result<(Producer, Closer, Service), OpenFault>
 where
     R: Wait + Threads + Clock + RandomSource + AllocGlobal + Sync + Net,
-    ensures opened { IfOk result (λ r. IsOpenSingle address settings r.0 r.1 r.2) }
+    ensures opened { IfOk result (λ r. IsOpenSingle (IsAt address settings) settings r.0 r.1 r.2) }
     ensures first { IfErr (checked_settings settings) (λ fault. result ≡ Err fault) }
     ensures only { IfErr result (λ fault. OfSettings fault → checked_settings settings ≡ Err fault) }
 {
@@ -87,16 +141,15 @@ where
 /// Opens it where the broker has said hello.
 fn open_known(
     alloc: Global,
-    way: Way,
+    brokers: Brokers,
     settings: Settings,
     hello: Hello,
     start: Instant,
 ) -> Result<Opened, OpenFault>
     requires settings { checked_settings settings ≡ Ok tt }
-    requires way { IsWay way.address settings way }
     requires greeting { IsGreeting settings.names hello }
     requires asked { IfSome settings.partitions (λ n. hello.partitions ≡ n) }
-    ensures opened { IfOk result (IsOpen way.address settings) }
+    ensures opened { IfOk result (IsOpen (λ its. its ≡ brokers) settings) }
     ensures later { IfErr result IsLater }
 {
     let (senders, intake, lanes) = open_lanes(
@@ -110,7 +163,7 @@ fn open_known(
     shared.counts.connections.add(1);
     let producers = handles(alloc, senders, &shared)?;
     let closer = Closer::new(lanes, Arc::try_clone(&shared)?);
-    let service = Service::new(alloc, way, settings, hello, intake, shared)?;
+    let service = Service::new(alloc, brokers, settings, hello, intake, shared)?;
     Ok(Opened {
         producers,
         closer,

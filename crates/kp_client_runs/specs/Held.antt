@@ -1,14 +1,17 @@
 -- A producer that was opened, used and settled.
 use Rattle.std.specs.Prelude.{◌≡◌, ℕ, ◌<◌, List, length, slice_index_or}
-use Rattle.std.specs.declared.net.socket_addr.SocketAddr.{SocketAddr}
+use Rattle.kp_client.specs.Brokers.{IsAt, IsOf}
 use Rattle.kp_client.specs.Opening.{Begins}
 use Rattle.kp_client.specs.Producer.{Finishes}
+use Rattle.kp_client.specs.declared.brokers.Brokers.{Brokers}
 use Rattle.kp_client.specs.declared.left.Left.{Left}
 use Rattle.kp_client.specs.declared.producer.Producer.{Producer}
 use Rattle.kp_client.specs.declared.service.Service.{Service}
 use Rattle.kp_client_laws.specs.Over.{IsOver}
 use Rattle.kp_lanes.specs.declared.sender.Finished.{Finished}
 use Rattle.kp_settings.specs.declared.settings.Settings.{Settings}
+use Rattle.kp_client_runs.specs.declared.script.Over.{Over}
+use Rattle.kp_client_runs.specs.declared.script.Over.TheVariants.{Cluster, One}
 
 -- What is left of each of the producers, in their order.
 pub record FinishEach (producers : List Producer) (finished : List Finished) : Type 0 where
@@ -16,10 +19,15 @@ pub record FinishEach (producers : List Producer) (finished : List Finished) : T
   pub each : (i : ℕ) (p : Producer) (f : Finished) → i < length producers
       → Finishes (slice_index_or producers i p) (slice_index_or finished i f)
 
+-- They are those that the script names.
+abbrev pub IsOver : Over → Settings → Brokers → Type 0
+IsOver (One address) s = IsAt address s
+IsOver (Cluster bootstrap) s = IsOf bootstrap.addresses.items s
+
 -- Its service began so, and is over: the laws of any service speak of it.
-pub record WasHeld (address : SocketAddr) (settings : Settings) : Type 0 where
+pub record WasHeld (Its : Brokers → Type 0) (settings : Settings) : Type 0 where
   pub service : Service
-  pub begins : Begins address settings service
+  pub begins : Begins Its settings service
   pub finished : List Finished
   pub left : Left
   pub over : IsOver service finished left

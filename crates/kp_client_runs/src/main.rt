@@ -1,8 +1,9 @@
 //! Plays producers of the library's service over sockets, by its input. Who gave it the input judges what came.
 //!
 //! The input has a block of lines for each producer, with an empty line between two. They are played one after the other.
-//! `IP:PORT [NAME=VALUE..]`, the first line of a block, opens the producer, of the topic `t`, with the library's defaults but for
-//! these settings: `senders`, `capacity`, `partitions`, `linger.ms`, `request.timeout.ms`, `delivery.timeout.ms`,
+//! `IP:PORT [NAME=VALUE..]`, the first line of a block, opens the producer over the broker there; with `cluster:HOST:PORT[,..]` in
+//! place of the address, over the cluster of which a broker may be at each of these. It is of the topic `t`, with the library's
+//! defaults but for these settings: `senders`, `capacity`, `partitions`, `linger.ms`, `request.timeout.ms`, `delivery.timeout.ms`,
 //! `retry.backoff.ms`, `open.timeout.ms`, `in.a.row` or `in.all` (new connections), and `late.ms`, after how many milliseconds
 //! the service runs. Each further line is a step of the sender whose number it begins with. Each sender has a thread of its own,
 //! which plays its steps:
@@ -26,7 +27,7 @@ mod session;
 mod stage;
 
 use anyhow::{Context, Result};
-use script::Script;
+use script::{Over, Script};
 use session::{hold, hold_single};
 use std::alloc::AllocGlobal;
 use std::io;
@@ -43,10 +44,11 @@ where
     R: Net<Listener = TcpListener, Stream = TcpStream>,
 {
     let script = Script::read(rt.alloc(), block).context("not understood")?;
-    if script.settings.senders == 1 {
-        hold_single(rt, script)
-    } else {
-        hold(rt, script)
+    match script.over {
+        Over::One(address) if script.settings.senders == 1 => {
+            hold_single(rt, address, script.settings, script.late, script.steps)
+        }
+        _ => hold(rt, script),
     }
 }
 

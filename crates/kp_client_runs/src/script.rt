@@ -1,13 +1,45 @@
 //! What is to be played.
 
-use kp_client::{Policy, Settings};
+ghost use Rattle.std.specs.Prelude.{◌≤◌, length};
+ghost use Rattle.kp_cluster.specs.declared.learning.TheConstants.{SLOT_LIMIT};
+
+use kp_bootstrap::read_addresses;
+use kp_client::{Address, Policy, Settings};
 use std::alloc::Global;
 use std::net::SocketAddr;
+
+/// Addresses of a cluster's brokers.
+#[derive(Drop)]
+pub(crate) struct Bootstrap {
+    pub(crate) addresses: Vec<Address>,
+    ghost some: { 1 ≤ length addresses.items },
+    ghost few: { length addresses.items ≤ SLOT_LIMIT },
+}
+
+/// What a producer is opened over.
+#[derive(Drop)]
+pub(crate) enum Over {
+    /// The broker at this address.
+    One(SocketAddr),
+    Cluster(Bootstrap),
+}
+
+impl Over {
+    fn read(alloc: Global, word: &str) -> Option<Over> {
+        match word.strip_prefix("cluster:") {
+            Some(list) => {
+                let addresses = read_addresses(alloc, list.as_bytes()).ok()?;
+                Some(Over::Cluster(Bootstrap { addresses }))
+            }
+            None => Some(Over::One(word.parse().ok()?)),
+        }
+    }
+}
 
 /// What is to be played.
 #[derive(Drop)]
 pub(crate) struct Script<'a> {
-    pub(crate) address: SocketAddr,
+    pub(crate) over: Over,
     pub(crate) settings: Settings,
     /// After how many milliseconds the service runs.
     pub(crate) late: u64,
@@ -19,9 +51,9 @@ impl<'a> Script<'a> {
     pub(crate) fn read(alloc: Global, block: &'a str) -> Option<Script<'a>> {
         let (head, steps) = block.split_once('\n').unwrap_or((block, ""));
         let mut words = head.split(' ');
-        let address = words.next()?.parse().ok()?;
+        let over = Over::read(alloc, words.next()?)?;
         let mut script = Script {
-            address,
+            over,
             settings: Settings::new(alloc, "t", "kp").ok()?,
             late: 0,
             steps,

@@ -7,17 +7,20 @@ ghost use Rattle.kp_client.specs.Ends.{HasEnded};
 ghost use Rattle.kp_client.specs.Left.{parts_in, IsOnly, IsSettled};
 ghost use Rattle.kp_client.specs.Service.{core_of, intake_of};
 ghost use Rattle.kp_client.specs.declared.left.Left.{Left as AllLeft};
-ghost use Rattle.kp_client_runs.specs.Held.{FinishEach, WasHeld};
+ghost use Rattle.kp_client.specs.Brokers.{IsAt};
+ghost use Rattle.kp_client.specs.Opening.{IsOpen};
+ghost use Rattle.kp_client_runs.specs.Held.{FinishEach, IsOver, WasHeld};
 
 use crate::playing::play_sender;
-use crate::script::Script;
+use crate::script::{Bootstrap, Over, Script};
 use crate::stage::Stage;
 use anyhow::{Context, Result};
 use kp_client::{
-    Ended, Finished, Left, Opened, Producer, Service, ServiceFault, open, open_single,
+    Ended, Finished, Left, OpenFault, Opened, Producer, Service, ServiceFault, Settings, open,
+    open_cluster, open_single,
 };
 use std::alloc::{AllocError, AllocGlobal, Global};
-use std::net::{Net, TcpListener, TcpStream};
+use std::net::{Net, SocketAddr, TcpListener, TcpStream};
 use std::random::RandomSource;
 use std::sync::Wait;
 use std::thread::{self, Threads};
@@ -46,7 +49,8 @@ where
 /// Runs the service so many milliseconds later.
 fn serve<R>(rt: &R, service: Service, late: u64) -> Result<Ended, ServiceFault>
 where
-    R: Wait + Threads + Clock + RandomSource + AllocGlobal + Sync + Net,
+    R: Wait + Threads + Clock + RandomSource + AllocGlobal + Sync,
+    R: Net<Listener = TcpListener, Stream = TcpStream>,
     ensures lanes { IfOk result (λ ended. lanes_of (parts_in ended).intake ≡ lanes_of (intake_of service)) }
     ensures ended { IfOk result (HasEnded (core_of service) (intake_of service)) }
 {
@@ -85,15 +89,27 @@ fn settle_only(alloc: Global, ended: Ended, finished: Finished) -> Result<usize,
     }
 }
 
+/// Opens a producer over this.
+fn open_over<R>(rt: &R, over: Over, settings: Settings) -> Result<Opened, OpenFault>
+where
+    R: Wait + Threads + Clock + RandomSource + AllocGlobal + Sync + Net,
+    ensures { IfOk result (IsOpen (IsOver over settings) settings) }
+{
+    match over {
+        Over::One(address) => open(rt, address, settings),
+        Over::Cluster(Bootstrap { addresses }) => open_cluster(rt, addresses, settings),
+    }
+}
+
 /// Opens a producer, plays its senders, and takes back what is left.
 pub(crate) fn hold<R>(rt: &R, script: Script<'_>) -> Result<()>
 where
     R: Wait + Threads + Clock + RandomSource + AllocGlobal + Sync + Print,
     R: Net<Listener = TcpListener, Stream = TcpStream>,
-    ensures { IfOk result (λ _. WasHeld script.entry.address script.entry.settings) }
+    ensures { IfOk result (λ _. WasHeld (IsOver script.entry.over script.entry.settings) script.entry.settings) }
 {
     let Script {
-        address,
+        over,
         settings,
         late,
         steps,
@@ -102,7 +118,7 @@ where
         producers,
         closer,
         service,
-    } = open(rt, address, settings).context("not opened")?;
+    } = open_over(rt, over, settings).context("not opened")?;
     let stage = &Stage::new(rt, closer, producers.first().context("no sender")?)?;
     let (finished, ended) = thread::join(
         rt,
@@ -116,19 +132,19 @@ where
     Ok(())
 }
 
-/// The same of a producer with one sender, whatever the settings say of senders.
-pub(crate) fn hold_single<R>(rt: &R, script: Script<'_>) -> Result<()>
+/// The same of a producer with one sender, whatever the settings say of senders, over the broker at this address.
+pub(crate) fn hold_single<R>(
+    rt: &R,
+    address: SocketAddr,
+    settings: Settings,
+    late: u64,
+    steps: &str,
+) -> Result<()>
 where
     R: Wait + Threads + Clock + RandomSource + AllocGlobal + Sync + Print,
     R: Net<Listener = TcpListener, Stream = TcpStream>,
-    ensures { IfOk result (λ _. WasHeld script.entry.address (record script.entry.settings { senders = 1 })) }
+    ensures { IfOk result (λ _. WasHeld (IsAt address settings) (record settings { senders = 1 })) }
 {
-    let Script {
-        address,
-        settings,
-        late,
-        steps,
-    } = script;
     let (producer, closer, service) = open_single(rt, address, settings).context("not opened")?;
     let stage = &Stage::new(rt, closer, &producer)?;
     let (finished, ended) = thread::join(

@@ -25,6 +25,7 @@ abbrev pub of_opening : OpenFault → RunFault
 of_opening opening.Topic = Topic
 of_opening opening.Client = Topic
 of_opening (opening.Config fault) = Config fault
+of_opening opening.Policy = Network
 of_opening opening.Network = Network
 of_opening (opening.Handshake fault) = Handshake fault
 of_opening (opening.Partitions expected found) = Handshake BadAnswer

@@ -5,6 +5,7 @@ use Rattle.std.specs.List.Sorted.{IsPermutation}
 use Rattle.std.specs.declared.net.socket_addr.SocketAddr.{SocketAddr}
 use Rattle.kp_client.specs.Ends.{HasEnded}
 use Rattle.kp_client.specs.Left.{parts_in, reports_left, IsSettled}
+use Rattle.kp_client.specs.Brokers.{IsAt}
 use Rattle.kp_client.specs.Opening.{Begins}
 use Rattle.kp_client.specs.Service.{core_of, intake_of}
 use Rattle.kp_client.specs.declared.left.Ended.{Ended}
@@ -30,7 +31,7 @@ pub record AreTheirs (ended : Ended) (jobs : List Job) (reports : List Report) :
 -- They are those of a service that was opened with these settings, over the broker at this address, and has run to its end.
 pub record AreOfService (address : SocketAddr) (settings : Settings) (reports : List Report) : Type 0 where
   pub service : Service
-  pub begins : Begins address settings service
+  pub begins : Begins (IsAt address settings) settings service
   pub ended : Ended
   pub has_ended : HasEnded (core_of service) (intake_of service) ended
   pub jobs : List Job

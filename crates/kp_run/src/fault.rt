@@ -81,7 +81,8 @@ impl From<OpenFault> for RunFault {
         match fault {
             OpenFault::Topic | OpenFault::Client => RunFault::Topic,
             OpenFault::Config(fault) => RunFault::Config(fault),
-            OpenFault::Network => RunFault::Network,
+            // (a run has one broker, and a policy with a limit is one of a single broker)
+            OpenFault::Network | OpenFault::Policy => RunFault::Network,
             OpenFault::Handshake(fault) => RunFault::Handshake(fault),
             OpenFault::Partitions { .. } | OpenFault::Lanes(_) => {
                 RunFault::Handshake(HandshakeFault::BadAnswer)

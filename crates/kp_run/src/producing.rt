@@ -91,7 +91,8 @@ where
 /// Runs the service.
 fn serve<R>(rt: &R, service: Service) -> Result<Ended, RunFault>
 where
-    R: Wait + Threads + Clock + RandomSource + AllocGlobal + Sync + Net,
+    R: Wait + Threads + Clock + RandomSource + AllocGlobal + Sync,
+    R: Net<Listener = TcpListener, Stream = TcpStream>,
     ensures lanes { IfOk result (λ ended. lanes_of (parts_in ended).intake ≡ lanes_of (intake_of service)) }
     ensures ended { IfOk result (HasEnded (core_of service) (intake_of service)) }
 {

@@ -7,9 +7,8 @@ use Rattle.kp_lanes.specs.Sender.{IsFresh, IsSenderOf}
 use Rattle.kp_lanes.specs.declared.intake.Intake.{Intake}
 use Rattle.kp_lanes.specs.declared.limits.Limits.{Limits}
 use Rattle.kp_settings.specs.Settings.{limits_of}
-use Rattle.kp_client.specs.Opening.{first_core, IsGreeting, IsWay}
+use Rattle.kp_client.specs.Opening.{first_core, IsGreeting}
 use Rattle.kp_client.specs.Service.{hello_of, intake_of}
-use Rattle.kp_client.specs.declared.connecting.Way.{Way}
 use Rattle.kp_client.proofs.OpeningLemmas.{all_of_lanes, numbers_of_lanes}
 use Rattle.kp_client.proofs.opening.open_known.Goals as goal
 
@@ -30,8 +29,7 @@ returns-clause-opened c =
         greeting = subst (λ (h : Hello). IsGreeting s.names h) (sym hello) c.requires.greeting;
         asked = subst (λ (h : Hello). IfSome s.partitions (λ n. h.partitions ≡ n)) (sym hello) c.requires.asked;
         core = made.core ∙ ap (λ (h : Hello). first_core s h) (sym hello);
-        way = subst (λ (w : Way). IsWay c.args.way.address s w) (sym made.made.1) c.requires.way;
-        again = made.again;
+        brokers = made.made.1;
       };
       numbers = numbers_of_lanes ps ss handles ∙ lanes.numbers;
       fresh = all_of_lanes (IsFresh s.capacity (limits_of (hello_of c.in_ok-service.service) s)) ps ss handles

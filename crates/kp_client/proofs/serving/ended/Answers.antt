@@ -1,10 +1,9 @@
-use Rattle.std.proofs.Common.{◌≡◌, ◌∙◌, true, ap, inl, inr, refl, subst, sym}
+use Rattle.std.proofs.Common.{◌≡◌, ◌∙◌, true, ap, inl, refl, subst, sym}
 use Rattle.kp_core.specs.Spent.{can_only_end}
 use Rattle.kp_engine.specs.Made.{WasPolled}
 use Rattle.kp_engine.specs.Polls.{IsDone}
 use Rattle.kp_engine.specs.declared.cluster.ClusterEngine.{ClusterEngine}
 use Rattle.kp_engine.specs.declared.parts.Parts.{Parts}
-use Rattle.kp_engine.specs.declared.stop.Cause.{Cause}
 use Rattle.kp_engine.proofs.MadeLemmas.{ended_then, has_served}
 use Rattle.kp_engine.proofs.PartsLemmas.{accounted}
 use Rattle.kp_engine.proofs.SinceLemmas.{end_served}
@@ -14,7 +13,7 @@ use Rattle.kp_client.proofs.AccountLemmas.{all_accounted}
 use Rattle.kp_client.proofs.DoneLemmas.{holds_nothing}
 use Rattle.kp_client.proofs.EndLemmas.{still_looks}
 use Rattle.kp_client.proofs.ServiceLemmas.{lost_more}
-use Rattle.kp_client.proofs.service.ended.Goals as goal
+use Rattle.kp_client.proofs.serving.ended.Goals as goal
 
 pub new-requires-clause-accounted : goal.new-requires-clause-accounted
 new-requires-clause-accounted g c =
