@@ -20,9 +20,9 @@ pub record FinishEach (producers : List Producer) (finished : List Finished) : T
       → Finishes (slice_index_or producers i p) (slice_index_or finished i f)
 
 -- They are those that the script names.
-abbrev pub IsOver : Over → Settings → Brokers → Type 0
-IsOver (One address) s = IsAt address s
-IsOver (Cluster bootstrap) s = IsOf bootstrap.addresses.items s
+abbrev pub AreNamed : Over → Settings → Brokers → Type 0
+AreNamed (One address) s = IsAt address s
+AreNamed (Cluster bootstrap) s = IsOf bootstrap.addresses.items s
 
 -- Its service began so, and is over: the laws of any service speak of it.
 pub record WasHeld (Its : Brokers → Type 0) (settings : Settings) : Type 0 where

@@ -9,7 +9,7 @@ ghost use Rattle.kp_client.specs.Service.{core_of, intake_of};
 ghost use Rattle.kp_client.specs.declared.left.Left.{Left as AllLeft};
 ghost use Rattle.kp_client.specs.Brokers.{IsAt};
 ghost use Rattle.kp_client.specs.Opening.{IsOpen};
-ghost use Rattle.kp_client_runs.specs.Held.{FinishEach, IsOver, WasHeld};
+ghost use Rattle.kp_client_runs.specs.Held.{AreNamed, FinishEach, WasHeld};
 
 use crate::playing::play_sender;
 use crate::script::{Bootstrap, Over, Script};
@@ -93,7 +93,7 @@ fn settle_only(alloc: Global, ended: Ended, finished: Finished) -> Result<usize,
 fn open_over<R>(rt: &R, over: Over, settings: Settings) -> Result<Opened, OpenFault>
 where
     R: Wait + Threads + Clock + RandomSource + AllocGlobal + Sync + Net,
-    ensures { IfOk result (IsOpen (IsOver over settings) settings) }
+    ensures { IfOk result (IsOpen (AreNamed over settings) settings) }
 {
     match over {
         Over::One(address) => open(rt, address, settings),
@@ -106,7 +106,7 @@ pub(crate) fn hold<R>(rt: &R, script: Script<'_>) -> Result<()>
 where
     R: Wait + Threads + Clock + RandomSource + AllocGlobal + Sync + Print,
     R: Net<Listener = TcpListener, Stream = TcpStream>,
-    ensures { IfOk result (λ _. WasHeld (IsOver script.entry.over script.entry.settings) script.entry.settings) }
+    ensures { IfOk result (λ _. WasHeld (AreNamed script.entry.over script.entry.settings) script.entry.settings) }
 {
     let Script {
         over,
