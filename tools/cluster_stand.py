@@ -29,7 +29,6 @@ class Cluster(Brokers):
         self.addresses = [f"127.0.0.1:{it}" for it in self.ports]
         self.states = ["down"] * nodes
         self.listeners, self.ends = {}, {}
-        self.accepted = 0  # How many connections were made.
 
     # ---- nodes
 
@@ -83,26 +82,29 @@ class Cluster(Brokers):
                 end, _ = listener.accept()
                 end.setsockopt(socket.IPPROTO_TCP, socket.TCP_NODELAY, 1)
                 with self.lock:
-                    self.accepted += 1
                     self.ends[end] = node
                 threading.Thread(target=self.serve_one, args=[node, end], daemon=True).start()
 
     def serve_one(self, node, end):
-        wire = Wire(node)
         end.settimeout(self.idle)
         with end, suppress(OSError):
-            while piece := end.recv(PIECE):
-                for content in wire.hear(piece):
-                    with self.lock:
-                        answer = self.answer(node, content) if self.states[node] == "up" else None
-                    if answer == HANG_UP:
+            self.converse(node, end)
+        with self.lock:
+            self.ends.pop(end)
+
+    def converse(self, node, end):
+        wire = Wire(node)
+        while piece := end.recv(PIECE):
+            for content in wire.hear(piece):
+                with self.lock:
+                    answer = self.answer(node, content) if self.states[node] == "up" else None
+                if answer == HANG_UP:
+                    return
+                if answer:
+                    end.sendall(answer)
+                    if self.is_curt and api_of(content) not in (METADATA, PRODUCER_ID):
                         return
-                    if answer:
-                        end.sendall(answer)
-                        if self.is_curt and api_of(content) not in (METADATA, PRODUCER_ID):
-                            return
-                wire.requests.clear()
-            self.ends.pop(end, None)
+            wire.requests.clear()
 
     # ---- answers
 
