@@ -20,6 +20,7 @@ from service_script import input_of, read_played
 SECONDS = 20  # The most that a program takes.
 ASKING = 0  # The correlation id of the handshake's first request, Metadata.
 HELLO = 1  # The correlation id of the last answer of a handshake (InitProducerId).
+NEVER = 2_147_483_647  # A correlation id that no request has that is made here.
 
 
 class Late(Wrong):
@@ -107,14 +108,15 @@ class Fickle(Relay):
     """A relay before one node, which may stand at another address of this machine. Its plan says of Produce requests, beside what a
     relay does: "end": the connection ends behind the answer; "end-and-leave": and the node is away then; "known": the answer says
     that the broker has these records already (code 46); "gather": for so many seconds from the first such request on answers are
-    kept back, and then all are given at once. Other words say what it does once it has given the answer that ends the handshake:
+    kept back, and then all are given at once; "slow": the node takes so many seconds for the answer, and for one after the other;
+    "strays": in its place come so many answers to a request that was never made. Other words say what it does once it has given the answer that ends the handshake:
     "shut": the node is away; "swallow": connections to it are neither taken nor refused; "curt": each ends as soon as it was made.
     A node is back after so many seconds. A connection that was idle for so many seconds behind an answer ends. Of the handshake's
     answers, those to the requests of these correlation ids have these codes in turn, and are as they are behind them."""
 
-    def __init__(self, address, plan=None, host="127.0.0.1", behind_hello="", away=math.inf, idle=math.inf, gathering=0.0, codes=None):
+    def __init__(self, address, plan=None, host="127.0.0.1", behind_hello="", away=math.inf, idle=math.inf, gathering=0.0, codes=None, pace=0.0, strays=0):
         self.host, self.behind_hello, self.away, self.idle, self.gathering = host, behind_hello, away, idle, gathering
-        self.codes = codes or {}
+        self.codes, self.pace, self.strays = codes or {}, pace, strays
         self.refused = 0  # How many handshakes were answered so.
         self.accepted = 0  # How many connections were made.
         self.back_at = math.inf
@@ -183,6 +185,7 @@ class Fickle(Relay):
         else:
             super().accept(node)
             self.links[-1].acts, self.links[-1].idle_since = {}, math.inf
+            self.links[-1].slow, self.links[-1].next_at = [], math.inf
         self.accepted += 1
 
     def turn(self):
@@ -191,6 +194,9 @@ class Fickle(Relay):
             self.restore()
         for link in [it for it in self.links if it.idle_since + self.idle <= now]:
             self.drop(link)
+        for link in [it for it in self.links if it.next_at <= now]:
+            link.to_near += link.slow.pop(0)
+            link.next_at = now + self.pace if link.slow else math.inf
         super().turn()
 
     # ---- requests and answers
@@ -243,8 +249,14 @@ class Fickle(Relay):
         if act == "known":
             # Behind the size, the correlation id, a list of one topic, t, and in that a list of one partition, 0.
             frame = frame[:23] + struct.pack(">hq", 46, -1) + frame[33:]
+        if act == "strays":
+            frame = self.strays * (frame[:4] + struct.pack(">i", NEVER) + frame[8:])
         if act == "gather" and self.is_gathering:
             self.kept.append(frame)
+        elif act == "slow":
+            if not link.slow:
+                link.next_at = time.monotonic() + self.pace
+            link.slow.append(frame)
         else:
             link.to_near += frame
 

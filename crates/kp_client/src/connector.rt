@@ -9,12 +9,15 @@ ghost use Rattle.kp_client.specs.Policy.{limit_of, made_after_reply};
 
 use crate::again::Again;
 use crate::connecting::Way;
+use crate::spread::jittered;
 use futures::Future;
 use futures::task::{Context, Poll};
 use kp_connection::Plain;
 use kp_core::Core;
 use kp_engine::Moves;
 use kp_running::{Keeping, News};
+use rand::SeedableRng;
+use rand::rngs::SmallRng;
 use std::net::Net;
 use std::time::{Clock, Duration, Instant};
 use tokio::net::{ConnectFuture, TcpStream};
@@ -49,10 +52,18 @@ pub(crate) struct Connector<'a, R> {
     /// When the last try ended, if one did.
     tried: Option<Instant>,
     stage: Stage,
+    numbers: SmallRng,
 }
 
 impl<'a, R: Net + Clock> Connector<'a, R> {
-    pub(crate) fn new(rt: &'a R, handle: Handle, way: Way, again: Again) -> Connector<'a, R>
+    /// With a seed for what spreads its waits.
+    pub(crate) fn new(
+        rt: &'a R,
+        handle: Handle,
+        way: Way,
+        again: Again,
+        seed: u64,
+    ) -> Connector<'a, R>
         ensures { result.again ≡ again }
     {
         Connector {
@@ -63,6 +74,7 @@ impl<'a, R: Net + Clock> Connector<'a, R> {
             begun: false,
             tried: None,
             stage: Stage::Idle,
+            numbers: SmallRng::seed_from_u64(seed),
         }
     }
 
@@ -81,6 +93,7 @@ impl<'a, R: Net + Clock> Connector<'a, R> {
         match self.again.next() {
             None => Poll::Ready(News::Ended),
             Some(wait) => {
+                let wait = jittered(&mut self.numbers, wait);
                 self.stage = self.begin_wait(wait);
                 self.go_on(cx)
             }

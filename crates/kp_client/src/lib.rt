@@ -16,6 +16,7 @@ mod producer;
 mod service;
 mod serving;
 mod shared;
+mod spread;
 mod statistics;
 mod tended;
 

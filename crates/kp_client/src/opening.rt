@@ -19,6 +19,7 @@ use crate::greeting::{Asked, greet_until};
 use crate::producer::Producer;
 use crate::service::Service;
 use crate::shared::Shared;
+use crate::spread::seed;
 use kp_cluster::{Address, Cluster, ClusterConfig};
 use kp_dial::SETUP_TIMEOUT_MS;
 use kp_hello::Hello;
@@ -100,15 +101,6 @@ where
         hello,
         start,
     )
-}
-
-/// What spreads the waits of producers that are opened at the same time; 0 where there is nothing random.
-fn seed<R: RandomSource>(rt: &R) -> u64 {
-    let mut seed = [0; 8];
-    match rt.fill_bytes(&mut seed) {
-        Ok(()) => u64::from_be_bytes(seed),
-        Err(_) => 0,
-    }
 }
 
 /// Opens a producer with one sender, whatever the settings say of senders: its handle, what closes it, and its service.

@@ -17,6 +17,7 @@ use crate::connector::Connector;
 use crate::counting::Counting;
 use crate::left::{Ended, Ending};
 use crate::shared::Shared;
+use crate::spread::seed;
 use crate::tended::Tended;
 use kp_cluster::Cluster;
 use kp_connection::{Plain, Stream};
@@ -89,7 +90,7 @@ where
 {
     match event_loop(rt) {
         Ok((mut runtime, handle)) => {
-            let connector = Connector::new(rt, handle, way, again);
+            let connector = Connector::new(rt, handle, way, again, seed(rt));
             serve_over(rt, alloc, &mut runtime, connector, core, intake, shared)
         }
         Err(_) => Ok(unserved(alloc, core, intake)),

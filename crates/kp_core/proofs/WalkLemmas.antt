@@ -1,12 +1,14 @@
 -- A walk over some numbers, one after the other.
-use Rattle.std.proofs.Common.{◌≡◌, ◌∙◌, ℕ, zero, suc, ◌+◌, ◌-◌, ◌<◌, ◌≤◌, Bool, true, false, true≢false, List, [], ◌∷◌, ◌++◌, length, get_or, take, drop, Some, None, Ok, Err, IsOk, is_ok, insert, inl, inr, refl, sym, ap, arith}
-use Rattle.std.specs.Prelude.{Option, Result, filter_map, find, if◌then◌else◌, nat_lt, ◌||◌}
-use Rattle.std.specs.List.{AllByRecursion, cons_option, list_any}
+use Rattle.std.proofs.Common.{◌≡◌, ◌∙◌, ℕ, zero, suc, ◌+◌, ◌-◌, ◌<◌, ◌≤◌, Bool, true, false, true≢false, Bor, List, [], ◌∷◌, ◌++◌, length, get_or, take, drop, Some, None, Ok, Err, IsOk, is_ok, insert, inl, inr, refl, sym, ap, arith}
+use Rattle.std.specs.Prelude.{Option, MatchOption, Result, filter_map, find, if◌then◌else◌, nat_lt, ◌||◌}
+use Rattle.std.specs.List.{AllByRecursion, cons_option, list_any, slice_get}
+use Rattle.std.specs.Option.{option_copied}
 use Rattle.std.specs.List.Sorted.{IsPartitionedBy, IsPartitionPoint}
 use Rattle.std.proofs.lemmas.Bool.{cases_lt}
 use Rattle.std.proofs.lemmas.Bool.Decides.{nat_tests}
-use Rattle.std.proofs.lemmas.List.{drop_all, get_or-append-add, get_or_default, length-append, take-append-drop, take_more}
+use Rattle.std.proofs.lemmas.List.{drop_all, get_or-append-add, get_or_default, length-append, take-append-drop, take_all, take_more}
 use Rattle.std.proofs.lemmas.List.Elements.{filter_map-append}
+use Rattle.std.proofs.lemmas.Option.{get_or_from_slice_get, none-some, slice_get-get_or}
 use Rattle.kp_wire.proofs.ListLemmas.{drop_here}
 
 -- ---- one of them
@@ -122,3 +124,22 @@ put-is p below above before after at (Ok done) is same ok put =
     ∙ ap (λ (xs : List ℕ). xs ++ p ∷ drop (length below) (below ++ above)) (first_part below above)
     ∙ ap (λ (ys : List ℕ). below ++ p ∷ ys) (second_part below above)
 put-is p below above before after at (Err e) is same ok put = absurd (true≢false (sym ok))
+
+-- ---- at their end
+
+-- where the last one passes, all do
+pub last_passes : (P : Type 0) (q : ℕ → Bool) (ps : List ℕ) (o : Option (Bor ℕ)) (Q : Bor ℕ → Type 0) → option_copied o ≡ slice_get ps (length ps - 1) → MatchOption o P Q
+    → ((x : Bor ℕ) → Q x → q x.now ≡ true) → IsPartitionedBy q ps → IsPartitionPoint (λ p. q p ≡ true) (λ p. q p ≡ false) ps (length ps)
+last_passes P q ps o Q is told gives parted = (
+  λ k d low high. parted k (length ps - 1) d (omega (arith, high)) (omega (arith, high)) (passes o is told d (omega (arith, high))),
+  λ k d low high. absurd (omega (arith, low, high)),
+)
+  where
+    passes : (o : Option (Bor ℕ)) → option_copied o ≡ slice_get ps (length ps - 1) → MatchOption o P Q → (d : ℕ) → 0 < length ps → q (get_or ps (length ps - 1) d) ≡ true
+    passes None is told d some = absurd (none-some (get_or ps (length ps - 1) d) (is ∙ slice_get-get_or ps (length ps - 1) d (omega (arith, some))))
+    passes (Some x) is told d some = ap q (get_or_from_slice_get ps (length ps - 1) x.now d (sym is)) ∙ gives x told
+
+pub insert_last : (p : ℕ) (ps : List ℕ) → insert ps (length ps) p ≡ ps ++ p ∷ []
+insert_last p ps =
+    ap (λ (qs : List ℕ). qs ++ p ∷ drop (length ps) ps) (take_all (length ps) ps (omega arith))
+    ∙ ap (λ (qs : List ℕ). ps ++ p ∷ qs) (drop_all (length ps) ps (omega arith))

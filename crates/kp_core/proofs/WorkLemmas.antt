@@ -1,9 +1,12 @@
 -- What a node has to do: the part of the list by leaders that is its own, and what is looked for there alone.
-use Rattle.std.proofs.Common.{◌≡◌, ◌∙◌, ℕ, zero, suc, ◌+◌, ◌<◌, ◌≤◌, Bool, true, false, true≢false, not, List, [], ◌∷◌, ◌++◌, length, map, get_or, take, drop, Some, None, Ok, Err, IsOk, is_ok, refl, sym, ap, subst, ne_eqb, eqb-true, arith}
+use Rattle.std.proofs.Common.{◌≡◌, ◌∙◌, ℕ, zero, suc, ◌+◌, ◌<◌, ◌≤◌, Bool, true, false, true≢false, not, List, [], ◌∷◌, ◌++◌, length, map, get_or, take, drop, ◌-◌, Some, None, Ok, Err, IsOk, is_ok, refl, sym, ap, subst, ne_eqb, eqb-true, arith}
 use Rattle.std.specs.Prelude.{Option, Result, option_map, filter, filter_map, find, nat_lt, nat_le, ◌&&◌, ◌||◌, ◌==◌, if◌then◌else◌}
-use Rattle.std.specs.List.{AllByRecursion, cons_option, enumerate_from, insert, list_any}
+use Rattle.std.specs.List.{AllByRecursion, cons_option, enumerate_from, insert, list_all, list_any, slice_get}
 use Rattle.std.specs.List.Sorted.{IsPartitionedBy}
-use Rattle.std.proofs.lemmas.List.{drop-map, ext_get_or, get_or-map, get_or_default, length-map, map-append, take-map}
+use Rattle.std.proofs.lemmas.Bool.Decides.{nat_tests}
+use Rattle.std.proofs.lemmas.List.{drop-map, ext_get_or, get_or-map, get_or_default, length-map, map-append, take-map, take_all}
+use Rattle.std.proofs.lemmas.List.Sums.{AllPass-from_list_all, list_all-from_AllPass}
+use Rattle.std.proofs.lemmas.Option.{get_or_from_slice_get, slice_get_within}
 use Rattle.std.proofs.lemmas.List.Elements.{filter-append, filter_map-append}
 use Rattle.kp_accum.specs.declared.config.Config.{Config}
 use Rattle.kp_accum.specs.declared.flags.Flags.{Flags}
@@ -22,6 +25,7 @@ use Rattle.kp_core.proofs.BusyLemmas.{AreAt, all_at, busy_once, busy_there, chos
 use Rattle.kp_core.proofs.ByLeaderLemmas.{led_leaders, led_rises, under-is}
 use Rattle.kp_core.proofs.IdleLemmas.{idle_asks_nothing, idle_dropped, idle_sends_in}
 use Rattle.kp_core.proofs.ListedLemmas.{busy_split, changed_busy, first_at, last_at}
+use Rattle.kp_core.proofs.WalkLemmas.{insert_last}
 use Rattle.kp_core.proofs.LedLemmas.{PartAt, all_under, drop_rises, insert-put, parts_at, parts_below, parts_upto}
 
 -- ---- numbers that say the same as their places in the list
@@ -102,6 +106,59 @@ work-is node i j ts l p m r =
     ∙ ap places_in (all_under node ls i j few low fewer upto)
     ∙ under-is node 0 ts ts (all_at ts)
 
+-- ---- where it leads all
+
+abbrev its : ℕ → List Partition → ℕ → Bool
+its node ts p = leads node (partition_at p ts)
+
+its_low : (node n : ℕ) → (n == node) ≡ true → nat_lt n node ≡ false
+its_low node n is = grind (arith, nat_tests)
+
+its_upto : (node n : ℕ) → (n == node) ≡ true → nat_le n node ≡ true
+its_upto node n is = grind (arith, nat_tests)
+
+is_its : (node n : ℕ) → nat_lt n node ≡ false → nat_le n node ≡ true → (n == node) ≡ true
+is_its node n low upto = grind (arith, nat_tests)
+
+-- it leads those that stand between two that it leads
+between : (node first last : ℕ) (ts : List Partition) → slice_get (by_leader ts) 0 ≡ Some first → slice_get (by_leader ts) (length (by_leader ts) - 1) ≡ Some last
+    → its node ts first ≡ true → its node ts last ≡ true → (k d : ℕ) → k < length (by_leader ts) → its node ts (get_or (by_leader ts) k d) ≡ true
+between node first last ts from to x y k d l =
+    let ps = by_leader ts in
+    is_its node (partition_at (get_or ps k d) ts).leader
+    (by_low (is_low node ts (get_or ps k d)) refl)
+    (upto_parted node 0 ts k (length ps - 1) d (omega (arith, l)) (omega (arith, l))
+    (ap (is_upto node ts) (get_or_from_slice_get ps (length ps - 1) last d to) ∙ its_upto node (partition_at last ts).leader y))
+  where
+    by_low : (b : Bool) → is_low node ts (get_or (by_leader ts) k d) ≡ b → is_low node ts (get_or (by_leader ts) k d) ≡ false
+    by_low false is = is
+    by_low true is =
+        absurd (true≢false (sym (low_parted node ts 0 k d (omega arith) l is) ∙ ap (is_low node ts) (get_or_from_slice_get (by_leader ts) 0 first d from) ∙ its_low node (partition_at first ts).leader x))
+
+pub ends_tell : (node first last : ℕ) (ts : List Partition) → slice_get (by_leader ts) 0 ≡ Some first → slice_get (by_leader ts) (length (by_leader ts) - 1) ≡ Some last
+    → (leads node (partition_at first ts) && leads node (partition_at last ts)) ≡ list_all (λ p. leads node (partition_at p ts)) (by_leader ts)
+ends_tell node first last ts from to = cases (its node ts first) (its node ts last) (list_all (its node ts) (by_leader ts)) refl refl refl
+  where
+    passes : (i p : ℕ) → slice_get (by_leader ts) i ≡ Some p → list_all (its node ts) (by_leader ts) ≡ true → its node ts p ≡ true
+    passes i p at all =
+        ap (its node ts) (sym (get_or_from_slice_get (by_leader ts) i p p at)) ∙ AllPass-from_list_all (its node ts) (by_leader ts) all i p (slice_get_within (by_leader ts) i p at)
+
+    cases : (a b all : Bool) → its node ts first ≡ a → its node ts last ≡ b → list_all (its node ts) (by_leader ts) ≡ all → (a && b) ≡ all
+    cases true true true x y z = refl
+    cases true true false x y z = absurd (true≢false (sym (list_all-from_AllPass (its node ts) (by_leader ts) (between node first last ts from to x y)) ∙ z))
+    cases true false true x y z = absurd (true≢false (sym (passes (length (by_leader ts) - 1) last to z) ∙ y))
+    cases true false false x y z = refl
+    cases false b true x y z = absurd (true≢false (sym (passes 0 first from z) ∙ x))
+    cases false b false x y z = refl
+
+pub all_led : (node : ℕ) (ts : List Partition) → list_all (λ p. leads node (partition_at p ts)) (by_leader ts) ≡ true → by_leader ts ≡ work_in node ts
+all_led node ts all =
+    let ps = by_leader ts in
+    let here = AllPass-from_list_all (its node ts) ps all in
+    sym (take_all (length ps) ps (omega arith))
+    ∙ work-is node 0 (length ps) ts (omega arith) (λ k d low high. absurd (omega (arith, high)), λ k d low high. its_low node (partition_at (get_or ps k d) ts).leader (here k d high))
+    (omega arith) (λ k d low high. its_upto node (partition_at (get_or ps k d) ts).leader (here k d high), λ k d low high. absurd (omega (arith, low, high)))
+
 -- ---- one more
 
 before_same : (p : ℕ) (us : List Partition) (ls : List Led) → AllByRecursion (λ l. (partition_at l.place us).leader ≡ l.leader) ls
@@ -129,6 +186,13 @@ led_put p at us ls before after (Ok done) rises h is l part ok put_in =
     ∙ ap (λ (ps : List ℕ). ps ++ p ∷ places_in (drop at ls)) (sym (take-map (λ (y : Led). y.place) at ls))
     ∙ ap (λ (ps : List ℕ). take at (places_in ls) ++ p ∷ ps) (sym (drop-map (λ (y : Led). y.place) at ls)) in
     put_in ∙ ap (λ (ps : List ℕ). insert ps at p) is ∙ sym joined ∙ ap places_in (insert-put x ls at few there)
+
+pub led_push : (p : ℕ) (us : List Partition) (ls : List Led) (before after : List ℕ) → Rises ls → AllByRecursion (λ l. (partition_at l.place us).leader ≡ l.leader) ls
+    → before ≡ places_in ls → PartAt (λ o. is_before (led_at o (partition_at o us)) (led_at p (partition_at p us))) before (length before)
+    → after ≡ before ++ p ∷ [] → after ≡ places_in (put (led_at p (partition_at p us)) ls)
+led_push p us ls before after rises h is part pushed =
+    let done : Result (Unit {0}) ℕ = Ok tt in
+    led_put p (length before) us ls before after done rises h is (omega arith) part refl (pushed ∙ sym (insert_last p before))
 
 -- ---- what is looked for among some of the numbers alone, where the others give nothing
 

@@ -192,6 +192,13 @@ pub(crate) fn count_to(requests: &[Request], node: u32) -> usize
         .count()
 }
 
+/// The first of the requests to this node.
+pub(crate) fn first_to(requests: &[Request], node: u32) -> Option<&Request>
+    ensures { option_copied result ≡ find (goes_to node) requests.now }
+{
+    requests.iter().find(|request| request.goes_to(node))
+}
+
 /// The request with this correlation id.
 pub(crate) fn find_awaited(requests: &[Request], correlation: i32) -> Option<&Request>
     ensures { option_copied result ≡ find (λ r. int_eq (pos r.correlation) correlation) requests.now }

@@ -2,10 +2,10 @@
 
 use std::sync::atomic::AtomicU8;
 use std::sync::atomic::Ordering::SeqCst;
-use std::thread;
-use std::time::{Clock, Duration};
+use std::time::{Clock, Duration, Instant};
+use std::{io, thread};
 
-/// For how long one part waits for the other to begin, in milliseconds.
+/// For how long one part waits for the other to begin, in milliseconds, and how often it looks at the most.
 const PATIENCE: u64 = 3_000;
 
 /// Neither part has begun.
@@ -37,13 +37,15 @@ impl Pair {
         }
     }
 
-    /// A part begins: whether the other does beside it, and goes on. It waits some 3 seconds for that at most.
+    /// A part begins: whether the other does beside it, and goes on. It waits 3 seconds for that at most.
     pub fn begin<R: Clock>(&self, rt: &R) -> bool {
         if !self.goes_on(APART, WAITING) {
             return self.goes_on(WAITING, MET);
         }
+        let start = Instant::now(rt);
         for _ in 0..PATIENCE {
             match self.state.load(SeqCst) {
+                WAITING if is_over(rt, &start) => break,
                 WAITING => thread::sleep(rt, Duration::from_millis(1)),
                 state => return state == MET,
             }
@@ -66,5 +68,16 @@ impl Pair {
         self.state
             .compare_exchange(from, to, SeqCst, SeqCst)
             .is_ok()
+    }
+}
+
+/// Whether the patience is over since then. Where the clock can't be read nobody knows, and looks alone are counted.
+fn is_over<R: Clock>(rt: &R, start: &io::Result<Instant>) -> bool {
+    match start {
+        Ok(start) => match start.elapsed(rt) {
+            Ok(passed) => passed >= Duration::from_millis(PATIENCE),
+            Err(_) => false,
+        },
+        Err(_) => false,
     }
 }

@@ -14,9 +14,11 @@ use Rattle.kp_rules.proofs.ListLemmas.{found}
 use Rattle.kp_engine.specs.Closing.{Polled}
 use Rattle.kp_engine.specs.Cluster.{PollsCluster}
 use Rattle.kp_engine.specs.Engine.{stop_in}
+use Rattle.kp_engine.specs.Exchange.{with_strays}
 use Rattle.kp_engine.specs.Lines.{RoundOver, RoundsEach, is_given_up, stop_at}
 use Rattle.kp_engine.specs.Made.{AreCut, IsCut, WasCut, WasPolled, anything}
-use Rattle.kp_engine.specs.Rounds.{Rounds}
+use Rattle.kp_engine.specs.Rounds.{IsCut as IsCutSo, Rounds}
+use Rattle.kp_engine.specs.Window.{most_requests}
 use Rattle.kp_engine.specs.declared.cluster.ClusterEngine.{ClusterEngine}
 use Rattle.kp_engine.specs.declared.engine.Line.{Line}
 use Rattle.kp_engine.specs.declared.engine.Line.TheVariants.{Open, Stopped}
@@ -26,8 +28,8 @@ use Rattle.kp_engine.specs.declared.stop.Cause.{Cause}
 use Rattle.kp_engine.specs.declared.stop.Stop.{Stop}
 use Rattle.kp_engine.specs.declared.stop.Stop.TheVariants.{Done, NeedStream, OutOfMemory}
 use Rattle.kp_engine.proofs.MadeLemmas.{polled_away}
-use Rattle.kp_engine.proofs.RoundLemmas.{made_polled, round_made}
-use Rattle.kp_engine.proofs.StreamlessLemmas.{no_wire, talks_cut_so}
+use Rattle.kp_engine.proofs.RoundLemmas.{made_behind, round_made}
+use Rattle.kp_engine.proofs.StreamlessLemmas.{no_wire, talks_cut_so, talks_on_so}
 
 module _ (core : Core) (intake : Intake) where
   -- ---- it stays so
@@ -42,6 +44,10 @@ module _ (core : Core) (intake : Intake) where
     node = c.node;
     now = c.now;
     before = c.before;
+    most = c.most;
+    strays = c.strays;
+    its = c.its;
+    xs = c.xs;
     y = c.y;
     after = c.after;
     cut = c.cut;
@@ -73,10 +79,15 @@ module _ (core : Core) (intake : Intake) where
     -- ---- rounds
 
     module _ (answers : Told S) where
-      round_cut : (node now : ℕ) (calls : List Call) (x : Exchange) (w : Wired S) (its : List Call) (xs : List Answer) (y : Exchange) (left : Line S) → WasPolled core intake calls x
-          → Rounds answers node now x w its xs y left → IsCut core intake (calls ++ its) left
-      round_cut node now calls x w _ _ _ _ p (Rounds.goes_on y v on_time talks) = tt
-      round_cut node now calls x w _ _ _ _ p (Rounds.is_cut after y cause v talks drops) = record {
+      cut_so : (most node now : ℕ) (x : Exchange) (w : Wired S) (calls : List Call) (xs : List Answer) (cause : Cause) (y : Exchange) (v : Wired S) → IsCutSo answers most node now x w calls xs cause y v
+          → IsCutSo anything most node now x (no_wire w) calls xs cause y (no_wire v)
+      cut_so most node now x w _ _ _ _ _ (IsCutSo.by_talk cause y v talks) = IsCutSo.by_talk cause y (no_wire v) (talks_cut_so answers most node now (has_timed_out node now x.core) x w cause y v talks)
+      cut_so most node now x w _ _ _ _ _ (IsCutSo.by_strays y v on_time talks many) = IsCutSo.by_strays y (no_wire v) on_time (talks_on_so answers most node now x w y v talks) many
+
+      round_cut : (most node now strays : ℕ) (calls : List Call) (x : Exchange) (w : Wired S) (its : List Call) (xs : List Answer) (y : Exchange) (left : Line S) → WasPolled core intake calls x
+          → Rounds answers most node now (with_strays strays x) w its xs y left → IsCut core intake (calls ++ its) left
+      round_cut most node now strays calls x w _ _ _ _ p (Rounds.goes_on y v on_time talks few) = tt
+      round_cut most node now strays calls x w _ _ _ _ p (Rounds.is_cut its xs after y cause v cut drops) = record {
         earlier = calls;
         later = _;
         among = refl;
@@ -85,34 +96,40 @@ module _ (core : Core) (intake : Intake) where
         node = node;
         now = now;
         before = no_wire w;
+        most = most;
+        strays = strays;
+        its = its;
+        xs = xs;
         y = after;
         after = no_wire v;
-        cut = talks_cut_so answers node now (has_timed_out node now x.core) x w cause after v talks;
+        cut = cut_so most node now (with_strays strays x) w its xs cause after v cut;
       }
-      round_cut node now calls x w _ _ _ _ p (Rounds.no_talk y v talks) = tt
-      round_cut node now calls x w _ _ _ _ p (Rounds.no_drop after y cause v talks none) = tt
+      round_cut most node now strays calls x w _ _ _ _ p (Rounds.no_talk y v talks) = tt
+      round_cut most node now strays calls x w _ _ _ _ p (Rounds.no_drop its xs after y cause v cut none) = tt
 
-      over_cut : (node now : ℕ) (calls : List Call) (line : Line S) (x : Exchange) (result : Result (Unit {0}) AllocError) (y : Exchange) (left : Line S) → WasPolled core intake calls x
-          → IsCut core intake calls line → RoundOver answers node now line x result y left → Goes calls y (λ cs. IsCut core intake cs left)
-      over_cut node now calls (Open wire) x result y left p c r = (
-        r.0.calls,
-        polled_by calls r.0.calls x y p (made_polled anything p.first x y calls r.0.calls p.polled (round_made answers node now x wire r.0.calls r.0.told y left r.0.round)),
-        round_cut node now calls x wire r.0.calls r.0.told y left p r.0.round,
-      )
-      over_cut node now calls (Stopped stop) x result y left p c r =
+      over_cut : (l : NodeLine S) (now : ℕ) (calls : List Call) (line : Line S) (x : Exchange) (result : Result (Unit {0}) AllocError) (y : Exchange) (left : Line S) → WasPolled core intake calls x
+          → IsCut core intake calls line → RoundOver answers l now line x result y left → Goes calls y (λ cs. IsCut core intake cs left)
+      over_cut l now calls (Open wire) x result y left p c r =
+          let most = most_requests l.window l.node x.core in
+          let made = round_made answers most l.node now (with_strays l.strays x) wire r.0.calls r.0.told y left r.0.round in (
+            r.0.calls,
+            polled_by calls r.0.calls x y p (made_behind anything l.strays p.first x y calls r.0.calls p.polled made),
+            round_cut most l.node now l.strays calls x wire r.0.calls r.0.told y left p r.0.round,
+          )
+      over_cut l now calls (Stopped stop) x result y left p c r =
           ([], stays calls x y r.0 p, subst (IsCut core intake (calls ++ [])) (sym r.1) (line_more calls [] (Stopped stop) c))
 
       each_cut : (now : ℕ) (calls : List Call) (x y : Exchange) (ls ms : List (NodeLine S)) (result : Result (Unit {0}) AllocError) → WasPolled core intake calls x
           → AreCut core intake calls ls → RoundsEach answers now x ls result y ms → Goes calls y (λ cs. AreCut core intake cs ms)
       each_cut now calls x _ _ _ _ p c (RoundsEach.each_had_one _) = ([], stays calls x x refl p, tt)
       each_cut now calls x _ _ _ _ p c (RoundsEach.goes_on _ y z l m ls ms last line rest) =
-          let first = over_cut l.node now calls l.line x (Ok tt) y m.line p c.0 line.round in
+          let first = over_cut l now calls l.line x (Ok tt) y m.line p c.0 line.round in
           let others = each_cut now (calls ++ first.0) y z ls ms last first.1 (all_more calls first.0 ls c.1) rest in
           let all : List Call → Type 0 = λ cs. WasPolled core intake cs z × (IsCut core intake cs m.line × AreCut core intake cs ms) in
           let moved = subst all (append_assoc calls first.0 others.0) (others.1, (line_more (calls ++ first.0) others.0 m.line first.2, others.2)) in
           (first.0 ++ others.0, moved.0, moved.1)
       each_cut now calls x _ _ _ _ p c (RoundsEach.ends _ y l m ls refused line) =
-          let first = over_cut l.node now calls l.line x (Err refused) y m.line p c.0 line.round in
+          let first = over_cut l now calls l.line x (Err refused) y m.line p c.0 line.round in
           (first.0, first.1, (first.2, all_more calls first.0 ls c.1))
 
       -- a poll over several

@@ -24,7 +24,7 @@ use Rattle.kp_frames.proofs.KeptLemmas.{keeps}
 use Rattle.kp_frames.proofs.StreamLemmas.{faulty_so, passes_spelled}
 use Rattle.kp_rules.specs.Calls.{Call}
 use Rattle.kp_rules.specs.declared.fault.CoreFault.TheVariants.{OutOfMemory, ReplyFault}
-use Rattle.kp_engine.specs.Exchange.{OnlyCore, Runs, kept_calls}
+use Rattle.kp_engine.specs.Exchange.{OnlyCore, Runs, notes_in}
 use Rattle.kp_engine.specs.Talking.{CutBy, HearsAtHand, HearsEach, HearsLast, HearsNext, HearsOn, HearsOne, HeardAll, HearsUntil, Listens, ListensCut, ListensOn, ListensOnce, ListensUntil, ReadsOn, Talks, TalksUntil, contents_of, steps_left}
 use Rattle.kp_engine.specs.Turn.{GoesOn, Heard, hears, lacking_memory, refused_with}
 use Rattle.kp_engine.specs.declared.exchange.Exchange.{Exchange}
@@ -44,7 +44,7 @@ use Rattle.kp_engine.proofs.TalkLemmas.{only_same, only_then}
 -- Nothing was made of the core, but perhaps room in its notes.
 pub record Still (x y : Exchange) : Type 0 where
   pub core : y.core ≡ x.core
-  pub calls : kept_calls y ≡ kept_calls x
+  pub calls : notes_in y ≡ notes_in x
   pub only : OnlyCore x y
 
 pub still_same : (x : Exchange) → Still x x

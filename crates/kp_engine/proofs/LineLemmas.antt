@@ -13,7 +13,9 @@ use Rattle.kp_rules.specs.Calls.{Call}
 use Rattle.kp_engine.specs.Closing.{Polled}
 use Rattle.kp_engine.specs.Cluster.{PollsCluster}
 use Rattle.kp_engine.specs.Engine.{IfOpen, stop_in}
+use Rattle.kp_engine.specs.Exchange.{with_strays}
 use Rattle.kp_engine.specs.Lines.{LineRound, RoundOver, RoundsEach, is_given_up, is_lost, node_lost, stop_at}
+use Rattle.kp_engine.specs.Window.{most_requests}
 use Rattle.kp_engine.specs.declared.cluster.ClusterEngine.{ClusterEngine}
 use Rattle.kp_engine.specs.declared.engine.Line.{Line}
 use Rattle.kp_engine.specs.declared.engine.Line.TheVariants.{Open, Stopped}
@@ -21,7 +23,7 @@ use Rattle.kp_engine.specs.declared.exchange.Exchange.{Exchange}
 use Rattle.kp_engine.specs.declared.node_line.NodeLine.{NodeLine}
 use Rattle.kp_engine.specs.declared.stop.Stop.{Stop}
 use Rattle.kp_engine.proofs.ClosingLemmas.{polls_then}
-use Rattle.kp_engine.proofs.RoundLemmas.{made_polled, round_made}
+use Rattle.kp_engine.proofs.RoundLemmas.{made_behind, round_made}
 
 -- ---- who wakes
 
@@ -96,20 +98,21 @@ module _ {S T : Type 0} (answers : Told S) (other : Told T) where
   none_polled : (x y : Exchange) → y ≡ x → ArePolls other x y
   none_polled x y is = subst (ArePolls other x) (sym is) ([], Polled.not_yet)
 
-  round_polled : (node now : ℕ) (line : Line S) (x : Exchange) (result : Result (Unit {0}) AllocError) (y : Exchange) (left : Line S)
-      → RoundOver answers node now line x result y left → ArePolls other x y
-  round_polled node now (Open wire) x result y left r =
-      (r.0.calls, made_polled other x x y [] r.0.calls Polled.not_yet (round_made answers node now x wire r.0.calls r.0.told y left r.0.round))
-  round_polled node now (Stopped stop) x result y left r = none_polled x y r.0
+  round_polled : (l : NodeLine S) (now : ℕ) (line : Line S) (x : Exchange) (result : Result (Unit {0}) AllocError) (y : Exchange) (left : Line S)
+      → RoundOver answers l now line x result y left → ArePolls other x y
+  round_polled l now (Open wire) x result y left r =
+      let made = round_made answers (most_requests l.window l.node x.core) l.node now (with_strays l.strays x) wire r.0.calls r.0.told y left r.0.round in
+      (r.0.calls, made_behind other l.strays x x y [] r.0.calls Polled.not_yet made)
+  round_polled l now (Stopped stop) x result y left r = none_polled x y r.0
 
   rounds_polled : (now : ℕ) (x y : Exchange) (ls ms : List (NodeLine S)) (result : Result (Unit {0}) AllocError)
       → RoundsEach answers now x ls result y ms → ArePolls other x y
   rounds_polled now x _ _ _ _ (RoundsEach.each_had_one _) = ([], Polled.not_yet)
   rounds_polled now x _ _ _ _ (RoundsEach.goes_on _ y z l m ls ms last line rest) =
-      let first = round_polled l.node now l.line x (Ok tt) y m.line line.round in
+      let first = round_polled l now l.line x (Ok tt) y m.line line.round in
       let others = rounds_polled now y z ls ms last rest in
       (first.0 ++ others.0, polls_then other x y z first.0 others.0 first.1 others.1)
-  rounds_polled now x _ _ _ _ (RoundsEach.ends _ y l m ls refused line) = round_polled l.node now l.line x (Err refused) y m.line line.round
+  rounds_polled now x _ _ _ _ (RoundsEach.ends _ y l m ls refused line) = round_polled l now l.line x (Err refused) y m.line line.round
 
   -- a poll over several
   pub cluster_polled : {C : Type 0} (moments : C → List ℕ) (old new : ClusterEngine S C) (result : Poll Stop)

@@ -1,7 +1,8 @@
 -- What a connection's round makes.
 use Rattle.std.proofs.Common.{◌≡◌, ℕ, List, [], ◌∷◌, ◌++◌, map, refl, sym, ap, subst, ◌∙◌, append-nil}
-use Rattle.std.specs.Prelude.{Option, Some, None, Result, Ok, flat_map}
+use Rattle.std.specs.Prelude.{Option, Some, None, Result, Ok, Err, IfOk, OnErr, flat_map}
 use Rattle.std.specs.List.{AllByRecursion}
+use Rattle.std.specs.declared.alloc.AllocError.{AllocError}
 use Rattle.kp_connection.specs.Answers.{Answer}
 use Rattle.kp_connection.specs.Wire.{Told, Wired}
 use Rattle.kp_wire.proofs.ListLemmas.{all_append}
@@ -10,13 +11,14 @@ use Rattle.kp_rules.specs.InOrder.{IsHeld}
 use Rattle.kp_rules.specs.declared.fault.CoreFault.{CoreFault}
 use Rattle.kp_rules.specs.declared.outgoing.Outgoing.{Outgoing}
 use Rattle.kp_engine.specs.Closing.{IsTalk, Polled, closing}
-use Rattle.kp_engine.specs.Exchange.{OnlyCore}
+use Rattle.kp_engine.specs.Exchange.{OnlyCore, with_strays}
 use Rattle.kp_engine.specs.Polls.{TalkUntil}
-use Rattle.kp_engine.specs.Rounds.{Makes, Rounds}
+use Rattle.kp_engine.specs.Rounds.{Drops, HasRound, IsCut, Makes, Rounds, line_behind}
 use Rattle.kp_engine.specs.Serving.{HasPlaces, Served}
 use Rattle.kp_engine.specs.Turn.{Heard, RequestsPart, asks, hears, requests}
 use Rattle.kp_engine.specs.declared.engine.Line.{Line}
 use Rattle.kp_engine.specs.declared.exchange.Exchange.{Exchange}
+use Rattle.kp_engine.specs.declared.stop.Cause.{Cause}
 use Rattle.kp_engine.proofs.RunLemmas.{runs_then}
 use Rattle.kp_engine.proofs.ServedLemmas.{only_core_serves}
 use Rattle.kp_engine.proofs.ServingLemmas.{Silent}
@@ -88,6 +90,14 @@ made_serves x y calls places m = talk_serves x y calls m.makes.runs.life places 
 pub made_polled : {S : Type 0} (answers : Told S) (x y z : Exchange) (calls its : List Call) → Polled answers x calls y → IsMade y its z → Polled answers x (calls ++ its) z
 made_polled answers x y z calls its before m = Polled.talked y z calls its m.makes.runs.life before m.talk m.makes.runs.lives m.makes.runs.held m.makes.only
 
+only_behind : (n : ℕ) (x y : Exchange) → OnlyCore (with_strays n x) y → OnlyCore x y
+only_behind n x y only = record { intake = only.intake; items = only.items; reports = only.reports; closed = only.closed }
+
+-- behind replies over a connection of which so many named no request
+pub made_behind : {S : Type 0} (answers : Told S) (n : ℕ) (x y z : Exchange) (calls its : List Call) → Polled answers x calls y → IsMade (with_strays n y) its z → Polled answers x (calls ++ its) z
+made_behind answers n x y z calls its before m =
+    Polled.talked y z calls its m.makes.runs.life before m.talk m.makes.runs.lives m.makes.runs.held (only_behind n y z m.makes.only)
+
 -- ---- the parts of a round
 
 all_made : {B : Type 0} (make : B → Call) → ((x : B) → IsTalk (make x)) → (xs : List B) → AllTalk (map make xs)
@@ -119,26 +129,49 @@ makes_then x y z a b p q = record { runs = runs_then x y z a b p.runs q.runs; on
 
 -- ---- a round
 
-pub round_made : {S : Type 0} (answers : Told S) (node now : ℕ) (x : Exchange) (w : Wired S) (calls : List Call) (xs : List Answer) (y : Exchange) (left : Line S)
-    → Rounds answers node now x w calls xs y left → IsMade x calls y
-round_made answers node now x w _ _ _ _ (Rounds.goes_on y v on_time talks) = record {
+cut_made : {S : Type 0} (answers : Told S) (most node now : ℕ) (x : Exchange) (w : Wired S) (calls : List Call) (xs : List Answer) (cause : Cause) (y : Exchange) (v : Wired S)
+    → IsCut answers most node now x w calls xs cause y v → IsMade x calls y
+cut_made answers most node now x w _ _ _ _ _ (IsCut.by_talk cause y v talks) = record {
   makes = record { runs = talks.talks.runs; only = talks.talks.only };
   talk = of_both node now talks.sent talks.heard talks.asked talks.replied talks.of_requests talks.of_replies.made;
 }
-round_made answers node now x w _ _ _ _ (Rounds.is_cut after y cause v talks drops) =
-    let spoken = of_both node now talks.sent talks.heard talks.asked talks.replied talks.of_requests talks.of_replies.made in
+cut_made answers most node now x w _ _ _ _ _ (IsCut.by_strays y v on_time talks many) = record {
+  makes = record { runs = talks.talks.runs; only = talks.talks.only };
+  talk = of_both node now talks.sent talks.heard talks.asked talks.replied talks.of_requests talks.of_replies.made;
+}
+
+pub round_made : {S : Type 0} (answers : Told S) (most node now : ℕ) (x : Exchange) (w : Wired S) (calls : List Call) (xs : List Answer) (y : Exchange) (left : Line S)
+    → Rounds answers most node now x w calls xs y left → IsMade x calls y
+round_made answers most node now x w _ _ _ _ (Rounds.goes_on y v on_time talks few) = record {
+  makes = record { runs = talks.talks.runs; only = talks.talks.only };
+  talk = of_both node now talks.sent talks.heard talks.asked talks.replied talks.of_requests talks.of_replies.made;
+}
+round_made answers most node now x w _ _ _ _ (Rounds.is_cut calls xs after y cause v cut drops) =
+    let made = cut_made answers most node now x w calls xs cause after v cut in
     record {
-      makes = makes_then x after y (talks.asked ++ talks.replied) (Disconnect node now ∷ []) (record { runs = talks.talks.runs; only = talks.talks.only }) drops;
-      talk = all_append IsTalk (talks.asked ++ talks.replied) (Disconnect node now ∷ []) spoken (tt, tt);
+      makes = makes_then x after y calls (Disconnect node now ∷ []) made.makes drops;
+      talk = all_append IsTalk calls (Disconnect node now ∷ []) made.talk (tt, tt);
     }
-round_made answers node now x w _ _ _ _ (Rounds.no_talk y v talks) = record {
+round_made answers most node now x w _ _ _ _ (Rounds.no_talk y v talks) = record {
   makes = record { runs = talks.talks.runs; only = talks.talks.only };
   talk = of_until node now talks.sent talks.heard talks.calls talks.until;
 }
-round_made answers node now x w _ _ _ _ (Rounds.no_drop after y cause v talks none) =
-    let made = talks.asked ++ talks.replied in
+round_made answers most node now x w _ _ _ _ (Rounds.no_drop calls xs after y cause v cut none) =
+    let made = cut_made answers most node now x w calls xs cause after v cut in
     record {
-      makes = subst (λ (cs : List Call). Makes cs x y) (append-nil made)
-          (makes_then x after y made [] (record { runs = talks.talks.runs; only = talks.talks.only }) none);
-      talk = of_both node now talks.sent talks.heard talks.asked talks.replied talks.of_requests talks.of_replies.made;
+      makes = subst (λ (cs : List Call). Makes cs x y) (append-nil calls) (makes_then x after y calls [] made.makes none);
+      talk = made.talk;
     }
+
+-- what giving it up behind that leaves
+pub given_up : {S : Type 0} (answers : Told S) (most node now : ℕ) (x : Exchange) (w : Wired S) (calls : List Call) (xs : List Answer) (cause : Cause) (after : Exchange) (v : Wired S)
+    → IsCut answers most node now x w calls xs cause after v → (result : Result (Option Cause) AllocError) (y : Exchange)
+    → IfOk result (λ cut. (cut ≡ Some cause) × Drops node now after y) → OnErr result (Makes [] after y) → HasRound answers most node now x w y (line_behind result v)
+given_up answers most node now x w calls xs cause after v cut (Ok found) y drops none =
+    subst (λ (o : Option Cause). HasRound answers most node now x w y (line_behind (Ok o) v)) (sym drops.0)
+    (record { calls = _; told = _; round = Rounds.is_cut calls xs after y cause v cut drops.1 })
+given_up answers most node now x w calls xs cause after v cut (Err refused) y drops none = record {
+  calls = _;
+  told = _;
+  round = Rounds.no_drop calls xs after y cause v cut none;
+}

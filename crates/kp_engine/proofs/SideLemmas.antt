@@ -10,7 +10,7 @@ use Rattle.kp_lanes.specs.declared.intake.Intake.{Intake}
 use Rattle.kp_rules.specs.declared.outcome.Report.{Report}
 use Rattle.kp_rules.specs.Calls.{Call}
 use Rattle.kp_engine.specs.Agreement.{held_at}
-use Rattle.kp_engine.specs.Exchange.{IsIdle, OnlyCore, Runs, SameLanes, TookEnough, TookNone, WasBusy, kept_calls, mail_of, senders_of, side_of}
+use Rattle.kp_engine.specs.Exchange.{IsIdle, OnlyCore, Runs, SameLanes, TookEnough, TookNone, WasBusy, notes_in, mail_of, senders_of, side_of}
 use Rattle.kp_engine.specs.Turn.{Side}
 use Rattle.kp_engine.specs.Steps.{OnlyItem, OnlyLane, OnlySide}
 use Rattle.kp_engine.specs.declared.exchange.Exchange.{Exchange}
@@ -121,5 +121,5 @@ enough_same i old a b side lanes view h = enough_still i old a b (ap (λ (s : Si
 
 -- ---- calls behind what changes neither the core nor what is kept
 
-pub runs_from : (a b c : Exchange) (xs : List Call) → b.core ≡ a.core → kept_calls b ≡ kept_calls a → Runs b xs c → Runs a xs c
+pub runs_from : (a b c : Exchange) (xs : List Call) → b.core ≡ a.core → notes_in b ≡ notes_in a → Runs b xs c → Runs a xs c
 runs_from a b c xs core kept p = runs_then a b c [] xs (runs_none a b core kept) p

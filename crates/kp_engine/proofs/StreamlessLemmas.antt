@@ -6,7 +6,7 @@ use Rattle.kp_connection.specs.Answers.{Answer}
 use Rattle.kp_connection.specs.Wire.{Goes, Stops, Told, Wired}
 use Rattle.kp_engine.specs.Engine.{Polls, line_after}
 use Rattle.kp_engine.specs.Made.{anything}
-use Rattle.kp_engine.specs.Polls.{TalksCut, Turns, TurnsCut, TurnsOn, TurnsOut}
+use Rattle.kp_engine.specs.Polls.{TalksCut, TalksOn, Turns, TurnsCut, TurnsOn, TurnsOut}
 use Rattle.kp_engine.specs.declared.engine.Line.{Line}
 use Rattle.kp_engine.specs.declared.engine.Line.TheVariants.{Open, Stopped}
 use Rattle.kp_engine.specs.declared.exchange.Exchange.{Exchange}
@@ -27,10 +27,10 @@ module _ {S : Type 0} where
   left_so (Ready stop) w = refl
 
   module _ (answers : Told S) where
-    goes_so : (w v : Wired S) (sent heard : List (List ℕ)) (xs : List Answer) → Goes answers w sent heard xs v → Goes anything (no_wire w) sent heard xs (no_wire v)
+    pub goes_so : (w v : Wired S) (sent heard : List (List ℕ)) (xs : List Answer) → Goes answers w sent heard xs v → Goes anything (no_wire w) sent heard xs (no_wire v)
     goes_so w v sent heard xs g = record { told = tt; written = g.written; read = g.read; contents = g.contents }
 
-    stops_so : (w v : Wired S) (sent heard : List (List ℕ)) (xs : List Answer) → Stops answers w sent heard xs v → Stops anything (no_wire w) sent heard xs (no_wire v)
+    pub stops_so : (w v : Wired S) (sent heard : List (List ℕ)) (xs : List Answer) → Stops answers w sent heard xs v → Stops anything (no_wire w) sent heard xs (no_wire v)
     stops_so w v sent heard xs g = record { told = tt; unwritten = g.unwritten; written = g.written; unheard = g.unheard; read = g.read; contents = g.contents }
 
     module _ (node now : ℕ) (x : Exchange) (w : Wired S) (y : Exchange) (v : Wired S) where
@@ -96,9 +96,9 @@ module _ {S : Type 0} where
     poll_so (Stopped stop) x result y left p = (p.0, p.1, ap no_line p.2)
 
     -- what cuts a connection
-    pub talks_cut_so : (node now : ℕ) (late : Bool) (x : Exchange) (w : Wired S) (cause : Cause) (y : Exchange) (v : Wired S) → TalksCut answers node now late x w cause y v
-        → TalksCut anything node now late x (no_wire w) cause y (no_wire v)
-    talks_cut_so node now late x w cause y v t = record {
+    abbrev pub talks_cut_so : (most node now : ℕ) (late : Bool) (x : Exchange) (w : Wired S) (cause : Cause) (y : Exchange) (v : Wired S) → TalksCut answers most node now late x w cause y v
+        → TalksCut anything most node now late x (no_wire w) cause y (no_wire v)
+    talks_cut_so most node now late x w cause y v t = record {
       sent = t.sent;
       heard = t.heard;
       refused = t.refused;
@@ -107,6 +107,24 @@ module _ {S : Type 0} where
       xs = t.xs;
       of_requests = t.of_requests;
       of_replies = t.of_replies;
+      within = t.within;
       talks = record { runs = t.talks.runs; only = t.talks.only; stops = stops_so w v _ _ t.xs t.talks.stops };
       cut = t.cut;
+    }
+
+    -- and what lets it go on
+    abbrev pub talks_on_so : (most node now : ℕ) (x : Exchange) (w : Wired S) (y : Exchange) (v : Wired S) → TalksOn answers most node now x w y v
+        → TalksOn anything most node now x (no_wire w) y (no_wire v)
+    talks_on_so most node now x w y v t = record {
+      sent = t.sent;
+      heard = t.heard;
+      asked = t.asked;
+      replied = t.replied;
+      xs = t.xs;
+      of_requests = t.of_requests;
+      of_replies = t.of_replies;
+      talks = record { runs = t.talks.runs; only = t.talks.only; goes = goes_so w v _ _ t.xs t.talks.goes };
+      within = t.within;
+      waits = record { all = t.waits.all; kept = t.waits.kept; enough = t.waits.enough };
+      sound = t.sound;
     }

@@ -1,5 +1,5 @@
 -- Requests and replies of a turn together.
-use Rattle.std.proofs.Common.{◌≡◌, ◌⊎◌, ℕ, Bool, true, false, List, [], ◌++◌, length, map, Some, None, Ok, Err, refl, sym, ap, subst, ◌∙◌, inl, inr, append-nil, append_assoc, arith}
+use Rattle.std.proofs.Common.{◌≡◌, ◌⊎◌, ℕ, Bool, true, false, List, [], ◌++◌, ◌≤◌, length, map, Some, None, Ok, Err, refl, sym, ap, subst, ◌∙◌, inl, inr, append-nil, append_assoc, arith}
 use Rattle.std.specs.Prelude.{Option, Result}
 use Rattle.std.specs.declared.alloc.AllocError.{AllocError}
 use Rattle.std.proofs.lemmas.List.Concat.{flat_map-append}
@@ -36,8 +36,8 @@ module _ {S : Type 0} (answers : Told S) where
   }
 
   -- nothing was tried, since a request has waited too long
-  pub too_late : ((s : S) → answers s [] s) → (node now : ℕ) (late : Bool) (x : Exchange) (w : Wired S) → late ≡ true → TalksCut answers node now late x w TimedOut x w
-  too_late nothing node now late x w is = record {
+  pub too_late : ((s : S) → answers s [] s) → (most node now : ℕ) (late : Bool) (x : Exchange) (w : Wired S) → late ≡ true → TalksCut answers most node now late x w TimedOut x w
+  too_late nothing most node now late x w is = record {
     sent = [];
     heard = [];
     refused = None;
@@ -46,34 +46,37 @@ module _ {S : Type 0} (answers : Told S) where
     xs = [];
     of_requests = record { last = None; few = omega arith; none = λ answer some. absurd (none_some some); made = refl };
     of_replies = no_replies now;
+    within = omega arith;
     talks = talks_until x x w w [] [] [] [] (talks_none answers nothing x w);
     cut = (is, refl, refl);
   }
 
   -- a write failed
-  pub cut_by_write : (node now : ℕ) (x y : Exchange) (w v : Wired S) → WritesCut answers node now x w y v → TalksCut answers node now false x w Io y v
-  cut_by_write node now x y w v p = record {
+  pub cut_by_write : (most node now : ℕ) (x y : Exchange) (w v : Wired S) → most ≤ 16 → WritesCut answers most node now x w y v → TalksCut answers most node now false x w Io y v
+  cut_by_write most node now x y w v bound p = record {
     sent = p.sent;
     heard = [];
     refused = None;
     asked = requests node now p.sent;
     replied = [];
     xs = p.xs;
-    of_requests = record { last = None; few = omega (arith, p.few); none = λ answer some. absurd (none_some some); made = sym (append-nil (requests node now p.sent)) };
+    of_requests = record { last = None; few = omega (arith, p.few, bound); none = λ answer some. absurd (none_some some); made = sym (append-nil (requests node now p.sent)) };
     of_replies = no_replies now;
+    within = p.few;
     talks = subst (λ (c : List Call). TalksUntil answers x w p.sent [] c p.xs y v) (sym (append-nil (requests node now p.sent)))
         (talks_until x y w v p.sent [] (requests node now p.sent) p.xs p.talks);
     cut = (refl, refl, inr p.failed);
   }
 
   -- memory was refused while requests were asked for
-  pub out_in_requests : (node now : ℕ) (x y : Exchange) (w v : Wired S) → WritesUntil answers node now x w y v → TalksOut answers node now x w y v
-  out_in_requests node now x y w v p = record {
+  pub out_in_requests : (most node now : ℕ) (x y : Exchange) (w v : Wired S) → most ≤ 16 → WritesUntil answers most node now x w y v → TalksOut answers most node now x w y v
+  out_in_requests most node now x y w v bound p = record {
     sent = p.sent;
     heard = [];
     calls = requests node now p.sent ++ asks node now p.last;
     xs = p.xs;
-    until = TalkUntil.in_requests p.sent (requests node now p.sent ++ asks node now p.last) (record { last = p.last; few = p.few; lacking = p.lacking; made = refl });
+    until = TalkUntil.in_requests p.sent (requests node now p.sent ++ asks node now p.last) (record { last = p.last; few = omega (arith, p.few, bound); lacking = p.lacking; made = refl });
+    within = omega (arith, p.few);
     talks = talks_until x y w v p.sent [] (requests node now p.sent ++ asks node now p.last) p.xs p.talks;
   }
 
@@ -88,15 +91,15 @@ module _ {S : Type 0} (answers : Told S) where
           (Stops-then answers in_order w v u (frames_of sent) (contents_of heard) (frames_of more) (contents_of news) xs ys p.goes q.stops);
     }
 
-    module _ (node now : ℕ) (x y z : Exchange) (w v u : Wired S) (writes : WritesOn answers node now x w y v) where
+    module _ (most node now : ℕ) (x y z : Exchange) (w v u : Wired S) (bound : most ≤ 16) (writes : WritesOn answers most node now x w y v) where
       abbrev asked : List Call
       asked = requests node now writes.sent ++ asks node now writes.last
 
       abbrev of_requests : RequestsPart node now writes.sent asked
-      of_requests = record { last = writes.last; few = writes.few; none = writes.none; made = refl }
+      of_requests = record { last = writes.last; few = omega (arith, writes.few, bound); none = writes.none; made = refl }
 
       -- requests were written, and replies heard
-      pub went_on : ListensOn answers now 16 y v z u → TalksOn answers node now x w z u
+      pub went_on : ListensOn answers now 16 y v z u → TalksOn answers most node now x w z u
       went_on p = record {
         sent = writes.sent;
         heard = p.heard;
@@ -107,6 +110,7 @@ module _ {S : Type 0} (answers : Told S) where
         of_replies = record { before = p.heard; are_heard = sym (append-nil p.heard); few = p.few; going = p.on.going; made = refl };
         talks = subst (λ (sent : List Outgoing). Talks answers x w sent p.heard (asked ++ map (hears now) p.heard) (writes.xs ++ p.xs) z u) (append-nil writes.sent)
             (talks_then answers in_order x y z w v u writes.sent [] [] p.heard asked (map (hears now) p.heard) writes.xs p.xs writes.talks p.on.talks);
+        within = omega (arith, writes.few);
         waits = record { all = all writes.all; kept = kept writes.kept; enough = enough p.enough };
         sound = p.sound;
       }
@@ -156,7 +160,7 @@ module _ {S : Type 0} (answers : Told S) where
           (subst (λ (heard : List Heard). HeardAll 16 v.held ys heard) (sym (append-nil before)) h)
 
       -- requests were written, and the connection was of no use any more while replies were heard
-      pub cut_by_read : (cause : Cause) → ListensCut answers now 16 y v cause z u → TalksCut answers node now false x w cause z u
+      pub cut_by_read : (cause : Cause) → ListensCut answers now 16 y v cause z u → TalksCut answers most node now false x w cause z u
       cut_by_read cause p =
           let heard = p.before ++ refused_with p.refused in
           record {
@@ -168,13 +172,14 @@ module _ {S : Type 0} (answers : Told S) where
             xs = writes.xs ++ p.xs;
             of_requests = of_requests;
             of_replies = record { before = p.before; are_heard = refl; few = p.few; going = p.going; made = refl };
+            within = omega (arith, writes.few);
             talks = subst (λ (sent : List Outgoing). TalksUntil answers x w sent heard (asked ++ map (hears now) heard) (writes.xs ++ p.xs) z u) (append-nil writes.sent)
                 (talks_then_until x y z w v u writes.sent [] [] heard asked (map (hears now) heard) writes.xs p.xs writes.talks p.talks);
             cut = cut_behind p.xs heard p.refused (asked ++ map (hears now) heard) cause p.cut (λ none. heard_before p.xs p.before p.refused (p.all none) none);
           }
 
       -- requests were written, and memory was refused while replies were heard
-      pub out_in_replies : ListensUntil answers now 16 y v z u → TalksOut answers node now x w z u
+      pub out_in_replies : ListensUntil answers now 16 y v z u → TalksOut answers most node now x w z u
       out_in_replies p =
           let heard = p.before ++ lacking_memory p.lacking in
           record {
@@ -184,18 +189,19 @@ module _ {S : Type 0} (answers : Told S) where
             xs = writes.xs ++ p.xs;
             until = TalkUntil.in_replies writes.sent heard asked (map (hears now) heard) of_requests
                 (record { before = p.before; lacking = p.lacking; are_heard = refl; few = p.few; going = p.going; made = refl });
+            within = omega (arith, writes.few);
             talks = subst (λ (sent : List Outgoing). TalksUntil answers x w sent heard (asked ++ map (hears now) heard) (writes.xs ++ p.xs) z u) (append-nil writes.sent)
                 (talks_then_until x y z w v u writes.sent [] [] heard asked (map (hears now) heard) writes.xs p.xs writes.talks p.talks);
           }
 
       -- whatever listening answered
-      pub talked : (late : Bool) → late ≡ false → (r : Result (Option Cause) AllocError) → Listens answers now 16 y v r z u → TalksAll answers node now late x w r z u
+      pub talked : (late : Bool) → late ≡ false → (r : Result (Option Cause) AllocError) → Listens answers now 16 y v r z u → TalksAll answers most node now late x w r z u
       talked late on_time (Ok None) p = (on_time, went_on p)
-      talked late on_time (Ok (Some cause)) p = subst (λ (b : Bool). TalksCut answers node now b x w cause z u) (sym on_time) (cut_by_read cause p)
+      talked late on_time (Ok (Some cause)) p = subst (λ (b : Bool). TalksCut answers most node now b x w cause z u) (sym on_time) (cut_by_read cause p)
       talked late on_time (Err refused) p = out_in_replies p
 
 -- whatever was answered, calls were made on the core alone
-pub talks_only : {S : Type 0} (answers : Told S) (node now : ℕ) (late : Bool) (x : Exchange) (w : Wired S) (r : Result (Option Cause) AllocError) (y : Exchange) (v : Wired S) → TalksAll answers node now late x w r y v → OnlyCore x y
-talks_only answers node now late x w (Ok None) y v p = p.1.talks.only
-talks_only answers node now late x w (Ok (Some cause)) y v p = p.talks.only
-talks_only answers node now late x w (Err refused) y v p = p.talks.only
+pub talks_only : {S : Type 0} (answers : Told S) (most node now : ℕ) (late : Bool) (x : Exchange) (w : Wired S) (r : Result (Option Cause) AllocError) (y : Exchange) (v : Wired S) → TalksAll answers most node now late x w r y v → OnlyCore x y
+talks_only answers most node now late x w (Ok None) y v p = p.1.talks.only
+talks_only answers most node now late x w (Ok (Some cause)) y v p = p.talks.only
+talks_only answers most node now late x w (Err refused) y v p = p.talks.only

@@ -209,7 +209,7 @@ module _ (node now : ℕ) (x a b c d : Exchange) (idle : Bool) (ticked : Ticked)
 
   module _ {S : Type 0} (answers : Told S) (w v : Wired S) where
     -- the connection goes on
-    pub turned_on : (done : Bool) → ticked.reconnect ≡ false → TalksOn answers node now b w c v → FinishesAll node now None c idle done d → TurnsOn answers node now x w d v
+    pub turned_on : (done : Bool) → ticked.reconnect ≡ false → TalksOn answers 16 node now b w c v → FinishesAll node now None c idle done d → TurnsOn answers node now x w d v
     unfolding whole
     turned_on done on_time p f = record {
       sent = p.sent;
@@ -250,7 +250,7 @@ module _ (node now : ℕ) (x a b c d : Exchange) (idle : Bool) (ticked : Ticked)
         not_late late is so = cc
 
     -- the connection is of no use any more
-    pub turned_cut : (done : Bool) (cause : Cause) → TalksCut answers node now ticked.reconnect b w cause c v → FinishesAll node now (Some cause) c idle done d → TurnsCut answers node now x w cause d v
+    pub turned_cut : (done : Bool) (cause : Cause) → TalksCut answers 16 node now ticked.reconnect b w cause c v → FinishesAll node now (Some cause) c idle done d → TurnsCut answers node now x w cause d v
     unfolding whole
     turned_cut done cause p f =
         let l = late_cut cause w.held p.xs p.heard p.refused (p.asked ++ p.replied) p.cut in record {
@@ -267,13 +267,13 @@ module _ (node now : ℕ) (x a b c d : Exchange) (idle : Bool) (ticked : Ticked)
         }
 
     -- what a turn answers, by its end
-    pub turned : (done : Bool) (cut : Option Cause) → TalksAll answers node now ticked.reconnect b w (Ok cut) c v → FinishesAll node now cut c idle done d → Turns answers node now x w (stop_of done cut) d v
+    pub turned : (done : Bool) (cut : Option Cause) → TalksAll answers 16 node now ticked.reconnect b w (Ok cut) c v → FinishesAll node now cut c idle done d → Turns answers node now x w (stop_of done cut) d v
     turned true None p f = (ends_done None f, inl (turned_on true p.0 p.1 f))
     turned true (Some cause) p f = (ends_done (Some cause) f, inr (cause, turned_cut true cause p f))
     turned false None p f = turned_on false p.0 p.1 f
     turned false (Some cause) p f = turned_cut false cause p f
 
-    pub out_in_reports : (cut : Option Cause) → TalksAll answers node now ticked.reconnect b w (Ok cut) c v → FinishesUntil node now cut c d → TurnsOut answers node now x w d v
+    pub out_in_reports : (cut : Option Cause) → TalksAll answers 16 node now ticked.reconnect b w (Ok cut) c v → FinishesUntil node now cut c d → TurnsOut answers node now x w d v
     out_in_reports None p f =
         let t = p.1 in record {
           sent = t.sent;
@@ -352,7 +352,7 @@ module _ {S : Type 0} (answers : Told S) (nothing : (s : S) → answers s [] s) 
       stops = nothing_stops;
     }
 
-    pub out_in_talk : (ticked : Ticked) (c : Exchange) (v : Wired S) → Runs a (Tick node now ticked ∷ []) b → TalksOut answers node now b w c v → TurnsOut answers node now x w c v
+    pub out_in_talk : (ticked : Ticked) (c : Exchange) (v : Wired S) → Runs a (Tick node now ticked ∷ []) b → TalksOut answers 16 node now b w c v → TurnsOut answers node now x w c v
     out_in_talk ticked c v ticks p = record {
       sent = p.sent;
       heard = p.heard;

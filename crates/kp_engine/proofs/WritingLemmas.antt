@@ -34,13 +34,13 @@ nothing_written answers nothing node now x w = record { sent = []; xs = []; len 
 requests_then : (node now : ℕ) (a b : List Outgoing) → requests node now (a ++ b) ≡ requests node now a ++ requests node now b
 requests_then node now a b = map-append (λ (request : Outgoing). Request node now (Ok (Some request))) a b
 
-module _ {S : Type 0} (answers : Told S) (nothing : (s : S) → answers s [] s) (in_order : (a : S) (xs : List Answer) (b : S) (ys : List Answer) (c : S) → answers a xs b → answers b ys c → answers a (xs ++ ys) c) (node now count : ℕ) (x : Exchange) (w : Wired S) (y : Exchange) (v u : Wired S) (so_far : Written answers node now count x w y v) where
+module _ {S : Type 0} (answers : Told S) (nothing : (s : S) → answers s [] s) (in_order : (a : S) (xs : List Answer) (b : S) (ys : List Answer) (c : S) → answers a xs b → answers b ys c → answers a (xs ++ ys) c) (most node now count : ℕ) (x : Exchange) (w : Wired S) (y : Exchange) (v u : Wired S) (so_far : Written answers node now count x w y v) where
   -- after a write of what was kept
   after_write : (ys : List Answer) → Goes answers v [] [] ys u → Talks answers x w so_far.sent [] (requests node now so_far.sent) (so_far.xs ++ ys) y u
   after_write ys goes = talks_then_wire answers in_order x y w v u so_far.sent [] (requests node now so_far.sent) so_far.xs ys so_far.talks goes
 
   -- the write waited
-  pub write_waited : count ≤ 16 → Writes answers v Pending u → WritesOn answers node now x w y u
+  pub write_waited : count ≤ most → Writes answers v Pending u → WritesOn answers most node now x w y u
   write_waited few p =
       let met = Contains-append_right so_far.xs p.xs Write_waits p.waited in
       record {
@@ -56,7 +56,7 @@ module _ {S : Type 0} (answers : Told S) (nothing : (s : S) → answers s [] s) 
       }
 
   -- the write failed or took no bytes
-  pub write_failed : count ≤ 16 → (e : Error) → Writes answers v (Ready (Err e)) u → WritesCut answers node now x w y u
+  pub write_failed : count ≤ most → (e : Error) → Writes answers v (Ready (Err e)) u → WritesCut answers most node now x w y u
   write_failed few e p = record {
     sent = so_far.sent;
     xs = so_far.xs ++ p.xs;
@@ -70,7 +70,7 @@ module _ {S : Type 0} (answers : Told S) (nothing : (s : S) → answers s [] s) 
       behind (inr h) = inr (Contains-append_right so_far.xs p.xs (Went []) h)
 
   -- all was written, and as many requests went out as may
-  pub enough_written : count ≡ 16 → Writes answers v (Ready (Ok tt)) u → WritesOn answers node now x w y u
+  pub enough_written : count ≡ most → Writes answers v (Ready (Ok tt)) u → WritesOn answers most node now x w y u
   enough_written full p = record {
     sent = so_far.sent;
     last = None;
@@ -84,7 +84,7 @@ module _ {S : Type 0} (answers : Told S) (nothing : (s : S) → answers s [] s) 
   }
 
   -- all was written, and the core gives no request
-  pub none_given : (z : Exchange) → count < 16 → Writes answers v (Ready (Ok tt)) u → AsksOne node now y (Ok None) z → OnlyCore y z → WritesOn answers node now x w z u
+  pub none_given : (z : Exchange) → count < most → Writes answers v (Ready (Ok tt)) u → AsksOne node now y (Ok None) z → OnlyCore y z → WritesOn answers most node now x w z u
   none_given z few p given only = record {
     sent = so_far.sent;
     last = Some given.0;
@@ -98,7 +98,7 @@ module _ {S : Type 0} (answers : Told S) (nothing : (s : S) → answers s [] s) 
   }
 
   -- all was written, and memory was refused
-  pub none_made : (z : Exchange) → count < 16 → (refused : AllocError) → Writes answers v (Ready (Ok tt)) u → AsksOne node now y (Err refused) z → OnlyCore y z → WritesUntil answers node now x w z u
+  pub none_made : (z : Exchange) → count < most → (refused : AllocError) → Writes answers v (Ready (Ok tt)) u → AsksOne node now y (Err refused) z → OnlyCore y z → WritesUntil answers most node now x w z u
   none_made z few refused p given only = record {
     sent = so_far.sent;
     last = given.0;
@@ -108,7 +108,7 @@ module _ {S : Type 0} (answers : Told S) (nothing : (s : S) → answers s [] s) 
     talks = talks_then_core answers in_order nothing x y z w u so_far.sent [] (requests node now so_far.sent) (asks node now given.0) (so_far.xs ++ p.xs) (after_write p.xs p.goes) given.2 only;
   }
     where
-      at_most : (last : Option (Result (Option Outgoing) CoreFault)) → length so_far.sent + length (asks node now last) ≤ 16
+      at_most : (last : Option (Result (Option Outgoing) CoreFault)) → length so_far.sent + length (asks node now last) ≤ most
       at_most None = omega (arith, so_far.len, few)
       at_most (Some answer) = omega (arith, so_far.len, few)
 

@@ -7,7 +7,7 @@ use Rattle.kp_connection.specs.Wire.{Told, Wired}
 use Rattle.kp_frames.specs.Stream.{is_faulty}
 use Rattle.kp_lanes.specs.declared.intake.Intake.{Intake}
 use Rattle.kp_rules.specs.Records.{Core}
-use Rattle.kp_engine.specs.Exchange.{kept_calls}
+use Rattle.kp_engine.specs.Exchange.{notes_in}
 use Rattle.kp_engine.specs.Polls.{GoesOnBehind, IsUndone, Turns}
 use Rattle.kp_engine.specs.declared.engine.Line.{Line}
 use Rattle.kp_engine.specs.declared.engine.Line.TheVariants.{Open, Stopped}
@@ -49,7 +49,7 @@ pub record IsNew (given : Core) (lanes : Intake) (keeps : Bool) (x : Exchange) :
   pub items : x.items.items ≡ replicate (length given.reports) None
   pub reports : x.reports.items ≡ replicate (length given.reports) None
   pub closed : x.closed ≡ false
-  pub kept : kept_calls x ≡ (if keeps then Some [] else None)
+  pub kept : notes_in x ≡ record { strays = 0; calls = if keeps then Some [] else None }
 
 -- ---- a poll
 
@@ -60,7 +60,7 @@ pub record Cleared (old new : Exchange) : Type 0 where
   pub items : new.items.items ≡ old.items.items
   pub reports : new.reports.items ≡ old.reports.items
   pub closed : new.closed ≡ old.closed
-  pub kept : kept_calls new ≡ option_map (λ _. []) (kept_calls old)
+  pub kept : notes_in new ≡ record (notes_in old) { calls = option_map (λ _. []) (notes_in old).calls }
 
 -- the connection after a poll that left it so
 abbrev pub line_after : {S : Type 0} → Poll Stop → Wired S → Line S

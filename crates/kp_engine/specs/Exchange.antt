@@ -1,5 +1,5 @@
 -- What contracts see of the core, the lanes and what is held between them.
-use Rattle.std.specs.Prelude.{◌≡◌, ◌≢◌, ◌⊎◌, ℕ, ◌+◌, ◌<◌, true, List, [], length, Option, None, IsSome}
+use Rattle.std.specs.Prelude.{◌≡◌, ◌≢◌, ◌⊎◌, ℕ, ◌+◌, ◌<◌, true, List, [], length, None, IsSome}
 use Rattle.std.specs.List.{AllByRecursion}
 use Rattle.kp_lanes.specs.Entries.{items_of}
 use Rattle.kp_lanes.specs.Intake.{lanes_of, intake_limits, intake_view, passed_of, asked_at_of, told_of, room_of, seen_of, places_of}
@@ -9,7 +9,7 @@ use Rattle.kp_rules.specs.Calls.{Call, Life, Lives}
 use Rattle.kp_rules.specs.InOrder.{IsHeld}
 use Rattle.kp_engine.specs.Agreement.{held_at, waiting_of}
 use Rattle.kp_engine.specs.Turn.{Side, Mail}
-use Rattle.kp_engine.specs.Turned.{calls_in, noted}
+use Rattle.kp_engine.specs.Turned.{Noted, noted, notes_of}
 use Rattle.kp_engine.specs.declared.exchange.Exchange.{Exchange}
 
 abbrev pub senders_of : Exchange → ℕ
@@ -25,16 +25,20 @@ side_of x i = record {
 abbrev pub mail_of : Exchange → ℕ → Mail
 mail_of x i = record { told = told_of x.intake i; held = held_at x.reports.items i }
 
--- the calls that are kept for a caller, where they are
-abbrev pub kept_calls : Exchange → Option (List Call)
-kept_calls x = calls_in x.notes.turn
+-- what is noted of the calls
+abbrev pub notes_in : Exchange → Noted
+notes_in x = notes_of x.notes
 
--- The core was run over these calls, with values such as a program can hold, and they are kept where that is asked for.
+-- the same, where so many replies in a row named no request
+abbrev pub with_strays : ℕ → Exchange → Exchange
+with_strays n x = record x { notes = record x.notes { strays = n } }
+
+-- The core was run over these calls, with values such as a program can hold, and they are noted.
 pub record Runs (old : Exchange) (calls : List Call) (new : Exchange) : Type 0 where
   pub life : Life
   pub lives : Lives old.core calls life new.core
   pub held : AllByRecursion IsHeld calls
-  pub kept : kept_calls new ≡ noted calls (kept_calls old)
+  pub kept : notes_in new ≡ noted calls (notes_in old)
 
 -- ---- what stays
 

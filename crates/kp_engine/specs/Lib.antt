@@ -11,6 +11,7 @@ pub mod Away
 pub mod Serving
 pub mod Parts
 pub mod Clocked
+pub mod Window
 pub mod Rounds
 pub mod Lines
 pub mod Cluster

@@ -3,7 +3,9 @@ use Rattle.std.specs.Prelude.{◌≡◌, ◌≢◌, ◌++◌, ◌==◌, ◌&&◌
 use Rattle.std.specs.declared.alloc.AllocError.{AllocError}
 use Rattle.kp_connection.specs.Wire.{Told}
 use Rattle.kp_engine.specs.Engine.{fresh_wire, stop_in}
+use Rattle.kp_engine.specs.Exchange.{with_strays}
 use Rattle.kp_engine.specs.Rounds.{HasRound}
+use Rattle.kp_engine.specs.Window.{most_requests, window_after}
 use Rattle.kp_engine.specs.declared.engine.Line.{Line}
 use Rattle.kp_engine.specs.declared.engine.Line.TheVariants.{Open, Stopped}
 use Rattle.kp_engine.specs.declared.exchange.Exchange.{Exchange}
@@ -32,15 +34,17 @@ is_given_up node l = goes_to node l && is_lost l
 abbrev pub stop_at : {S : Type 0} → ℕ → List (NodeLine S) → Option Stop
 stop_at node ls = elim (find (is_given_up node) ls) [ None ↦ None | Some l ↦ stop_in l.line ]
 
--- It goes to this node, and nothing was written or read over it.
-pub record IsFresh {S : Type 0} (node : ℕ) (stream : S) (l : NodeLine S) : Type 0 where
+-- It goes to this node, with so many requests in flight at a time, and nothing was written or read over it.
+pub record IsFresh {S : Type 0} (node : ℕ) (stream : S) (given : Option ℕ) (l : NodeLine S) : Type 0 where
   pub its : l.node ≡ node
   pub line : l.line ≡ Open (fresh_wire stream)
+  pub strays : l.strays ≡ 0
+  pub window : l.window ≡ given
 
 -- None to this node that was given up is left, and a fresh one to it stands last.
-pub record Connects {S : Type 0} (node : ℕ) (stream : S) (old new : List (NodeLine S)) : Type 0 where
+pub record Connects {S : Type 0} (node : ℕ) (stream : S) (window : Option ℕ) (old new : List (NodeLine S)) : Type 0 where
   pub last : NodeLine S
-  pub fresh : IsFresh node stream last
+  pub fresh : IsFresh node stream window last
   pub all : new ≡ filter (λ l. not (is_given_up node l)) old ++ last ∷ []
 
 -- ---- a round for each
@@ -50,14 +54,22 @@ abbrev pub TellsRefusal : {S : Type 0} → Line S → Result (Unit {0}) AllocErr
 TellsRefusal line (Ok done) = line ≢ Stopped OutOfMemory
 TellsRefusal line (Err refused) = line ≡ Stopped OutOfMemory
 
--- What is left of the line by its round at this moment, for its node; where it was given up before there is none.
-abbrev pub RoundOver : {S : Type 0} → Told S → (node now : ℕ) → Line S → Exchange → Result (Unit {0}) AllocError → Exchange → Line S → Type 0
-RoundOver answers node now (Open wire) x result y left = HasRound answers node now x wire y left × TellsRefusal left result
-RoundOver answers node now (Stopped stop) x result y left = (y ≡ x) × (left ≡ Stopped stop) × (result ≡ Ok tt)
+-- What is left of it by its round at this moment, for its node and with room for as many requests as its window has; where it was
+-- given up before there is none.
+abbrev pub RoundOver : {S : Type 0} → Told S → NodeLine S → (now : ℕ) → Line S → Exchange → Result (Unit {0}) AllocError → Exchange → Line S → Type 0
+RoundOver answers l now (Open wire) x result y left =
+    HasRound answers (most_requests l.window l.node x.core) l.node now (with_strays l.strays x) wire y left × TellsRefusal left result
+RoundOver answers l now (Stopped stop) x result y left = (y ≡ x) × (left ≡ Stopped stop) × (result ≡ Ok tt)
+
+-- What it knows behind that of its replies, and its window; where it is given up, what it knew.
+abbrev pub KnowsBehind : {S : Type 0} → ℕ → NodeLine S → Exchange → Exchange → NodeLine S → Line S → Type 0
+KnowsBehind now old x y new (Open wire) = (new.strays ≡ y.notes.strays) × (new.window ≡ window_after old.node now x.core y.core old.window)
+KnowsBehind now old x y new (Stopped stop) = (new.strays ≡ old.strays) × (new.window ≡ old.window)
 
 pub record LineRound {S : Type 0} (answers : Told S) (now : ℕ) (old : NodeLine S) (x : Exchange) (result : Result (Unit {0}) AllocError) (y : Exchange) (new : NodeLine S) : Type 0 where
-  pub round : RoundOver answers old.node now old.line x result y new.line
+  pub round : RoundOver answers old now old.line x result y new.line
   pub node : new.node ≡ old.node
+  pub knows : KnowsBehind now old x y new new.line
 
 -- A round for each, in their order, until memory is refused. One that is given up, now or before, stops no other.
 pub data RoundsEach {S : Type 0} (answers : Told S) (now : ℕ) : Exchange → List (NodeLine S) → Result (Unit {0}) AllocError → Exchange → List (NodeLine S) → Type 0 where

@@ -1,16 +1,17 @@
 -- An engine from when it was made until it is taken apart.
 use Rattle.std.specs.Prelude.{◌≡◌, ◌++◌, ℕ, Bool, true, List}
 use Rattle.std.specs.List.{AllByRecursion}
+use Rattle.kp_connection.specs.Answers.{Answer}
 use Rattle.kp_connection.specs.Wire.{Told, Wired}
 use Rattle.kp_lanes.specs.declared.intake.Intake.{Intake}
 use Rattle.kp_rules.specs.Calls.{Call}
 use Rattle.kp_rules.specs.Records.{Core}
-use Rattle.kp_rules.specs.Tick.{has_timed_out}
 use Rattle.kp_engine.specs.Closing.{Polled}
 use Rattle.kp_engine.specs.Engine.{IsNew}
+use Rattle.kp_engine.specs.Exchange.{with_strays}
 use Rattle.kp_engine.specs.Opening.{MayTurn}
 use Rattle.kp_engine.specs.Parts.{ArePartsOf}
-use Rattle.kp_engine.specs.Polls.{TalksCut}
+use Rattle.kp_engine.specs.Rounds.{IsCut as IsCutSo}
 use Rattle.kp_engine.specs.declared.engine.Line.{Line}
 use Rattle.kp_engine.specs.declared.engine.Line.TheVariants.{Open, Stopped}
 use Rattle.kp_engine.specs.declared.exchange.Exchange.{Exchange}
@@ -41,8 +42,8 @@ pub record WasEnded (core : Core) (intake : Intake) (calls : List Call) (parts :
 
 -- ---- what a connection was given up for
 
--- Among these calls are some behind which a connection to a node was given up for this, by what was written and read over it or
--- for a request that had waited too long.
+-- Among these calls are some behind which a connection to a node was given up for this, by what was written and read over it, for a
+-- request that had waited too long, or for replies that named none.
 pub record WasCut (core : Core) (intake : Intake) (calls : List Call) (cause : Cause) : Type 0 where
   pub earlier : List Call
   pub later : List Call
@@ -52,9 +53,13 @@ pub record WasCut (core : Core) (intake : Intake) (calls : List Call) (cause : C
   pub node : ℕ
   pub now : ℕ
   pub before : Wired (Unit {0})
+  pub most : ℕ
+  pub strays : ℕ
+  pub its : List Call
+  pub xs : List Answer
   pub y : Exchange
   pub after : Wired (Unit {0})
-  pub cut : TalksCut anything node now (has_timed_out node now x.core) x before cause y after
+  pub cut : IsCutSo anything most node now (with_strays strays x) before its xs cause y after
 
 -- where it was given up, it was cut for this
 abbrev pub IsCut : {S : Type 0} → Core → Intake → List Call → Line S → Type 0

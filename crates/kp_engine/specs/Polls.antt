@@ -1,5 +1,5 @@
 -- What a poll of the engine did.
-use Rattle.std.specs.Prelude.{◌≡◌, ◌⊎◌, ◌↔◌, ℕ, ◌<◌, ◌||◌, true, false, Bool, List, [], ◌++◌, length, Option, Some, None, IsSome, IsTrue, Result, Ok, Err}
+use Rattle.std.specs.Prelude.{◌≡◌, ◌⊎◌, ◌↔◌, ℕ, ◌<◌, ◌≤◌, ◌||◌, true, false, Bool, List, [], ◌++◌, length, Option, Some, None, IsSome, IsTrue, Result, Ok, Err}
 use Rattle.std.specs.declared.alloc.AllocError.{AllocError}
 use Rattle.futures.specs.declared.task.Poll.{Poll}
 use Rattle.futures.specs.declared.task.Poll.TheVariants.{Ready, Pending}
@@ -25,16 +25,16 @@ use Rattle.kp_engine.specs.declared.stop.Stop.TheVariants.{Done, NeedStream, Out
 
 -- ---- the third and the fourth part together
 
--- Why a turn that goes on stopped writing and reading: fewer than 16 requests go out only where the core gave none or a
+-- Why a turn that goes on stopped writing and reading: fewer requests go out than may only where the core gave none or a
 -- write waited; bytes are kept only where a write waited; and a read waited, with no reply at hand, or 16 were heard.
-pub record Waits {S : Type 0} (sent : List Outgoing) (last : Option (Result (Option Outgoing) CoreFault))
+pub record Waits {S : Type 0} (most : ℕ) (sent : List Outgoing) (last : Option (Result (Option Outgoing) CoreFault))
     (heard : List Heard) (xs : List Answer) (v : Wired S) : Type 0 where
-  pub all : ((length sent ≡ 16) ⊎ IsSome last) ⊎ Met Write_waits xs
+  pub all : ((length sent ≡ most) ⊎ IsSome last) ⊎ Met Write_waits xs
   pub kept : (v.kept ≡ []) ⊎ Met Write_waits xs
   pub enough : (length heard ≡ 16) ⊎ (Met Read_waits xs × ((stream v.held).frames ≡ []))
 
--- Requests are written and replies heard, and the connection goes on.
-pub record TalksOn {S : Type 0} (answers : Told S) (node now : ℕ) (x : Exchange) (w : Wired S) (y : Exchange) (v : Wired S) : Type 0 where
+-- Requests are written, so many at most, and replies heard, and the connection goes on.
+pub record TalksOn {S : Type 0} (answers : Told S) (most node now : ℕ) (x : Exchange) (w : Wired S) (y : Exchange) (v : Wired S) : Type 0 where
   pub sent : List Outgoing
   pub heard : List Heard
   pub asked : List Call
@@ -43,7 +43,8 @@ pub record TalksOn {S : Type 0} (answers : Told S) (node now : ℕ) (x : Exchang
   pub of_requests : RequestsPart node now sent asked
   pub of_replies : RepliesPart now heard None replied
   pub talks : Talks answers x w sent heard (asked ++ replied) xs y v
-  pub waits : Waits sent of_requests.last heard xs v
+  pub within : length sent ≤ most
+  pub waits : Waits most sent of_requests.last heard xs v
   pub sound : is_faulty v.held ≡ false
 
 -- Why the connection is of no use any more: a request has waited too long, and then nothing was tried; a read failed or
@@ -57,7 +58,7 @@ CutFor late held xs heard refused calls (BadReply fault) = (late ≡ false)
     × CutBy held xs refused (BadReply fault) × (refused ≡ None → HeardAll 16 held xs heard)
 
 -- The same until the connection is of no use any more.
-pub record TalksCut {S : Type 0} (answers : Told S) (node now : ℕ) (late : Bool) (x : Exchange) (w : Wired S) (cause : Cause) (y : Exchange) (v : Wired S) : Type 0 where
+pub record TalksCut {S : Type 0} (answers : Told S) (most node now : ℕ) (late : Bool) (x : Exchange) (w : Wired S) (cause : Cause) (y : Exchange) (v : Wired S) : Type 0 where
   pub sent : List Outgoing
   pub heard : List Heard
   pub refused : Option (List ℕ × FrameFault)
@@ -66,6 +67,7 @@ pub record TalksCut {S : Type 0} (answers : Told S) (node now : ℕ) (late : Boo
   pub xs : List Answer
   pub of_requests : RequestsPart node now sent asked
   pub of_replies : RepliesPart now heard refused replied
+  pub within : length sent ≤ most
   pub talks : TalksUntil answers x w sent heard (asked ++ replied) xs y v
   pub cut : CutFor late w.held xs heard refused (asked ++ replied) cause
 
@@ -75,18 +77,19 @@ pub data TalkUntil (node now : ℕ) : List Outgoing → List Heard → List Call
   in_replies : (sent : List Outgoing) (heard : List Heard) (asked replied : List Call) → RequestsPart node now sent asked
       → RepliesPartUntil now heard replied → TalkUntil node now sent heard (asked ++ replied)
 
-pub record TalksOut {S : Type 0} (answers : Told S) (node now : ℕ) (x : Exchange) (w : Wired S) (y : Exchange) (v : Wired S) : Type 0 where
+pub record TalksOut {S : Type 0} (answers : Told S) (most node now : ℕ) (x : Exchange) (w : Wired S) (y : Exchange) (v : Wired S) : Type 0 where
   pub sent : List Outgoing
   pub heard : List Heard
   pub calls : List Call
   pub xs : List Answer
   pub until : TalkUntil node now sent heard calls
+  pub within : length sent ≤ most
   pub talks : TalksUntil answers x w sent heard calls xs y v
 
-abbrev pub TalksAll : {S : Type 0} → Told S → ℕ → ℕ → Bool → Exchange → Wired S → Result (Option Cause) AllocError → Exchange → Wired S → Type 0
-TalksAll answers node now late x w (Ok None) y v = (late ≡ false) × TalksOn answers node now x w y v
-TalksAll answers node now late x w (Ok (Some cause)) y v = TalksCut answers node now late x w cause y v
-TalksAll answers node now late x w (Err refused) y v = TalksOut answers node now x w y v
+abbrev pub TalksAll : {S : Type 0} → Told S → (most node now : ℕ) → Bool → Exchange → Wired S → Result (Option Cause) AllocError → Exchange → Wired S → Type 0
+TalksAll answers most node now late x w (Ok None) y v = (late ≡ false) × TalksOn answers most node now x w y v
+TalksAll answers most node now late x w (Ok (Some cause)) y v = TalksCut answers most node now late x w cause y v
+TalksAll answers most node now late x w (Err refused) y v = TalksOut answers most node now x w y v
 
 -- ---- the last part
 
@@ -204,7 +207,7 @@ pub record TurnsOn {S : Type 0} (answers : Told S) (node now : ℕ) (x : Exchang
   pub runs : Runs x calls y
   pub lanes : SameLanes x y
   pub goes : Goes answers w (frames_of sent) (contents_of heard) xs v
-  pub waits : Waits sent turn.of_requests.last heard xs v
+  pub waits : Waits 16 sent turn.of_requests.last heard xs v
   pub sound : is_faulty v.held ≡ false
 
 -- One turn was made, and the connection is of no use any more: the bytes written are a beginning of those frames, and the

@@ -10,7 +10,7 @@ use Rattle.kp_rules.specs.declared.outcome.Report.{Report}
 use Rattle.kp_rules.specs.Appending.{may_append}
 use Rattle.kp_rules.specs.Calls.{Call, Append, Close, Fetch, Flush}
 use Rattle.kp_engine.specs.Agreement.{waiting_of}
-use Rattle.kp_engine.specs.Exchange.{AreIdle, HasMoved, IsIdle, IsQuiet, MayStayOpen, SomeBusy, SomeHeld, WasBusy, OnlyCore, Runs, SameClosed, SameLanes, SameMail, SameSides, TookEnough, TookNone, WasFull, kept_calls, mail_of, senders_of, side_of}
+use Rattle.kp_engine.specs.Exchange.{AreIdle, HasMoved, IsIdle, IsQuiet, MayStayOpen, SomeBusy, SomeHeld, WasBusy, OnlyCore, Runs, SameClosed, SameLanes, SameMail, SameSides, TookEnough, TookNone, WasFull, notes_in, mail_of, senders_of, side_of}
 use Rattle.kp_engine.specs.Turn.{ItemsPart, ItemsPartUntil, MailPart, MailParts, Takes, SenderPart, SenderParts, SenderPartUntil, appends, fails, if_so, refuses}
 use Rattle.kp_engine.specs.declared.exchange.Exchange.{Exchange}
 
@@ -25,7 +25,7 @@ pub record OnlyItem (i : ℕ) (old : Exchange) (held : Option Item) (new : Excha
 -- The same core and calls; only this is held at the sender's place now.
 pub record HoldsNow (i : ℕ) (old : Exchange) (held : Option Item) (new : Exchange) : Type 0 where
   pub core : new.core ≡ old.core
-  pub kept : kept_calls new ≡ kept_calls old
+  pub kept : notes_in new ≡ notes_in old
   pub only : OnlyItem i old held new
 
 -- An append was refused, or was not made, for want of memory.
@@ -46,7 +46,7 @@ AppendsOne i item old (Err OutOfMemory) new = FailsToAppend i item old new
 -- Only the sender's lane may have changed, by what was taken out of it.
 pub record OnlyLane (i : ℕ) (old new : Exchange) : Type 0 where
   pub core : new.core ≡ old.core
-  pub kept : kept_calls new ≡ kept_calls old
+  pub kept : notes_in new ≡ notes_in old
   pub items : new.items.items ≡ old.items.items
   pub reports : new.reports.items ≡ old.reports.items
   pub closed : new.closed ≡ old.closed
@@ -172,7 +172,7 @@ TakesEach old (Err refused) new = TakesUntil old new
 -- only what the engine knows of the gate may have changed
 pub record OnlyView (old new : Exchange) : Type 0 where
   pub core : new.core ≡ old.core
-  pub kept : kept_calls new ≡ kept_calls old
+  pub kept : notes_in new ≡ notes_in old
   pub sides : SameSides old new
   pub mail : SameMail old new
   pub lanes : SameLanes old new
@@ -215,7 +215,7 @@ FetchesOne i old None new = Runs old [] new × (waiting_of new.core i ≡ [])
 -- Only what was handed to the sender may have changed, and what is held for it.
 pub record OnlyMail (i : ℕ) (old new : Exchange) : Type 0 where
   pub core : new.core ≡ old.core
-  pub kept : kept_calls new ≡ kept_calls old
+  pub kept : notes_in new ≡ notes_in old
   pub sides : SameSides old new
   pub others : (k : ℕ) → k ≢ i → mail_of new k ≡ mail_of old k
   pub lanes : SameLanes old new

@@ -77,40 +77,40 @@ pub record TalksUntil {S : Type 0} (answers : Told S) (x : Exchange) (w : Wired 
 
 -- ---- requests
 
--- Requests are written, until the core gives none, there are 16 or the writer waits. Bytes are kept only where it waited.
-pub record WritesOn {S : Type 0} (answers : Told S) (node now : ℕ) (x : Exchange) (w : Wired S) (y : Exchange) (v : Wired S) : Type 0 where
+-- Requests are written, until the core gives none, there are so many or the writer waits. Bytes are kept only where it waited.
+pub record WritesOn {S : Type 0} (answers : Told S) (most node now : ℕ) (x : Exchange) (w : Wired S) (y : Exchange) (v : Wired S) : Type 0 where
   pub sent : List Outgoing
   pub last : Option (Result (Option Outgoing) CoreFault)
   pub xs : List Answer
-  pub few : length sent + length (asks node now last) ≤ 16
+  pub few : length sent + length (asks node now last) ≤ most
   pub none : ForSome last GivesNone
   pub talks : Talks answers x w sent [] (requests node now sent ++ asks node now last) xs y v
   pub held : v.held ≡ w.held
   pub kept : (v.kept ≡ []) ⊎ Met Write_waits xs
-  pub all : ((length sent ≡ 16) ⊎ IsSome last) ⊎ Met Write_waits xs
+  pub all : ((length sent ≡ most) ⊎ IsSome last) ⊎ Met Write_waits xs
 
 -- Requests are written, until a write fails or takes no bytes.
-pub record WritesCut {S : Type 0} (answers : Told S) (node now : ℕ) (x : Exchange) (w : Wired S) (y : Exchange) (v : Wired S) : Type 0 where
+pub record WritesCut {S : Type 0} (answers : Told S) (most node now : ℕ) (x : Exchange) (w : Wired S) (y : Exchange) (v : Wired S) : Type 0 where
   pub sent : List Outgoing
   pub xs : List Answer
-  pub few : length sent ≤ 16
+  pub few : length sent ≤ most
   pub talks : Talks answers x w sent [] (requests node now sent) xs y v
   pub failed : Met Write_failed xs ⊎ Met (Went []) xs
 
 -- Requests are written, until memory is refused.
-pub record WritesUntil {S : Type 0} (answers : Told S) (node now : ℕ) (x : Exchange) (w : Wired S) (y : Exchange) (v : Wired S) : Type 0 where
+pub record WritesUntil {S : Type 0} (answers : Told S) (most node now : ℕ) (x : Exchange) (w : Wired S) (y : Exchange) (v : Wired S) : Type 0 where
   pub sent : List Outgoing
   pub last : Option (Result (Option Outgoing) CoreFault)
   pub xs : List Answer
-  pub few : length sent + length (asks node now last) ≤ 16
+  pub few : length sent + length (asks node now last) ≤ most
   pub lacking : ForSome last LacksMemory
   pub talks : Talks answers x w sent [] (requests node now sent ++ asks node now last) xs y v
 
 -- whether the connection goes on
-abbrev pub WritesAll : {S : Type 0} → Told S → ℕ → ℕ → Exchange → Wired S → Result Bool AllocError → Exchange → Wired S → Type 0
-WritesAll answers node now x w (Ok true) y v = WritesOn answers node now x w y v
-WritesAll answers node now x w (Ok false) y v = WritesCut answers node now x w y v
-WritesAll answers node now x w (Err refused) y v = WritesUntil answers node now x w y v
+abbrev pub WritesAll : {S : Type 0} → Told S → (most node now : ℕ) → Exchange → Wired S → Result Bool AllocError → Exchange → Wired S → Type 0
+WritesAll answers most node now x w (Ok true) y v = WritesOn answers most node now x w y v
+WritesAll answers most node now x w (Ok false) y v = WritesCut answers most node now x w y v
+WritesAll answers most node now x w (Err refused) y v = WritesUntil answers most node now x w y v
 
 -- ---- replies at hand
 

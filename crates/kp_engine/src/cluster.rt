@@ -68,10 +68,11 @@ impl<S: Stream, C: Clock> ClusterEngine<S, C> {
         }
     }
 
-    /// Goes on over this stream to the node: also in place of a connection to it that was given up. Where memory is refused
-    /// the stream comes back, and nothing has changed.
-    pub fn connect(&mut self, node: u32, stream: S) -> Result<(), S>
-        ensures lines { OnOk result (Connects node stream self.old.lines.items self.new.lines.items) }
+    /// Goes on over this stream to the node: also in place of a connection to it that was given up. With a window so many requests are
+    /// in flight over it at a time, until answers widen it; without one as many as the core allows. Where memory is refused the stream
+    /// comes back, and nothing has changed.
+    pub fn connect(&mut self, node: u32, stream: S, window: Option<u64>) -> Result<(), S>
+        ensures lines { OnOk result (Connects node stream window self.old.lines.items self.new.lines.items) }
         ensures same { (self.new.exchange ≡ self.old.exchange) × (self.new.clock ≡ self.old.clock) × (self.new.over ≡ self.old.over) }
         ensures back { IfErr result (λ given. given ≡ stream) }
         ensures unchanged { OnErr result (self.new.lines.items ≡ self.old.lines.items) }
@@ -81,7 +82,7 @@ impl<S: Stream, C: Clock> ClusterEngine<S, C> {
         }
         self.lines.retain(|line| !line.is_given_up(node));
         self.lines
-            .push_reserved(NodeLine::new(self.alloc, node, stream));
+            .push_reserved(NodeLine::new(self.alloc, node, stream, window));
         Ok(())
     }
 

@@ -13,8 +13,10 @@ mod notes;
 mod parts;
 mod seen;
 mod stop;
+mod strays;
 mod turn;
 mod turned;
+mod window;
 
 pub use clock::Clock;
 pub use cluster::ClusterEngine;

@@ -8,6 +8,7 @@ use crate::engine::Line;
 use crate::exchange::Exchange;
 use crate::stop::Stop;
 use crate::turn::round::round;
+use crate::window::{is_full, may_widen, most_requests, wider};
 use futures::task::Context;
 use kp_connection::{Stream, Wire};
 use std::alloc::{AllocError, Global};
@@ -17,19 +18,25 @@ use std::alloc::{AllocError, Global};
 pub(crate) struct NodeLine<S> {
     node: u32,
     line: Line<S>,
+    /// How many replies in a row, the last ones, named no request in flight.
+    strays: u32,
+    /// How many requests may be in flight at a time, where fewer may than the core allows.
+    window: Option<u64>,
     ghost sound: { is_sound line ≡ true },
 }
 
 impl<S: Stream> NodeLine<S> {
     ghost use Rattle.kp_engine.specs.Lines.{IsFresh, LineRound, goes_to, is_given_up, is_lost};
 
-    /// A connection to this node, over which nothing was written or read.
-    pub(crate) fn new(alloc: Global, node: u32, stream: S) -> NodeLine<S>
-        ensures { IsFresh node stream result }
+    /// A connection to this node, over which nothing was written or read, with so many requests in flight at a time.
+    pub(crate) fn new(alloc: Global, node: u32, stream: S, window: Option<u64>) -> NodeLine<S>
+        ensures { IsFresh node stream window result }
     {
         NodeLine {
             node,
             line: Line::Open(Wire::new(alloc, stream)),
+            strays: 0,
+            window,
         }
     }
 
@@ -71,7 +78,8 @@ impl<S: Stream> NodeLine<S> {
         }
     }
 
-    /// Its round in a poll at this moment, unless it was given up: then there is none.
+    /// Its round in a poll at this moment, unless it was given up: then there is none. Its window is widened by an answer to one of as
+    /// many requests as it has room for, of which none has waited for half of `request.timeout.ms`.
     pub(crate) fn poll_round(
         &mut self,
         exchange: &mut Exchange,
@@ -86,8 +94,17 @@ impl<S: Stream> NodeLine<S> {
             Line::Stopped(_) => return Ok(()),
             Line::Open(wire) => wire,
         };
-        match round(exchange, wire, cx, self.node, now) {
-            Ok(None) => Ok(()),
+        exchange.hear_behind(self.strays);
+        let most = most_requests(&exchange.core, self.node, self.window);
+        let widens = may_widen(&exchange.core, self.node, now, self.window);
+        match round(exchange, wire, cx, most, self.node, now) {
+            Ok(None) => {
+                self.strays = exchange.notes.strays;
+                if widens && !is_full(&exchange.core, self.node, self.window) {
+                    self.window = wider(&exchange.core, self.window);
+                }
+                Ok(())
+            }
             Ok(Some(cause)) => {
                 self.line = Line::Stopped(Stop::NeedStream(cause));
                 Ok(())

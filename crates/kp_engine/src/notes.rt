@@ -1,12 +1,13 @@
-//! The calls of a turn, where they are kept for a caller.
+//! What is noted of the calls of a turn.
 
 ghost use Rattle.std.specs.Prelude.{◌≡◌, [], ◌∷◌, Option, None, Some, Ok, OnOk, IfOk, option_map, if◌then◌else◌};
 ghost use Rattle.std.specs.Option.{option_copied};
 ghost use Rattle.kp_accum.specs.declared.item.Item.{Item};
 ghost use Rattle.kp_rules.specs.Calls.{Append, Request};
-ghost use Rattle.kp_engine.specs.Turned.{append_answer, call_of, calls_in, noted, HasPlace};
+ghost use Rattle.kp_engine.specs.Turned.{append_answer, call_of, noted, notes_of, HasPlace};
 
 use crate::moves::Moves;
+use crate::strays::strays_behind;
 use crate::turned::Turned;
 use kp_accum::{AppendFault, Item};
 use kp_rules::Outgoing;
@@ -19,12 +20,14 @@ pub(crate) struct Notes {
     pub(crate) turn: Option<Vec<Turned>>,
     /// What the turn has moved, whether or not its calls are kept.
     pub(crate) moves: Moves,
+    /// How many replies in a row, the last ones, named no request in flight.
+    pub(crate) strays: u32,
 }
 
 impl Notes {
     /// Notes of no call. They are kept where that is asked for.
     pub(crate) fn new(alloc: Global, keeps: bool) -> Notes
-        ensures calls { calls_in result.turn ≡ (if keeps then Some [] else None) }
+        ensures notes { notes_of result ≡ record { strays = 0; calls = if keeps then Some [] else None } }
         ensures entries { option_map (λ v. v.items) result.turn ≡ (if keeps then Some [] else None) }
     {
         let turn = if keeps { Some(Vec::new(alloc)) } else { None };
@@ -32,12 +35,13 @@ impl Notes {
             alloc,
             turn,
             moves: Moves::none(),
+            strays: 0,
         }
     }
 
     /// Forgets the calls of an earlier turn.
     pub(crate) fn clear(&mut self)
-        ensures { calls_in self.new.turn ≡ option_map (λ _. []) (calls_in self.old.turn) }
+        ensures { notes_of self.new ≡ record (notes_of self.old) { calls = option_map (λ _. []) (notes_of self.old).calls } }
     {
         self.moves = Moves::none();
         if let Some(entries) = &mut self.turn {
@@ -47,7 +51,7 @@ impl Notes {
 
     /// Makes room for one entry.
     pub(crate) fn reserve(&mut self) -> Result<(), AllocError>
-        ensures same { calls_in self.new.turn ≡ calls_in self.old.turn }
+        ensures same { notes_of self.new ≡ notes_of self.old }
         ensures ok { OnOk result (HasPlace self.new.turn) }
     {
         if let Some(entries) = &mut self.turn {
@@ -58,9 +62,9 @@ impl Notes {
 
     /// Makes room for the entry of the item's append, and a copy of the item for it, where calls are kept.
     pub(crate) fn reserve_append(&mut self, item: &Item) -> Result<Option<Item>, AllocError>
-        ensures same { calls_in self.new.turn ≡ calls_in self.old.turn }
+        ensures same { notes_of self.new ≡ notes_of self.old }
         ensures place { IfOk result (λ _. HasPlace self.new.turn) }
-        ensures copy { IfOk result (λ copy. copy ≡ option_map (λ _. item.now) (calls_in self.old.turn)) }
+        ensures copy { IfOk result (λ copy. copy ≡ option_map (λ _. item.now) (notes_of self.old).calls) }
     {
         match &mut self.turn {
             None => Ok(None),
@@ -74,9 +78,10 @@ impl Notes {
     /// Notes a call.
     pub(crate) fn add(&mut self, entry: Turned)
         requires { HasPlace self.old.turn }
-        ensures { calls_in self.new.turn ≡ noted (call_of entry ∷ []) (calls_in self.old.turn) }
+        ensures { notes_of self.new ≡ noted (call_of entry ∷ []) (notes_of self.old) }
     {
         self.moves.note(&entry);
+        self.strays = strays_behind(&entry, self.strays);
         if let Some(entries) = &mut self.turn {
             entries.push_reserved(entry);
         }
@@ -90,7 +95,7 @@ impl Notes {
         request: Outgoing,
     ) -> Result<Vec<u8>, AllocError>
         requires { HasPlace self.old.turn }
-        ensures noted { calls_in self.new.turn ≡ noted (Request node now (Ok (Some request)) ∷ []) (calls_in self.old.turn) }
+        ensures noted { notes_of self.new ≡ noted (Request node now (Ok (Some request)) ∷ []) (notes_of self.old) }
         ensures frame { IfOk result (λ frame. frame.items ≡ request.bytes) }
     {
         self.moves.note_request(request.bytes.len());
@@ -105,8 +110,8 @@ impl Notes {
     /// Notes that the item was appended of which this is the copy.
     pub(crate) fn add_append(&mut self, copy: Option<Item>, fault: Option<AppendFault>)
         requires { HasPlace self.old.turn }
-        ensures { (item : Item) → copy ≡ option_map (λ _. item) (calls_in self.old.turn)
-            → calls_in self.new.turn ≡ noted (Append item (append_answer fault) ∷ []) (calls_in self.old.turn) }
+        ensures { (item : Item) → copy ≡ option_map (λ _. item) (notes_of self.old).calls
+            → notes_of self.new ≡ noted (Append item (append_answer fault) ∷ []) (notes_of self.old) }
     {
         if fault.is_none() {
             self.moves.note_move();

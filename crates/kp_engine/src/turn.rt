@@ -1,6 +1,6 @@
 //! One turn: the core, the lanes and the connection.
 
-ghost use Rattle.std.specs.Prelude.{◌≡◌, None, false, IfOk};
+ghost use Rattle.std.specs.Prelude.{◌≡◌, ◌≤◌, None, false, IfOk};
 ghost use Rattle.futures.specs.Poll.{OnPending};
 ghost use Rattle.futures.specs.Task.{Covers, Keeps};
 ghost use Rattle.kp_frames.specs.Stream.{is_faulty};
@@ -10,10 +10,11 @@ pub(crate) mod away;
 mod ending;
 mod hearing;
 pub(crate) mod round;
-mod writing;
+pub(crate) mod writing;
 
 use crate::exchange::Exchange;
 use crate::stop::{Cause, Stop};
+use crate::turn::writing::MOST_REQUESTS;
 use futures::task::{Context, Poll};
 use kp_connection::{Stream, Wire};
 use std::alloc::AllocError;
@@ -38,7 +39,15 @@ pub(crate) fn turn<S: Stream>(
     let Ok(ticked) = exchange.tick(node, now) else {
         return Poll::Ready(Stop::OutOfMemory);
     };
-    let Ok(cut) = talk(exchange, wire, cx, node, now, ticked.reconnect) else {
+    let Ok(cut) = talk(
+        exchange,
+        wire,
+        cx,
+        MOST_REQUESTS,
+        node,
+        now,
+        ticked.reconnect,
+    ) else {
         return Poll::Ready(Stop::OutOfMemory);
     };
     let Ok(done) = ending::finish(exchange, cut, idle, node, now) else {
@@ -47,24 +56,26 @@ pub(crate) fn turn<S: Stream>(
     stop_of(done, cut)
 }
 
-/// Requests and replies, unless a request has waited too long. Why the connection is of no use any more.
+/// Requests, so many at most, and replies, unless a request has waited too long. Why the connection is of no use any more.
 fn talk<S: Stream>(
     exchange: &mut Exchange,
     wire: &mut Wire<S>,
     cx: &mut Context<'_>,
+    most: u32,
     node: u32,
     now: u64,
     late: bool,
 ) -> Result<Option<Cause>, AllocError>
-    requires { is_faulty wire.old.held ≡ false }
-    ensures talks { TalksAll S.answers node now late exchange.old wire.old result exchange.new wire.new }
+    requires sound { is_faulty wire.old.held ≡ false }
+    requires few { most ≤ 16 }
+    ensures talks { TalksAll S.answers most node now late exchange.old wire.old result exchange.new wire.new }
     ensures registered { IfOk result (λ cut. cut ≡ None → Covers cx.new (S.reader wire.new.stream)) }
     ensures kept { Keeps cx.old cx.new }
 {
     if late {
         return Ok(Some(Cause::TimedOut));
     }
-    match writing::write_requests(exchange, wire, cx, node, now) {
+    match writing::write_requests(exchange, wire, cx, most, node, now) {
         Err(refused) => Err(refused),
         Ok(false) => Ok(Some(Cause::Io)),
         Ok(true) => hearing::listen(exchange, wire, cx, now),

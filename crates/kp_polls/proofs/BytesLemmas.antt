@@ -11,13 +11,14 @@ use Rattle.kp_connection.specs.Wire.{Told, Wired}
 use Rattle.kp_connection.proofs.WireLemmas.{Stops-first}
 use Rattle.kp_engine.specs.Closing.{Polled, calls_of_poll}
 use Rattle.kp_engine.specs.Engine.{fresh_wire}
+use Rattle.kp_engine.specs.Exchange.{with_strays}
 use Rattle.kp_engine.specs.Serving.{HasPlaces, Served, asked_by, replied_by}
 use Rattle.kp_engine.specs.declared.engine.Line.{Line}
 use Rattle.kp_engine.specs.declared.engine.Line.TheVariants.{Open, Stopped}
 use Rattle.kp_engine.specs.declared.exchange.Exchange.{Exchange}
 use Rattle.kp_engine.specs.declared.stop.Stop.TheVariants.{NeedStream}
 use Rattle.kp_engine.proofs.ClosingLemmas.{polls_serve, polls_then}
-use Rattle.kp_engine.proofs.RoundLemmas.{made_polled, made_serves, round_made}
+use Rattle.kp_engine.proofs.RoundLemmas.{IsMade, made_behind, round_made, talk_serves}
 use Rattle.kp_engine.proofs.ServedLemmas.{away_serves, poll_serves_its}
 use Rattle.kp_frames.specs.declared.frame.TheConstants.{CONTENT_LIMIT}
 use Rattle.kp_frames.specs.Stream.{Split, at_most, frame, stream}
@@ -199,15 +200,21 @@ unfolding new_core without_audits
 new_names o true = refl
 new_names o false = refl
 
+serves_behind : (n : ℕ) (y z : Exchange) (its : List Call) → HasPlaces y → IsMade (with_strays n y) its z → Served y its z
+serves_behind n y z its places m =
+    let only = m.makes.only in
+    talk_serves y z its m.makes.runs.life places m.talk m.makes.runs.lives m.makes.runs.held (record { intake = only.intake; items = only.items; reports = only.reports; closed = only.closed })
+
 over_polls : {S : Type 0} (answers : Told S) (first : Exchange) (calls : List Call) (given : S) (x : Exchange) (more mine : List Call) (xs : List Answer) (y : Exchange) (line : Line S)
     → Polled answers first calls x → OverStream answers given x more mine xs y line → Polled answers first (calls ++ more) y
 over_polls answers first calls given x _ _ _ _ _ p OverStream.not_yet = subst (λ (cs : List Call). Polled answers first cs x) (sym (append-nil calls)) p
 over_polls answers first calls given x _ _ _ _ _ p (OverStream.once_more y z more mine xs line left result before poll) =
     subst (λ (cs : List Call). Polled answers first cs z) (append_assoc calls more (calls_of_poll answers line y result z left poll))
     (Polled.once_more y z (calls ++ more) line left result (over_polls answers first calls given x more mine xs y line p before) poll)
-over_polls answers first calls given x _ _ _ _ _ p (OverStream.talked y z more mine its xs news node now wire left before round) =
+over_polls answers first calls given x _ _ _ _ _ p (OverStream.talked y z more mine its xs news most node now strays wire left before round) =
     subst (λ (cs : List Call). Polled answers first cs z) (append_assoc calls more its)
-    (made_polled answers first y z (calls ++ more) its (over_polls answers first calls given x more mine xs y (Open wire) p before) (round_made answers node now y wire its news z left round))
+    (made_behind answers strays first y z (calls ++ more) its (over_polls answers first calls given x more mine xs y (Open wire) p before)
+    (round_made answers most node now (with_strays strays y) wire its news z left round))
 over_polls answers first calls given x _ _ _ _ _ p (OverStream.away y z more mine xs cause stop before turn) =
     subst (λ (cs : List Call). Polled answers first cs z) (append_assoc calls more turn.calls)
     (Polled.away y z (calls ++ more) cause stop (over_polls answers first calls given x more mine xs y (Stopped (NeedStream cause)) p before) turn)
@@ -288,9 +295,9 @@ over_framed answers c names given x _ _ _ _ _ places config named order OverStre
 over_framed answers c names given x _ _ _ _ _ places config named order (OverStream.once_more y z calls mine xs line left result before poll) =
     let p : FramedOver c names x calls mine y = over_framed answers c names given x calls mine xs y line places config named order before in
     mine_then c names x y z calls mine (calls_of_poll answers line y result z left poll) p (poll_serves_its answers line y result z left p.places poll)
-over_framed answers c names given x _ _ _ _ _ places config named order (OverStream.talked y z calls mine its xs news node now wire left before round) =
+over_framed answers c names given x _ _ _ _ _ places config named order (OverStream.talked y z calls mine its xs news most node now strays wire left before round) =
     let p : FramedOver c names x calls mine y = over_framed answers c names given x calls mine xs y (Open wire) places config named order before in
-    mine_then c names x y z calls mine its p (made_serves y z its p.places (round_made answers node now y wire its news z left round))
+    mine_then c names x y z calls mine its p (serves_behind strays y z its p.places (round_made answers most node now (with_strays strays y) wire its news z left round))
 over_framed answers c names given x _ _ _ _ _ places config named order (OverStream.away y z calls mine xs cause stop before turn) =
     let p : FramedOver c names x calls mine y = over_framed answers c names given x calls mine xs y (Stopped (NeedStream cause)) places config named order before in
     mine_then c names x y z calls mine turn.calls p (away_serves cause y stop z p.places turn)

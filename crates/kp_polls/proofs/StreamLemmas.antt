@@ -9,16 +9,18 @@ use Rattle.kp_connection.specs.Wire.{Goes, Stops, Told, Wired}
 use Rattle.kp_connection.proofs.WireLemmas.{Goes-then, Goes-nothing, Goes-stops, Stops-then}
 use Rattle.kp_engine.specs.Closing.{calls_of_poll, calls_of_turn}
 use Rattle.kp_engine.specs.Engine.{Polls, fresh_wire, line_after}
+use Rattle.kp_engine.specs.Exchange.{with_strays}
 use Rattle.kp_engine.specs.Polls.{Turns}
 use Rattle.kp_engine.specs.Serving.{asked_by, replied_by}
 use Rattle.kp_engine.specs.Talking.{contents_of, frames_of}
 use Rattle.kp_engine.specs.declared.engine.Line.{Line}
 use Rattle.kp_engine.specs.declared.engine.Line.TheVariants.{Open, Stopped}
 use Rattle.kp_engine.specs.declared.exchange.Exchange.{Exchange}
+use Rattle.kp_engine.specs.declared.stop.Cause.{Cause}
 use Rattle.kp_engine.specs.declared.stop.Stop.{Stop}
 use Rattle.kp_engine.specs.declared.stop.Stop.TheVariants.{Done, NeedStream, OutOfMemory}
 use Rattle.kp_engine.proofs.AwayLemmas.{none_goes}
-use Rattle.kp_engine.specs.Rounds.{Rounds}
+use Rattle.kp_engine.specs.Rounds.{IsCut, Rounds}
 use Rattle.kp_engine.proofs.FrameLemmas.{talk_goes, talk_until_goes, turn_goes, until_goes}
 use Rattle.kp_engine.proofs.ServingLemmas.{before_nothing}
 use Rattle.kp_rules.specs.Calls.{Call, Disconnect}
@@ -112,31 +114,35 @@ module _ {S : Type 0} (answers : Told S) (nothing : (s : S) → answers s [] s)
       (silently w calls [] xs (Stopped stop) refl refl h))
 
   -- a round
-  round_over : (node now : ℕ) (x : Exchange) (w : Wired S) (calls : List Call) (xs : List Answer) (y : Exchange) (left : Line S) → Rounds answers node now x w calls xs y left
-      → WentOver answers w calls xs left
-  round_over node now x w _ _ _ _ (Rounds.goes_on y v on_time t) =
-      let g = talk_goes node now t.sent t.heard t.asked t.replied t.of_requests t.of_replies.made in
-      goes_by w v (frames_of t.sent) (contents_of t.heard) (t.asked ++ t.replied) t.xs g.0 g.1 t.talks.goes
-  round_over node now x w _ _ _ _ (Rounds.is_cut after y cause v t drops) =
-      let g = talk_goes node now t.sent t.heard t.asked t.replied t.of_requests t.of_replies.made in
-      let talk = t.asked ++ t.replied in
-      stops_by w v (frames_of t.sent) [] (contents_of t.heard) (talk ++ Disconnect node now ∷ []) t.xs
-      (before_nothing asked_by talk (Disconnect node now ∷ []) (frames_of t.sent) g.0 refl ∙ sym (append-nil (frames_of t.sent)))
-      (before_nothing replied_by talk (Disconnect node now ∷ []) (contents_of t.heard) g.1 refl) t.talks.stops
-  round_over node now x w _ _ _ _ (Rounds.no_talk y v t) =
-      let g = talk_until_goes node now t.sent t.heard t.calls t.until in
-      stops_by w v (frames_of t.sent) g.0 (contents_of t.heard) t.calls t.xs g.1 g.2 t.talks.stops
-  round_over node now x w _ _ _ _ (Rounds.no_drop after y cause v t none) =
+  cut_over : (most node now : ℕ) (x : Exchange) (w : Wired S) (calls : List Call) (xs : List Answer) (cause : Cause) (y : Exchange) (v : Wired S) (stop : Stop)
+      → IsCut answers most node now x w calls xs cause y v → WentOver answers w calls xs (Stopped stop)
+  cut_over most node now x w _ _ _ _ _ stop (IsCut.by_talk cause y v t) =
       let g = talk_goes node now t.sent t.heard t.asked t.replied t.of_requests t.of_replies.made in
       stops_by w v (frames_of t.sent) [] (contents_of t.heard) (t.asked ++ t.replied) t.xs (g.0 ∙ sym (append-nil (frames_of t.sent))) g.1 t.talks.stops
+  cut_over most node now x w _ _ _ _ _ stop (IsCut.by_strays y v on_time t many) =
+      let g = talk_goes node now t.sent t.heard t.asked t.replied t.of_requests t.of_replies.made in
+      stops_by w v (frames_of t.sent) [] (contents_of t.heard) (t.asked ++ t.replied) t.xs (g.0 ∙ sym (append-nil (frames_of t.sent))) g.1
+      (Goes-stops answers w v (frames_of t.sent) (contents_of t.heard) t.xs t.talks.goes)
+
+  round_over : (most node now : ℕ) (x : Exchange) (w : Wired S) (calls : List Call) (xs : List Answer) (y : Exchange) (left : Line S) → Rounds answers most node now x w calls xs y left
+      → WentOver answers w calls xs left
+  round_over most node now x w _ _ _ _ (Rounds.goes_on y v on_time t few) =
+      let g = talk_goes node now t.sent t.heard t.asked t.replied t.of_requests t.of_replies.made in
+      goes_by w v (frames_of t.sent) (contents_of t.heard) (t.asked ++ t.replied) t.xs g.0 g.1 t.talks.goes
+  round_over most node now x w _ _ _ _ (Rounds.is_cut calls xs after y cause v cut drops) =
+      silently w calls (Disconnect node now ∷ []) xs (Stopped (NeedStream cause)) refl refl (cut_over most node now x w calls xs cause after v (NeedStream cause) cut)
+  round_over most node now x w _ _ _ _ (Rounds.no_talk y v t) =
+      let g = talk_until_goes node now t.sent t.heard t.calls t.until in
+      stops_by w v (frames_of t.sent) g.0 (contents_of t.heard) t.calls t.xs g.1 g.2 t.talks.stops
+  round_over most node now x w _ _ _ _ (Rounds.no_drop calls xs after y cause v cut none) = cut_over most node now x w calls xs cause after v OutOfMemory cut
 
   pub went_over : (given : S) (x : Exchange) (calls mine : List Call) (xs : List Answer) (y : Exchange) (line : Line S) → OverStream answers given x calls mine xs y line
       → WentOver answers (fresh_wire given) mine xs line
   went_over given x _ _ _ _ _ OverStream.not_yet = Goes-nothing answers nothing (fresh_wire given)
   went_over given x _ _ _ _ _ (OverStream.once_more y z calls mine xs line left result before poll) =
       poll_over (fresh_wire given) mine xs line y result z left (went_over given x calls mine xs y line before) poll
-  went_over given x _ _ _ _ _ (OverStream.talked y z calls mine its xs news node now wire left before round) =
-      joined (fresh_wire given) wire mine its xs news left (went_over given x calls mine xs y (Open wire) before) (round_over node now y wire its news z left round)
+  went_over given x _ _ _ _ _ (OverStream.talked y z calls mine its xs news most node now strays wire left before round) =
+      joined (fresh_wire given) wire mine its xs news left (went_over given x calls mine xs y (Open wire) before) (round_over most node now (with_strays strays y) wire its news z left round)
   went_over given x _ _ _ _ _ (OverStream.away y z calls mine xs cause stop before turn) =
       let silent = none_goes cause y stop z turn in
       silently (fresh_wire given) mine turn.calls xs (Stopped stop) silent.0 silent.1 (went_over given x calls mine xs y (Stopped (NeedStream cause)) before)

@@ -9,6 +9,7 @@ use Rattle.kp_connection.specs.Wire.{Told, Wired, frames}
 use Rattle.kp_engine.specs.Away.{MakesTurnAway}
 use Rattle.kp_engine.specs.Closing.{Polled, calls_of_poll}
 use Rattle.kp_engine.specs.Engine.{Polls, fresh_wire}
+use Rattle.kp_engine.specs.Exchange.{with_strays}
 use Rattle.kp_engine.specs.Polls.{Turns}
 use Rattle.kp_engine.specs.Rounds.{Rounds}
 use Rattle.kp_engine.specs.Serving.{asked_by, replied_by}
@@ -51,8 +52,8 @@ pub data OverStream {S : Type 0} (answers : Told S) (given : S) (x : Exchange) :
       → (poll : Polls answers line y result z left)
       → OverStream answers given x (calls ++ calls_of_poll answers line y result z left poll) (mine ++ calls_of_poll answers line y result z left poll)
       (xs ++ answered_in_poll answers line y result z left poll) z left
-  talked : (y z : Exchange) (calls mine its : List Call) (xs news : List Answer) (node now : ℕ) (wire : Wired S) (left : Line S) → OverStream answers given x calls mine xs y (Open wire)
-      → Rounds answers node now y wire its news z left → OverStream answers given x (calls ++ its) (mine ++ its) (xs ++ news) z left
+  talked : (y z : Exchange) (calls mine its : List Call) (xs news : List Answer) (most node now strays : ℕ) (wire : Wired S) (left : Line S) → OverStream answers given x calls mine xs y (Open wire)
+      → Rounds answers most node now (with_strays strays y) wire its news z left → OverStream answers given x (calls ++ its) (mine ++ its) (xs ++ news) z left
   away : (y z : Exchange) (calls mine : List Call) (xs : List Answer) (cause : Cause) (stop : Stop) → OverStream answers given x calls mine xs y (Stopped (NeedStream cause))
       → (turn : MakesTurnAway cause y stop z) → OverStream answers given x (calls ++ turn.calls) (mine ++ turn.calls) xs z (Stopped stop)
   meanwhile : (y z : Exchange) (calls mine others : List Call) (xs : List Answer) (line : Line S) → OverStream answers given x calls mine xs y line

@@ -10,6 +10,7 @@ use Rattle.kp_engine.specs.Polls.{IsDone}
 use Rattle.kp_engine.specs.declared.cluster.ClusterEngine.{ClusterEngine}
 use Rattle.kp_engine.specs.declared.node_line.NodeLine.{NodeLine}
 use Rattle.kp_engine.specs.declared.stop.Cause.{Cause}
+use Rattle.kp_engine.specs.declared.stop.Cause.TheVariants.{BadReply, Io, TimedOut}
 use Rattle.kp_engine.specs.declared.stop.Stop.{Stop}
 use Rattle.kp_engine.specs.declared.stop.Stop.TheVariants as stop
 use Rattle.kp_running.specs.Engines.{read_by}
@@ -42,9 +43,16 @@ pub record Loses {S C K : Type 0} (moments : C → List ℕ) (node : ℕ) (old n
 
 -- ---- what is new
 
--- The connection was given to it; nothing else is changed.
-pub record IsConnected {S C : Type 0} (node : ℕ) (stream : S) (old new : ClusterEngine S C) : Type 0 where
-  pub lines : Connects node stream old.lines.items new.lines.items
+-- how many requests a connection begins with at a time: one, where the last connection that was lost had timed out; else as many as the
+-- core allows
+abbrev pub window_behind : Cause → Option ℕ
+window_behind TimedOut = Some 1
+window_behind Io = None
+window_behind (BadReply fault) = None
+
+-- The connection was given to it, behind one that was lost for this; nothing else is changed.
+pub record IsConnected {S C : Type 0} (why : Cause) (node : ℕ) (stream : S) (old new : ClusterEngine S C) : Type 0 where
+  pub lines : Connects node stream (window_behind why) old.lines.items new.lines.items
   pub exchange : new.exchange ≡ old.exchange
   pub clock : new.clock ≡ old.clock
   pub over : new.over ≡ old.over
@@ -59,7 +67,7 @@ pub record Stays {S C : Type 0} (old new : ClusterEngine S C) : Type 0 where
 -- What was new is done: a connection is given to the engine, or its memory was refused; another leader is told; connections are
 -- dropped; or there is to be none any more, since the last one was lost for this.
 abbrev pub Heeds : {S C : Type 0} (moments : C → List ℕ) → Cause → News S → ClusterEngine S C → Result (Unit {0}) Over → ClusterEngine S C → Type 0
-Heeds moments why (Connected node stream) old (Ok done) new = IsConnected node stream old new
+Heeds moments why (Connected node stream) old (Ok done) new = IsConnected why node stream old new
 Heeds moments why (Connected node stream) old (Err over) new = Stays old new × (over ≡ OutOfMemory)
 Heeds moments why (Led partition node) old result new = LeadsNow moments partition node old new × (result ≡ Ok tt)
 Heeds moments why (Dropped node) old result new = DropsNow moments node old new × (result ≡ Ok tt)

@@ -6,7 +6,7 @@ ghost use Rattle.futures.specs.Task.{Hears, Keeps};
 ghost use Rattle.futures.specs.declared.task.Poll.{Poll as Polled};
 ghost use Rattle.kp_engine.specs.Cluster.{PollsCluster};
 ghost use Rattle.kp_engine.specs.Lines.{node_lost};
-ghost use Rattle.kp_running.specs.Fleet.{FleetPolls, Heeds, Loses, TakesNews, read_by_each};
+ghost use Rattle.kp_running.specs.Fleet.{FleetPolls, Heeds, Loses, TakesNews, read_by_each, window_behind};
 ghost use Rattle.kp_running.specs.Over.{IfGaveUp, IsSpent, over_of};
 ghost use Rattle.kp_running.specs.declared.keeping.News.TheVariants.{Ended};
 
@@ -60,17 +60,20 @@ impl<S: Stream, C: Clock, K: Keeping<Stream = S>> Fleet<S, C, K> {
         self.engine.disconnect(node);
     }
 
-    /// Does what is new. Where memory is refused for a connection, it is closed, and nothing else has changed.
+    /// Does what is new. A connection that follows one that has timed out begins with one request at a time. Where memory is refused
+    /// for a connection, it is closed, and nothing else has changed.
     fn heed(&mut self, news: News<S>) -> Result<(), Over>
         ensures heeds { Heeds C.moments self.old.why news self.old.engine result self.new.engine }
         ensures keeping { (self.new.keeping ≡ self.old.keeping) × (self.new.why ≡ self.old.why) }
         ensures gave_up { IfErr result (λ over. IfGaveUp over (news ≡ Ended)) }
     {
         match news {
-            News::Connected(node, stream) => match self.engine.connect(node, stream) {
-                Ok(()) => Ok(()),
-                Err(_) => Err(Over::OutOfMemory),
-            },
+            News::Connected(node, stream) => {
+                match self.engine.connect(node, stream, window_behind(self.why)) {
+                    Ok(()) => Ok(()),
+                    Err(_) => Err(Over::OutOfMemory),
+                }
+            }
             News::Led(partition, node) => {
                 self.engine.lead(partition, node);
                 Ok(())
@@ -155,5 +158,15 @@ impl<S: Stream, C: Clock, K: Keeping<Stream = S>> Turning for Fleet<S, C, K> {
 
     fn due_in(&self) -> Option<u64> {
         due_after(self.engine.moves().now(), self.engine.core().next_due())
+    }
+}
+
+/// How many requests a connection begins with at a time, where the last one was lost for this.
+fn window_behind(why: Cause) -> Option<u64>
+    ensures { result ≡ window_behind why }
+{
+    match why {
+        Cause::TimedOut => Some(1),
+        Cause::Io | Cause::BadReply(_) => None,
     }
 }

@@ -214,7 +214,10 @@ fn several(
         return Err(AllocError);
     };
     for node in 0..nodes {
-        if engine.connect(node, Far::new(alloc, partitions)?).is_err() {
+        if engine
+            .connect(node, Far::new(alloc, partitions)?, None)
+            .is_err()
+        {
             return Err(AllocError);
         }
     }

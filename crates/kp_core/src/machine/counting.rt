@@ -3,14 +3,17 @@
 ghost use Rattle.std.specs.Prelude.{◌≡◌, ◌<◌, length, min};
 ghost use Rattle.std.specs.List.{list_any};
 ghost use Rattle.std.specs.Option.{option_copied};
+ghost use Rattle.kp_rules.specs.Attempts.{to_node};
 ghost use Rattle.kp_rules.specs.Counts.{all_queued, attempts_sent, batches_handed_over, batches_in_flight};
 ghost use Rattle.kp_rules.specs.Flush.{is_flushed};
 ghost use Rattle.kp_rules.specs.Partitions.{all_untold, partition_at, used};
 ghost use Rattle.kp_rules.specs.Requesting.{is_spent};
 ghost use Rattle.kp_core.specs.Busy.{busy_in, has_work_for};
+ghost use Rattle.kp_core.specs.Requests.{oldest_to};
 ghost use Rattle.kp_core.specs.Spent.{can_only_end};
 
 use crate::machine::Core;
+use crate::requests::{count_to, first_to};
 use kp_accum::Config;
 use kp_rules::{Names, Run};
 
@@ -104,6 +107,20 @@ impl Core {
         ensures { result ≡ length self.now.requests }
     {
         self.requests.len()
+    }
+
+    /// How many requests are in flight to this node.
+    pub fn requests_to(&self, node: u32) -> usize
+        ensures { result ≡ length (to_node node self.now.requests) }
+    {
+        count_to(&self.requests, node)
+    }
+
+    /// The moment at which the oldest request went out that is in flight to this node.
+    pub fn oldest_to(&self, node: u32) -> Option<u64>
+        ensures { result ≡ oldest_to node self.now }
+    {
+        Some(first_to(&self.requests, node)?.sent())
     }
 
     /// How many batches await a reply; the greatest number, where there are more.

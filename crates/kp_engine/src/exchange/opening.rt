@@ -6,7 +6,7 @@ ghost use Rattle.std.specs.Option.{option_copied};
 ghost use Rattle.std.specs.Str.{IsUtf8};
 ghost use Rattle.kp_rules.specs.Calls.{Disconnect, End, Lead, Step};
 ghost use Rattle.kp_engine.specs.Engine.{Cleared};
-ghost use Rattle.kp_engine.specs.Exchange.{OnlyCore};
+ghost use Rattle.kp_engine.specs.Exchange.{OnlyCore, notes_in, with_strays};
 ghost use Rattle.kp_engine.specs.Opening.{MayTurn};
 
 use crate::exchange::Exchange;
@@ -33,6 +33,7 @@ impl Exchange {
         ensures reports { IfOk result (λ x. x.reports.items ≡ replicate (length core.reports) None) }
         ensures names { IfOk result (λ _. IsUtf8 core.names.topic × IsUtf8 core.names.client) }
         ensures turn { IfOk result (λ x. option_map (λ v. v.items) x.notes.turn ≡ (if keeps_turns then Some [] else None)) }
+        ensures notes { IfOk result (λ x. notes_in x ≡ record { strays = 0; calls = if keeps_turns then Some [] else None }) }
         ensures back { IfErr result (λ given. (given.0 ≡ core) × (given.1 ≡ intake)) }
     {
         see_names(&core);
@@ -55,6 +56,14 @@ impl Exchange {
             notes: Notes::new(alloc, keeps_turns),
             held,
         })
+    }
+
+    /// What is heard from here on is heard over a connection of whose replies so many in a row, the last ones, named no request in
+    /// flight.
+    pub(crate) fn hear_behind(&mut self, strays: u32)
+        ensures { self.new ≡ with_strays strays self.old }
+    {
+        self.notes.strays = strays;
     }
 
     /// Forgets the calls of the last turn.

@@ -127,6 +127,9 @@ fn keep_in_both(busy: &mut Vec<u32>, by_leader: &mut Vec<u32>, partitions: &[Par
     ensures room { vec_capacity busy.new ≡ vec_capacity busy.old }
     ensures by_leader_room { vec_capacity by_leader.new ≡ vec_capacity by_leader.old }
 {
+    if busy.is_empty() {
+        return;
+    }
     let count = busy.len();
     keep_busy(busy, partitions);
     if busy.len() < count {

@@ -54,6 +54,10 @@ fn put_in(places: &mut Vec<u32>, place: u32)
         → places.new.items ≡ below ++ place ∷ above }
     ensures capacity { vec_capacity places.new ≡ vec_capacity places.old }
 {
+    if places.last().is_none_or(|last| *last < place) {
+        places.push_reserved(place);
+        return;
+    }
     let at = places.partition_point(|other| *other < place);
     // There is room, so it is never refused.
     let _inserted = places.insert(at, place);

@@ -1,7 +1,7 @@
 use Rattle.std.proofs.Common.{◌≡◌, ℕ, ◌<◌, [], ◌∷◌, length, refl, ap, ◌∙◌, arith}
 use Rattle.std.specs.Prelude.{Some}
 use Rattle.kp_rules.specs.Calls.{Fetch}
-use Rattle.kp_engine.specs.Turned.{calls_in, noted}
+use Rattle.kp_engine.specs.Turned.{noted, notes_of}
 use Rattle.kp_engine.proofs.AgreementLemmas.{agree_on}
 use Rattle.kp_engine.proofs.MailLemmas.{its_own, none_fetched, others_wait, some_fetched}
 use Rattle.kp_engine.proofs.RunLemmas.{runs_none, runs_one, noted_behind}
@@ -35,7 +35,7 @@ returns-in-Some-clause-ok c =
     let waited = some_fetched c.args.self.now.core c.next_report.new.self c.args.sender c.in-Some.report near c.in-Some.ensures in
     let its : c.in-Some.report.sender ≡ c.args.sender = its_own c.args.sender c.in-Some.report _ _ waited (c.args.self.now.agree.its_waiting c.args.sender) in (
       runs_one c.args.self.now _ (Fetch c.args.sender (Some c.in-Some.report)) tt c.in-Some.ensures
-          (noted_behind (Fetch c.args.sender (Some c.in-Some.report) ∷ []) _ _ _ (c.add.ensures ∙ ap (λ (n : ℕ). noted (Fetch n (Some c.in-Some.report) ∷ []) (calls_in c.reserve.new.self.turn)) its) c.reserve.ensures.same),
+          (noted_behind (Fetch c.args.sender (Some c.in-Some.report) ∷ []) _ _ _ (c.add.ensures ∙ ap (λ (n : ℕ). noted (Fetch n (Some c.in-Some.report) ∷ []) (notes_of c.reserve.new.self)) its) c.reserve.ensures.same),
       its,
       waited,
     )

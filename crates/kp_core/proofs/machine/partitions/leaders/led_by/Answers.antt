@@ -1,11 +1,19 @@
-use Rattle.std.proofs.Common.{◌≡◌, ◌∙◌, ◌≤◌, ℕ, List, length, take, drop, nat_lt, nat_le, sym, ap, subst, rules, of_calls}
+use Rattle.std.proofs.Common.{◌≡◌, ◌∙◌, ◌≤◌, ℕ, true, List, length, take, drop, nat_lt, nat_le, sym, ap, subst, rules, of_calls}
+use Rattle.std.specs.List.{list_all}
 use Rattle.std.specs.List.Sorted.{IsPartitionedBy}
 use Rattle.std.proofs.lemmas.Fn.{always_returns_same}
-use Rattle.kp_rules.specs.Partitions.{partition_at}
+use Rattle.kp_rules.specs.Partitions.{leads, partition_at}
 use Rattle.kp_core.specs.ByLeader.{by_leader}
 use Rattle.kp_core.proofs.LedLemmas.{PartAt}
-use Rattle.kp_core.proofs.WorkLemmas.{low_parted, upto_parted, work-is}
+use Rattle.kp_core.proofs.WorkLemmas.{all_led, low_parted, upto_parted, work-is}
 use Rattle.kp_core.proofs.machine.partitions.leaders.led_by.Goals as goal
+
+pub returns-then-leads_all : goal.returns-then-leads_all
+returns-then-leads_all c =
+    let ts = c.args.partitions.now in
+    let all : list_all (λ p. leads c.args.node (partition_at p ts)) (by_leader ts) ≡ true =
+    ap (list_all (λ p. leads c.args.node (partition_at p ts))) (sym c.requires) ∙ sym c.leads_all.ensures ∙ c.if-leads_all.true in
+    c.requires ∙ all_led c.args.node ts all
 
 pub returns : goal.returns
 returns c =
