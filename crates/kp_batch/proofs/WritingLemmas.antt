@@ -57,11 +57,6 @@ latest_further rs k r latest next whole lt e is so_far =
 
 -- ---- the fields before the records
 
-pub front_spelled : (f : Front) (o0 o1 o2 o3 o4 o5 : List ℕ) → o1 ≡ o0 ++ (int w64).spell f.base_offset → o2 ≡ o1 ++ (int w32).spell f.batch_length → o3 ≡ o2 ++ (int w32).spell f.leader_epoch
-    → o4 ≡ o3 ++ (int w8).spell f.magic → o5 ≡ o4 ++ (number w32).spell f.checksum → o5 ≡ o0 ++ front.spell f
-unfolding front
-front_spelled f o0 o1 o2 o3 o4 o5 e1 e2 e3 e4 e5 = rw (e5, e4, e3, e2, e1) (simp append_assoc)
-
 pub head_spelled : (h : BatchHead) (o0 o1 o2 o3 : List ℕ) → o1 ≡ o0 ++ (int w64).spell h.producer_id → o2 ≡ o1 ++ (int w16).spell h.epoch → o3 ≡ o2 ++ (int w32).spell h.base_sequence → o3 ≡ o0 ++ head.spell h
 unfolding head
 head_spelled h o0 o1 o2 o3 e1 e2 e3 = rw (e3, e2, e1) (simp append_assoc)
@@ -106,6 +101,10 @@ sealed f rest = record f { batch_length = pos (9 + length rest); checksum = crc 
 -- what a writer puts before the length and the checksum are known
 unfoldable pub unsealed : Front
 unsealed = record { base_offset = pos 0; batch_length = pos 0; leader_epoch = negsuc 0; magic = pos 2; checksum = 0 }
+
+pub unsealed_spelled : front.spell unsealed ≡ 0 ∷ 0 ∷ 0 ∷ 0 ∷ 0 ∷ 0 ∷ 0 ∷ 0 ∷ 0 ∷ 0 ∷ 0 ∷ 0 ∷ 255 ∷ 255 ∷ 255 ∷ 255 ∷ 2 ∷ 0 ∷ 0 ∷ 0 ∷ 0 ∷ []
+unfolding front unsealed
+unsealed_spelled = refl
 
 front_fits : (h : BatchHead) (rs : List Record) → 9 + length (covered h rs) < 2 ^ 31 → crc (covered h rs) < 2 ^ 32 → front.Fits (front_of (written h rs))
 unfolding front front_of

@@ -12,15 +12,21 @@ ghost use Rattle.kp_batch.specs.Spelling.{front, head, summary, relative_by, rel
 
 use crate::as_record::AsRecord;
 use crate::batch::BatchHead;
-use crate::layout::{CHECKSUM_AT, COVERED_AT, LENGTH_AT, LENGTH_END, MAGIC};
+use crate::layout::{CHECKSUM_AT, COVERED_AT, LENGTH_AT, LENGTH_END};
 use crate::record::{Header, Record, Timestamp};
 use crate::size::{SIZE_LIMIT, header_size, record_fields_size, room_for};
-use crate::summary::{Front, Summary};
+use crate::summary::Summary;
 use kp_wire::{
-    Blob, MeasuredField, crc32c, put_each, put_i8, put_i16, put_i32, put_i64, put_u32, put_varint,
+    Blob, MeasuredField, crc32c, put_each, put_i8, put_i16, put_i32, put_i64, put_varint,
     put_varlong,
 };
 use std::alloc::{AllocError, Global};
+
+/// What stands before the fields that the checksum covers, in a batch that a producer writes: base offset 0, no length yet, leader
+/// epoch -1, the magic byte, no checksum yet.
+const FRONT: [u8; COVERED_AT] = [
+    0, 0, 0, 0, 0, 0, 0, 0, 0, 0, 0, 0, 255, 255, 255, 255, 2, 0, 0, 0, 0,
+];
 
 /// Appends the bytes behind their length. An `Err` may leave a part.
 #[inline(always)]
@@ -163,17 +169,6 @@ fn latest_of<T: AsRecord>(first: Timestamp, records: &[T]) -> Timestamp
     latest
 }
 
-fn put_front(out: &mut Vec<u8>, f: &Front) -> Result<(), AllocError>
-    ensures { OnOk result (out.new.items ≡ out.old.items ++ front.spell f.now) }
-{
-    put_i64(out, f.base_offset)?;
-    put_i32(out, f.batch_length)?;
-    put_i32(out, f.leader_epoch)?;
-    put_i8(out, f.magic)?;
-    put_u32(out, f.checksum)?;
-    Ok(())
-}
-
 fn put_head(out: &mut Vec<u8>, h: &BatchHead) -> Result<(), AllocError>
     ensures { OnOk result (out.new.items ≡ out.old.items ++ head.spell h.now) }
 {
@@ -266,14 +261,7 @@ pub fn write_batch<T: AsRecord>(
     ensures { IfOk result (λ bytes. Spells bytes.items (written h (map T.body records.now))) }
 {
     let mut out = Vec::with_capacity(alloc, room_for(records))?;
-    let front = Front {
-        base_offset: 0,
-        batch_length: 0,
-        leader_epoch: -1,
-        magic: MAGIC,
-        checksum: 0,
-    };
-    put_front(&mut out, &front)?;
+    out.extend_from_slice(&FRONT)?;
     put_covered(&mut out, h, records)?;
     seal(&mut out);
     Ok(out)

@@ -3,7 +3,7 @@ use Rattle.kp_batch.specs.Spelling.{front, Spells, written, covered}
 use Rattle.kp_batch.proofs.SizeLemmas.{size_of_batch-is}
 use Rattle.std.proofs.lemmas.List.{take_at}
 use Rattle.kp_batch.proofs.BatchLemmas.{length-covered, length-before}
-use Rattle.kp_batch.proofs.WritingLemmas.{unsealed, sealed, batch_spelled}
+use Rattle.kp_batch.proofs.WritingLemmas.{unsealed, unsealed_spelled, sealed, batch_spelled}
 use Rattle.kp_batch.proofs.writing.write_batch.Goals as goal
 
 -- what stands before the seal
@@ -15,7 +15,7 @@ unfolding unsealed
 seal-requires g c =
     let rs = map g.T.AsRecord.body c.args.records.now in
     let cov = covered c.args.h rs in
-    let whole : c.deref_mut.result.now ≡ front.spell unsealed ++ cov = c.deref_mut.ensures.value ∙ before _ (front.spell unsealed) cov _ _ c.in_ok-out.ensures.items c.in_ok-put_front.ensures c.in_ok-put_covered.ensures.spelled in
+    let whole : c.deref_mut.result.now ≡ front.spell unsealed ++ cov = c.deref_mut.ensures.value ∙ before _ (front.spell unsealed) cov _ _ c.in_ok-out.ensures.items (c.in_ok-extend_from_slice.ensures.items ∙ ap (λ (x : List ℕ). c.in_ok-out.out.items ++ x) (sym unsealed_spelled)) c.in_ok-put_covered.ensures.spelled in
     let sum : length c.deref_mut.result.now ≡ 21 + length cov = ap length whole ∙ length-before unsealed cov in
     record {
       long = omega (arith, sum);
@@ -28,7 +28,7 @@ returns g c =
     let h = c.args.h in
     let rs = map g.T.AsRecord.body c.args.records.now in
     let cov = covered h rs in
-    let whole : c.deref_mut.result.now ≡ front.spell unsealed ++ cov = c.deref_mut.ensures.value ∙ before _ (front.spell unsealed) cov _ _ c.in_ok-out.ensures.items c.in_ok-put_front.ensures c.in_ok-put_covered.ensures.spelled in
+    let whole : c.deref_mut.result.now ≡ front.spell unsealed ++ cov = c.deref_mut.ensures.value ∙ before _ (front.spell unsealed) cov _ _ c.in_ok-out.ensures.items (c.in_ok-extend_from_slice.ensures.items ∙ ap (λ (x : List ℕ). c.in_ok-out.out.items ++ x) (sym unsealed_spelled)) c.in_ok-put_covered.ensures.spelled in
     let items : c.put_covered.new.out.items ≡ c.deref_mut.result.now = sym c.deref_mut.ensures.value in
     let done : c.seal.new.bytes ≡ front.spell (sealed unsealed cov) ++ cov = c.seal.ensures.sealed unsealed cov whole in
     let same : length c.deref_mut.result.now ≡ length c.seal.new.bytes = omega (arith, ap length whole, ap length done, length-before unsealed cov, length-before (sealed unsealed cov) cov) in

@@ -120,6 +120,7 @@ impl Partitions {
 }
 
 /// Those stay in both lists of which something is queued or open. The second one has none that the first has not.
+#[inline(always)]
 fn keep_in_both(busy: &mut Vec<u32>, by_leader: &mut Vec<u32>, partitions: &[Partition])
     requires { AllByRecursion (λ p. is_in p busy.old.items ≡ true) by_leader.old.items }
     ensures busy { busy.new.items ≡ filter (λ p. is_busy (partition_at p partitions.now)) busy.old.items }
@@ -138,6 +139,7 @@ fn keep_in_both(busy: &mut Vec<u32>, by_leader: &mut Vec<u32>, partitions: &[Par
 }
 
 /// Those stay of which something is queued or open.
+#[inline(always)]
 fn keep_busy(places: &mut Vec<u32>, partitions: &[Partition])
     ensures items { places.new.items ≡ filter (λ p. is_busy (partition_at p partitions.now)) places.old.items }
     ensures capacity { vec_capacity places.new ≡ vec_capacity places.old }
@@ -146,6 +148,7 @@ fn keep_busy(places: &mut Vec<u32>, partitions: &[Partition])
 }
 
 /// Whether something of this partition, if it is there, is queued or open.
+#[inline(always)]
 fn is_busy_at(partitions: &[Partition], place: u32) -> bool
     ensures { result ≡ is_busy (partition_at place partitions.now) }
 {
