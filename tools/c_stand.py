@@ -130,9 +130,10 @@ class Relay:
     plan says at which Produce requests, by their numbers from 0 on over all nodes, it does what: "cut": half of the request goes
     on, and the connection is reset; "cut-answer": half of its answer goes back, and the connection is reset; "hold": for HELD
     seconds nothing is read of the connection nor written to it; "leave": the nodes of `leaving` are away until `come_back`: their
-    connections are reset, and none is to be had. The connections are so narrow that a producer's writes do not always fit."""
+    connections are reset, and none is to be had; with `begins_away` they are so from the beginning. The connections are so narrow
+    that a producer's writes do not always fit."""
 
-    def __init__(self, addresses, plan, leaving=()):
+    def __init__(self, addresses, plan, leaving=(), begins_away=False):
         self.plan, self.leaving = plan, leaving
         self.targets = [(host, int(port)) for host, port in (it.rsplit(":", 1) for it in addresses)]
         self.places = [local(0) for _ in addresses]  # They stay, so that nobody else is given the port of a node that is away.
@@ -145,7 +146,7 @@ class Relay:
         self.done = []  # What was done of the plan.
         self.has_left, self.is_to_come_back, self.is_to_end = (threading.Event() for _ in range(3))
         self.fault = None
-        self.listen(range(len(addresses)))
+        self.listen(it for it in range(len(addresses)) if not (begins_away and it in leaving))
         self.thread = threading.Thread(target=self.serve, daemon=True)
         self.thread.start()
 

@@ -73,6 +73,7 @@ impl<S: Stream> Wire<S> {
     }
 
     /// Writes until nothing waits to be written. Its error is that of a write, or WriteZero where one took no bytes.
+    #[inline(always)]
     pub fn poll_write(&mut self, cx: &mut Context<'_>) -> Poll<io::Result<()>>
         ensures writes { Writes S.answers self.old result self.new }
         ensures registered { OnPending result (Covers cx.new (S.writer self.new.stream)) }
@@ -117,6 +118,7 @@ impl<S: Stream> Wire<S> {
     }
 
     /// The content of the oldest whole frame that was read and not heard.
+    #[inline]
     pub fn next_frame(&mut self) -> Result<Option<Vec<u8>>, AllocError>
         ensures { Hears S.answers self.old result self.new }
     {

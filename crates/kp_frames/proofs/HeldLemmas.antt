@@ -13,7 +13,7 @@ use Rattle.kp_frames.specs.Stream.{Split, first, stream, is_faulty, kept}
 use Rattle.kp_frames.specs.Life.{Feeds, Next}
 use Rattle.kp_frames.specs.Held.{is_stopped, IsHeld, IsInOrder, IsDropped}
 use Rattle.kp_frames.proofs.FirstLemmas.{fronted, front_len}
-use Rattle.kp_frames.proofs.StreamLemmas.{passes_frame, first_then, stream_more, faulty_so, at_rest}
+use Rattle.kp_frames.proofs.StreamLemmas.{passes_frame, first_then, first_none, stream_more, faulty_so, at_rest}
 use Rattle.kp_frames.proofs.KeptLemmas.{rest_shorter, kept_behind, kept_open, kept_none, none_faulty, kept_kept, keeps, faulty_behind, stops_of, stopped}
 
 pub held_none : IsInOrder [] 0 0 Open
@@ -204,6 +204,20 @@ gives_frame bytes content rest given whole tail p e =
             ∙ sym view;
       };
     }
+
+-- all that is held is in no whole frame: there is none
+pub none_whole : (held : List ℕ) → (stream held).rest ≡ held → (stream held).frames ≡ []
+none_whole held all = whole_or_not (first held) refl
+  where
+    whole_or_not : (r : Result (List ℕ × List ℕ) FrameFault) → first held ≡ r → (stream held).frames ≡ []
+    whole_or_not (Err f) e = ap (λ (s : Split). s.frames) (first_none held f e)
+    whole_or_not (Ok x) e =
+        let f = fronted held x e in
+        let size = front_len f.front x.0 f.is_front in
+        let sum : length held ≡ length f.front + length x.1 = ap length f.parts ∙ length-append f.front x.1 in
+        let less = rest_shorter x.1 in
+        let same : length (stream x.1).rest ≡ length held = ap length (sym (ap (λ (s : Split). s.rest) (first_then held x e)) ∙ all) in
+        absurd (omega arith)
 
 -- no memory for the content
 pub refused : (held : List ℕ) (content : List ℕ) (rest : List ℕ) (r : Result (Option (Vec ℕ)) FrameFault) → first held ≡ Ok (content, rest) → IsErrAnd r (λ e. e ≡ OutOfMemory) → Next held r held

@@ -75,7 +75,19 @@ impl Splitter {
     }
 
     /// The content of the oldest whole frame that was not given. Its only fault is OutOfMemory.
+    #[inline]
     pub fn next_frame(&mut self) -> Result<Option<Vec<u8>>, FrameFault>
+        ensures { Next self.old result self.new }
+    {
+        if self.given == self.whole {
+            return Ok(None);
+        }
+        self.give_frame()
+    }
+
+    /// As `next_frame`, where it isn't known at once that there is none.
+    #[inline(never)]
+    fn give_frame(&mut self) -> Result<Option<Vec<u8>>, FrameFault>
         ensures { Next self.old result self.new }
     {
         let Ok((content, _)) = first_frame(&self.bytes[self.given..]) else {
