@@ -84,14 +84,11 @@ talk_silent calls h = record { appends = talk_none appended_by no_append calls h
 pub talk_serves : (x y : Exchange) (calls : List Call) (life : Life) → HasPlaces x → AllTalk calls → Lives x.core calls life y.core → AllByRecursion IsHeld calls → OnlyCore x y → Served x calls y
 talk_serves x y calls life places talk lives held only = only_core_serves x y calls life lives held places only (talk_silent calls talk)
 
-pub made_serves : (x y : Exchange) (calls : List Call) → HasPlaces x → IsMade x calls y → Served x calls y
-made_serves x y calls places m = talk_serves x y calls m.makes.runs.life places m.talk m.makes.runs.lives m.makes.runs.held m.makes.only
-
-pub made_polled : {S : Type 0} (answers : Told S) (x y z : Exchange) (calls its : List Call) → Polled answers x calls y → IsMade y its z → Polled answers x (calls ++ its) z
-made_polled answers x y z calls its before m = Polled.talked y z calls its m.makes.runs.life before m.talk m.makes.runs.lives m.makes.runs.held m.makes.only
-
 only_behind : (n : ℕ) (x y : Exchange) → OnlyCore (with_strays n x) y → OnlyCore x y
 only_behind n x y only = record { intake = only.intake; items = only.items; reports = only.reports; closed = only.closed }
+
+pub serves_behind : (n : ℕ) (y z : Exchange) (its : List Call) → HasPlaces y → IsMade (with_strays n y) its z → Served y its z
+serves_behind n y z its places m = talk_serves y z its m.makes.runs.life places m.talk m.makes.runs.lives m.makes.runs.held (only_behind n y z m.makes.only)
 
 -- behind replies over a connection of which so many named no request
 pub made_behind : {S : Type 0} (answers : Told S) (n : ℕ) (x y z : Exchange) (calls its : List Call) → Polled answers x calls y → IsMade (with_strays n y) its z → Polled answers x (calls ++ its) z

@@ -20,6 +20,6 @@ pub enum Cause {
     Io,
     /// A request has waited too long for its reply.
     TimedOut,
-    /// A reply was refused, or the size of a frame was that of none.
+    /// A reply was refused, the size of a frame was that of none, or a thousand replies in a row named no request in flight.
     BadReply(FrameFault),
 }

@@ -9,6 +9,7 @@ use crate::turned::Turned;
 pub(crate) const STRAY_LIMIT: u32 = 1_000;
 
 /// How many there are in a row behind this call; once there are too many they are counted no more.
+#[inline]
 pub(crate) fn strays_behind(call: &Turned, strays: u32) -> u32
     ensures { result ≡ strays_behind (call_of call.now) strays }
 {

@@ -57,6 +57,7 @@ pub(crate) fn turn<S: Stream>(
 }
 
 /// Requests, so many at most, and replies, unless a request has waited too long. Why the connection is of no use any more.
+#[inline(always)]
 fn talk<S: Stream>(
     exchange: &mut Exchange,
     wire: &mut Wire<S>,
@@ -75,6 +76,25 @@ fn talk<S: Stream>(
     if late {
         return Ok(Some(Cause::TimedOut));
     }
+    converse(exchange, wire, cx, most, node, now)
+}
+
+/// The same, where none has.
+#[inline(never)]
+fn converse<S: Stream>(
+    exchange: &mut Exchange,
+    wire: &mut Wire<S>,
+    cx: &mut Context<'_>,
+    most: u32,
+    node: u32,
+    now: u64,
+) -> Result<Option<Cause>, AllocError>
+    requires sound { is_faulty wire.old.held ≡ false }
+    requires few { most ≤ 16 }
+    ensures talks { TalksAll S.answers most node now false exchange.old wire.old result exchange.new wire.new }
+    ensures registered { IfOk result (λ cut. cut ≡ None → Covers cx.new (S.reader wire.new.stream)) }
+    ensures kept { Keeps cx.old cx.new }
+{
     match writing::write_requests(exchange, wire, cx, most, node, now) {
         Err(refused) => Err(refused),
         Ok(false) => Ok(Some(Cause::Io)),

@@ -18,7 +18,7 @@ use Rattle.kp_engine.specs.declared.engine.Line.TheVariants.{Open, Stopped}
 use Rattle.kp_engine.specs.declared.exchange.Exchange.{Exchange}
 use Rattle.kp_engine.specs.declared.stop.Stop.TheVariants.{NeedStream}
 use Rattle.kp_engine.proofs.ClosingLemmas.{polls_serve, polls_then}
-use Rattle.kp_engine.proofs.RoundLemmas.{IsMade, made_behind, round_made, talk_serves}
+use Rattle.kp_engine.proofs.RoundLemmas.{made_behind, round_made, serves_behind}
 use Rattle.kp_engine.proofs.ServedLemmas.{away_serves, poll_serves_its}
 use Rattle.kp_frames.specs.declared.frame.TheConstants.{CONTENT_LIMIT}
 use Rattle.kp_frames.specs.Stream.{Split, at_most, frame, stream}
@@ -199,11 +199,6 @@ new_names : (o : Opening) (audits : Bool) → (opened audits (new_core o.config 
 unfolding new_core without_audits
 new_names o true = refl
 new_names o false = refl
-
-serves_behind : (n : ℕ) (y z : Exchange) (its : List Call) → HasPlaces y → IsMade (with_strays n y) its z → Served y its z
-serves_behind n y z its places m =
-    let only = m.makes.only in
-    talk_serves y z its m.makes.runs.life places m.talk m.makes.runs.lives m.makes.runs.held (record { intake = only.intake; items = only.items; reports = only.reports; closed = only.closed })
 
 over_polls : {S : Type 0} (answers : Told S) (first : Exchange) (calls : List Call) (given : S) (x : Exchange) (more mine : List Call) (xs : List Answer) (y : Exchange) (line : Line S)
     → Polled answers first calls x → OverStream answers given x more mine xs y line → Polled answers first (calls ++ more) y

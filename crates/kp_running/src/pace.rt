@@ -7,14 +7,14 @@ ghost use Rattle.kp_running.specs.Pace.{wait_within};
 const SHORTEST: u64 = 1;
 
 /// The longest wait, in milliseconds.
-const LONGEST: u64 = 20;
+const LONGEST: u64 = 40;
 
-/// How long the next wait is at most, in milliseconds: 1, and twice as long each time, up to 20.
+/// How long the next wait is at most, in milliseconds: 1, and twice as long each time, up to 40.
 #[derive(Debug, Drop)]
 pub(crate) struct Pace {
     millis: u64,
     ghost some: { 1 ≤ millis },
-    ghost few: { millis ≤ 20 },
+    ghost few: { millis ≤ 40 },
 }
 
 impl Pace {
@@ -26,7 +26,7 @@ impl Pace {
 
     /// The next wait is longer.
     pub(crate) fn grow(&mut self)
-        ensures { self.new.millis ≡ min (2 * self.old.millis) 20 }
+        ensures { self.new.millis ≡ min (2 * self.old.millis) 40 }
     {
         self.millis = (2 * self.millis).min(LONGEST);
     }

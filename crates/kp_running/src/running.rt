@@ -19,7 +19,7 @@ use tokio::time::Sleep;
 
 /// Owns an engine and polls it to its stop. After a poll that moved something it asks to be polled again; after one that
 /// moved nothing it waits for the first of these: the engine's stream, a ring of the engine's bell, the moment at which
-/// something is due, and a tick of 1 to 20 milliseconds. It rings for each sender that a poll served. With its stop it
+/// something is due, and a tick of 1 to 40 milliseconds. It rings for each sender that a poll served. With its stop it
 /// gives the engine back.
 #[derive(Drop)]
 pub struct Running<'a, R, E> {

@@ -41,6 +41,7 @@ pub(crate) enum Listened {
 }
 
 /// Hears the oldest frame at hand.
+#[inline(always)]
 fn hear_next<S: Stream>(
     exchange: &mut Exchange,
     wire: &mut Wire<S>,
@@ -63,6 +64,7 @@ fn hear_next<S: Stream>(
 }
 
 /// Hears the frames at hand, so many at most.
+#[inline(always)]
 fn hear_at_hand<S: Stream>(
     exchange: &mut Exchange,
     wire: &mut Wire<S>,
