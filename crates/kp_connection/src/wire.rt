@@ -79,15 +79,10 @@ impl<S: Stream> Wire<S> {
         ensures registered { OnPending result (Covers cx.new (S.writer self.new.stream)) }
         ensures kept { Keeps cx.old cx.new }
     {
-        while !self.kept.is_empty() {
-            match self.poll_write_once(cx) {
-                Poll::Pending => return Poll::Pending,
-                Poll::Ready(Ok(0)) => return Poll::Ready(Err(io::ErrorKind::WriteZero.into())),
-                Poll::Ready(Ok(_)) => {}
-                Poll::Ready(Err(e)) => return Poll::Ready(Err(e)),
-            }
+        if self.kept.is_empty() {
+            return Poll::Ready(Ok(()));
         }
-        Poll::Ready(Ok(()))
+        self.poll_write_all(cx)
     }
 
     /// One read of at most `most` bytes: how many came, 0 at the stream's end. The frames among them can then be asked
@@ -135,6 +130,24 @@ impl<S: Stream> Wire<S> {
 }
 
 impl<S: Stream> Wire<S> {
+    /// As `poll_write`, where something may be kept.
+    #[inline(never)]
+    fn poll_write_all(&mut self, cx: &mut Context<'_>) -> Poll<io::Result<()>>
+        ensures writes { Writes S.answers self.old result self.new }
+        ensures registered { OnPending result (Covers cx.new (S.writer self.new.stream)) }
+        ensures kept { Keeps cx.old cx.new }
+    {
+        while !self.kept.is_empty() {
+            match self.poll_write_once(cx) {
+                Poll::Pending => return Poll::Pending,
+                Poll::Ready(Ok(0)) => return Poll::Ready(Err(io::ErrorKind::WriteZero.into())),
+                Poll::Ready(Ok(_)) => {}
+                Poll::Ready(Err(e)) => return Poll::Ready(Err(e)),
+            }
+        }
+        Poll::Ready(Ok(()))
+    }
+
     /// One write of what is kept.
     fn poll_write_once(&mut self, cx: &mut Context<'_>) -> Poll<io::Result<usize>>
         requires { self.old.kept ≡ [] → ⊥ }

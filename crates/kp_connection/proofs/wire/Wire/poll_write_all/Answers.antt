@@ -1,7 +1,7 @@
 use Rattle.std.proofs.Common.{◌≡◌, [], Ok, ap, ◌∙◌, rules}
 use Rattle.futures.specs.declared.task.Poll.TheVariants.{Ready}
 use Rattle.kp_connection.proofs.WireLemmas.{wrote_more, writes_waited, writes_failed, writes_none}
-use Rattle.kp_connection.proofs.wire.Wire.poll_write.Goals as goal
+use Rattle.kp_connection.proofs.wire.Wire.poll_write_all.Goals as goal
 
 pub returns-in-Pending-clause-writes : goal.returns-in-Pending-clause-writes
 returns-in-Pending-clause-writes g c =

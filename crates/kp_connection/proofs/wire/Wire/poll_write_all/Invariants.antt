@@ -2,7 +2,7 @@ use Rattle.std.proofs.Common.{◌≡◌, List, [], length}
 use Rattle.futures.specs.Task.{Keeps}
 use Rattle.kp_connection.specs.Answers.{Answer}
 use Rattle.kp_connection.specs.Wire.{Goes}
-use Rattle.kp_connection.proofs.wire.Wire.poll_write.Given as goal
+use Rattle.kp_connection.proofs.wire.Wire.poll_write_all.Given as goal
 
 abbrev pub invariant-loop-self : goal.invariant-loop-self
 invariant-loop-self g l = record {
