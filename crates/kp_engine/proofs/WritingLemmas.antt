@@ -31,6 +31,19 @@ pub record Written {S : Type 0} (answers : Told S) (node now count : ℕ) (x : E
 pub nothing_written : {S : Type 0} (answers : Told S) → ((s : S) → answers s [] s) → (node now : ℕ) (x : Exchange) (w : Wired S) → Written answers node now 0 x w x w
 nothing_written answers nothing node now x w = record { sent = []; xs = []; len = refl; talks = talks_none answers nothing x w; held = refl }
 
+pub idle_written : {S : Type 0} (answers : Told S) → ((s : S) → answers s [] s) → (node now : ℕ) (x : Exchange) (w : Wired S) → w.kept ≡ [] → WritesOn answers 0 node now x w x w
+idle_written answers nothing node now x w idle = record {
+  sent = [];
+  last = None;
+  xs = [];
+  few = omega arith;
+  none = λ answer is. absurd (none_some is);
+  talks = talks_none answers nothing x w;
+  held = refl;
+  kept = inl idle;
+  all = inl (inl refl);
+}
+
 requests_then : (node now : ℕ) (a b : List Outgoing) → requests node now (a ++ b) ≡ requests node now a ++ requests node now b
 requests_then node now a b = map-append (λ (request : Outgoing). Request node now (Ok (Some request))) a b
 

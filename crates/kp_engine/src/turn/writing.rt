@@ -23,6 +23,9 @@ pub(crate) fn write_requests<S: Stream>(
     ensures writes { WritesAll S.answers most node now exchange.old wire.old result exchange.new wire.new }
     ensures kept { Keeps cx.old cx.new }
 {
+    if most == 0 && wire.is_idle() {
+        return Ok(true);
+    }
     for _ in 0..most {
         match wire.poll_write(cx) {
             Poll::Pending => return Ok(true),

@@ -1,7 +1,13 @@
-use Rattle.std.proofs.Common.{Some, None, Ok, Err, arith, rules, ap, ◌≤◌, ◌<◌}
+use Rattle.std.proofs.Common.{Some, None, Ok, Err, ℕ, arith, rules, sym, ap, subst, ◌≤◌, ◌<◌}
 use Rattle.kp_connection.specs.Wire.{Wired}
-use Rattle.kp_engine.proofs.WritingLemmas.{nothing_written, write_waited, write_failed, enough_written, none_given, none_made, one_written, wrote_by, asks_by}
+use Rattle.kp_engine.specs.Talking.{WritesOn}
+use Rattle.kp_engine.proofs.WritingLemmas.{nothing_written, idle_written, write_waited, write_failed, enough_written, none_given, none_made, one_written, wrote_by, asks_by}
 use Rattle.kp_engine.proofs.turn.writing.write_requests.Goals as goal
+
+pub returns-then-is_idle-clause-writes : goal.returns-then-is_idle-clause-writes
+returns-then-is_idle-clause-writes g c =
+    subst (λ (most : ℕ). WritesOn g.S.Stream.answers most c.args.node c.args.now c.args.exchange.now c.args.wire.now c.args.exchange.now c.args.wire.now) (sym c.if-most-eq0.true)
+    (idle_written g.S.Stream.answers g.met.S.Stream.answers_nothing c.args.node c.args.now c.args.exchange.now c.args.wire.now (c.is_idle.ensures.0 c.if-is_idle.true))
 
 pub loop-init : goal.loop-init
 loop-init g c = record {
