@@ -79,17 +79,10 @@ impl Splitter {
     pub fn next_frame(&mut self) -> Result<Option<Vec<u8>>, FrameFault>
         ensures { Next self.old result self.new }
     {
+        // (most asks find none, which is told without a look at the bytes)
         if self.given == self.whole {
             return Ok(None);
         }
-        self.give_frame()
-    }
-
-    /// As `next_frame`, where it isn't known at once that there is none.
-    #[inline(never)]
-    fn give_frame(&mut self) -> Result<Option<Vec<u8>>, FrameFault>
-        ensures { Next self.old result self.new }
-    {
         let Ok((content, _)) = first_frame(&self.bytes[self.given..]) else {
             return Ok(None);
         };
