@@ -25,6 +25,10 @@ BYTE = re.compile(rb"\\x([0-9a-f]{2})?")
 SHOWN = 200  # How many bytes of a line are shown at most.
 
 
+# Which program has a command; any other words are kprod's.
+PROGRAMS = {b"pack": "kprod_offline", b"replay": "kprod_offline", b"send": "kprod_send"}
+
+
 class Unclear(Exception):
     """Cases that are not understood."""
 
@@ -37,6 +41,11 @@ def lengthened(text):
 def spelled(text):
     """The bytes that a text spells."""
     return BYTE.sub(lambda it: bytes.fromhex((it[1] or b"?").decode()), lengthened(text))
+
+
+def program_of(words):
+    """The program that a call of kprod with these words runs."""
+    return PROGRAMS.get(words[0] if words else b"", "kprod")
 
 
 def line_of(bytes_of_line):

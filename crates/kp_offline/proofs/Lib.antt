@@ -1,4 +1,3 @@
-mod LineLemmas
 mod OfferedLemmas
 mod PackedLemmas
 mod ReplayLemmas

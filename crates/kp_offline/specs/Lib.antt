@@ -1,4 +1,3 @@
-pub mod Lines
 pub mod Offered
 pub mod Packed
 pub mod Replays

@@ -1,5 +1,5 @@
-//! What the program makes of a file's bytes without a run: their lines, the lines packed into one record batch that is offered to
-//! a partition log, and the schedule that they spell, replayed.
+//! What is made of a file's bytes without a run: their lines packed into one record batch that is offered to a partition log, and
+//! the schedule that they spell, replayed.
 #![tactic(auto)]
 
 mod fault;
@@ -10,6 +10,5 @@ mod replaying;
 mod reporting;
 
 pub use fault::PackFault;
-pub use lines::slices_of;
 pub use packing::pack;
 pub use replaying::replay_text;

@@ -2,7 +2,7 @@
 
 ghost use Rattle.std.specs.Prelude.{◌≡◌, ◌<◌, ◌≤◌, IfOk, OnOk, MatchResult, Err, []};
 ghost use Rattle.kp_batch.specs.Spelling.{size_of_batch};
-ghost use Rattle.kp_offline.specs.Lines.{lines};
+ghost use Rattle.kp_program.specs.Lines.{lines};
 ghost use Rattle.kp_offline.specs.Packed.{packed_text, records_of};
 
 use crate::fault::PackFault;

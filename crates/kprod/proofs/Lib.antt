@@ -1,3 +1,2 @@
-mod ReplayLemmas
 mod RunTextLemmas
 mod RunLooksLemmas

@@ -1,13 +1,16 @@
--- What keeps a run from beginning, and what it prints.
-use Rattle.std.proofs.Common.{◌≡◌, ◌∙◌, ℕ, List, ap, inl, subst}
-use Rattle.std.specs.Prelude.{Option, Some, None, Result, Err, IfSome, IsErrAnd}
+-- What keeps a run from beginning, what it prints, and what is no run.
+use Rattle.std.proofs.Common.{◌≡◌, ◌∙◌, ℕ, List, ap, arith, inl, subst}
+use Rattle.std.specs.Prelude.{Option, Some, None, Result, Ok, Err, IfSome, IsErrAnd}
 use Rattle.std.proofs.lemmas.Result.{err_from_is_err_and}
 use Rattle.kp_run.specs.Options.{AreFine, RefusedFor}
 use Rattle.kp_run.specs.declared.fault.RunFault.{RunFault}
 use Rattle.kp_run.specs.declared.checked.Checked.{Checked}
 use Rattle.kp_options.specs.declared.options.Options.{Options}
 use Rattle.kprod.specs.Faults.{of_run}
-use Rattle.kprod.specs.Runs.{LooksFirst, PrintsLines, PrintsRun}
+use Rattle.kp_command_line.specs.CommandLine.{Sends}
+use Rattle.kp_command_line.specs.declared.command_line.Command.{Command}
+use Rattle.kp_command_line.specs.declared.command_line.Command.TheVariants.{Pack, Replay, Run, Send}
+use Rattle.kprod.specs.Runs.{Looks, LooksFirst, PrintsLines, PrintsRun}
 use Rattle.kprod.specs.declared.fault.Fault.{Fault}
 
 pub told_first : (options : Options) (why : RunFault) (r : Result (Unit {0}) Fault) → RefusedFor options why → IsErrAnd r (λ y. y ≡ of_run why) → LooksFirst options r
@@ -24,3 +27,10 @@ prints_run options looked_at (Some bytes) read held held' fine is prints = recor
   fine = fine;
   prints = subst (λ (bs : List ℕ). PrintsLines looked_at bs held held') is prints;
 }
+
+-- A command that is another program's does not end well.
+pub sends_nothing : (command : Command) (done : Unit {0}) → Sends command → Looks command (Ok done) → ⊥
+sends_nothing Send done sends looks = grind (arith, looks)
+sends_nothing (Pack file) done sends looks = sends
+sends_nothing (Replay file) done sends looks = sends
+sends_nothing (Run wanted) done sends looks = sends

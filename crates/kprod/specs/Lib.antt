@@ -1,4 +1,3 @@
 pub mod Faults
-pub mod Replays
 pub mod RunText
 pub mod Runs

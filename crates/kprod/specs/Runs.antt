@@ -9,12 +9,12 @@ use Rattle.kp_run.specs.declared.checked.Checked.{Checked}
 use Rattle.kp_options.specs.declared.options.Options.{Options}
 use Rattle.kp_run.specs.declared.running.Came.{Came}
 use Rattle.kprod.specs.Faults.{of_run}
-use Rattle.kp_offline.specs.Lines.{lines}
+use Rattle.kp_program.specs.Lines.{lines}
 use Rattle.kprod.specs.RunText.{run_text}
 use Rattle.kp_command_line.specs.declared.command_line.Command.{Command}
 use Rattle.kp_command_line.specs.declared.command_line.Command.TheVariants.{Pack, Replay, Run, Send}
 use Rattle.kprod.specs.declared.fault.Fault.{Fault}
-use Rattle.kprod.specs.declared.fault.Fault.TheVariants.{Sends}
+use Rattle.kprod.specs.declared.fault.Fault.TheVariants.{Elsewhere}
 
 -- ---- what is printed
 
@@ -44,9 +44,9 @@ LooksFirst options result =
     ((why : RunFault) × RefusedFor options why × (result ≡ Err (of_run why)))
     ⊎ ((looked_at : Checked) × AreFine options looked_at)
 
--- so it is with a run; to send lines as they come is left to another program
+-- So it is with a run; any other command is left to another program.
 abbrev pub Looks : Command → Result (Unit {0}) Fault → Type 0
-Looks (Pack file) result = Unit {0}
-Looks (Replay file) result = Unit {0}
 Looks (Run wanted) result = LooksFirst wanted.options result
-Looks Send result = result ≡ Err Sends
+Looks (Pack file) result = result ≡ Err Elsewhere
+Looks (Replay file) result = result ≡ Err Elsewhere
+Looks Send result = result ≡ Err Elsewhere

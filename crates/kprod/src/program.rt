@@ -1,24 +1,17 @@
 //! The program, over any streams.
 
-ghost use Rattle.std.specs.Prelude.{◌≡◌, ◌≢◌, IfSome, OnOk, codes, map};
-ghost use Rattle.std.specs.Io.KnownBytes.{Appends};
-ghost use Rattle.clap.specs.Words.{kind_of};
-ghost use Rattle.kp_command_line.specs.CommandLine.{AskToPackInput, AskToReplayInput, Packs, Replays};
-ghost use Rattle.kp_offline.specs.Lines.{lines};
-ghost use Rattle.kp_offline.specs.Packed.{packed_text};
-ghost use Rattle.kprod.specs.Replays.{PrintsReplay};
+ghost use Rattle.std.specs.Prelude.{◌≡◌, ◌≢◌, IfSome, List, OnOk, codes, map};
+ghost use Rattle.clap.specs.Words.{Row};
+ghost use Rattle.kp_command_line.specs.CommandLine.{AskToPackInput, AskToReplayInput, AskToSend};
 ghost use Rattle.kprod.specs.Runs.{Looks, LooksFirst, PrintsLines, PrintsRun};
 
-use crate::fault::{Fault, memory_or, put_fault};
+use crate::fault::{Fault, put_fault};
 use crate::running::send_and_print;
-use crate::streams::{read_file, write_whole};
-use clap::Error;
-use clap::error::ErrorKind;
 use kp_command_line::{Command, Wanted, command_of};
-use kp_offline::{pack, replay_text, slices_of};
+use kp_program::{DONE, FAULT, USAGE, read_file, refuse, slices_of};
 use kp_run::Checked;
 use std::convert::AsStr;
-use std::io::{self, Read, Write};
+use std::io::{Read, Write};
 use std::net::{Net, TcpListener, TcpStream};
 use std::random::RandomSource;
 use std::rt::Files;
@@ -26,88 +19,15 @@ use std::sync::Wait;
 use std::thread::Threads;
 use std::time::Clock;
 
-/// The output is written.
-pub const DONE: u8 = 0;
-
-/// A fault, told by its line.
-pub const FAULT: u8 = 1;
-
-/// The words are no command.
-pub const USAGE: u8 = 2;
-
 /// Tells a fault. Nothing is made of an `err` that fails.
-pub fn fail<E: Write>(fault: Fault<'_>, err: &mut E) -> u8
+fn fail<E: Write>(fault: Fault<'_>, err: &mut E) -> u8
     ensures { result ≢ DONE }
 {
     let _ = put_fault(err, fault);
     match fault {
-        Fault::NotText | Fault::Sends => USAGE,
+        Fault::Elsewhere => USAGE,
         _ => FAULT,
     }
-}
-
-fn put_help<O: Write>(error: &Error, out: &mut O) -> io::Result<()> {
-    write!(out, "{error}")?;
-    out.flush()
-}
-
-/// Ends a call whose words are no command, or ask for help.
-fn refuse<O: Write, E: Write>(error: &Error, out: &mut O, err: &mut E) -> u8
-    ensures { kind_of error.now ≡ ErrorKind.OutOfMemory → result ≢ DONE }
-{
-    if matches!(error.kind(), ErrorKind::OutOfMemory) {
-        return fail(Fault::OutOfMemory, err);
-    }
-    if error.use_stderr() {
-        let _ = write!(err, "{error}");
-        return USAGE;
-    }
-    match put_help(error, out) {
-        Ok(()) => DONE,
-        Err(_) => FAULT,
-    }
-}
-
-/// Prints a text.
-fn print<'a, O: Write>(out: &mut O, text: &[u8]) -> Result<(), Fault<'a>>
-    ensures { OnOk result (Appends (O.contents out.old) (O.contents out.new) text.now) }
-{
-    match write_whole(out, text) {
-        Ok(()) => Ok(()),
-        Err(_) => Err(Fault::CannotWrite),
-    }
-}
-
-/// Packs a file's lines.
-fn pack_file<'a, R: Files + AllocGlobal, I: Read, O: Write>(
-    rt: &R,
-    file: &'a str,
-    input: &mut I,
-    out: &mut O,
-) -> Result<(), Fault<'a>>
-    ensures input { file.entry.now ≡ codes "-"
-        → OnOk result (IfSome (I.remaining input.old) (λ bytes.
-        Appends (O.contents out.old) (O.contents out.new) (packed_text (lines bytes)))) }
-{
-    let bytes = read_file(rt, file, input)?;
-    let text = pack(rt.alloc(), bytes.as_slice())?;
-    print(out, text.as_slice())
-}
-
-/// Replays a file's schedule.
-fn replay_file<'a, R: Files + AllocGlobal, I: Read, O: Write>(
-    rt: &R,
-    file: &'a str,
-    input: &mut I,
-    out: &mut O,
-) -> Result<(), Fault<'a>>
-    ensures input { file.entry.now ≡ codes "-"
-        → OnOk result (IfSome (I.remaining input.old) (λ bytes.
-        PrintsReplay bytes (O.contents out.old) (O.contents out.new))) }
-{
-    let bytes = read_file(rt, file, input)?;
-    let text = replay_text(rt.alloc(), bytes.as_slice())?;
-    print(out, text.as_slice())
 }
 
 /// Sends the lines of these bytes.
@@ -148,7 +68,7 @@ where
     run_bytes(rt, &checked, bytes.as_slice(), out, err)
 }
 
-/// Does what the command says.
+/// Does what the command says, where that is a run.
 fn run<'a, R, I: Read, O: Write, E: Write>(
     rt: &R,
     command: Command<'a>,
@@ -159,23 +79,16 @@ fn run<'a, R, I: Read, O: Write, E: Write>(
 where
     R: Files + Wait + Threads + Clock + RandomSource + AllocGlobal + Sync,
     R: Net<Listener = TcpListener, Stream = TcpStream>,
-    ensures looks { Looks command.entry result }
-    ensures input { Packs (codes "-") command.entry
-        → OnOk result (IfSome (I.remaining input.old) (λ bytes.
-        Appends (O.contents out.old) (O.contents out.new) (packed_text (lines bytes)))) }
-    ensures schedule { Replays (codes "-") command.entry
-        → OnOk result (IfSome (I.remaining input.old) (λ bytes.
-        PrintsReplay bytes (O.contents out.old) (O.contents out.new))) }
+    ensures { Looks command.entry result }
 {
     match command {
-        Command::Pack(file) => pack_file(rt, file, input, out),
-        Command::Replay(file) => replay_file(rt, file, input, out),
         Command::Run(wanted) => run_file(rt, wanted, input, out, err),
-        Command::Send => Err(Fault::Sends),
+        Command::Pack(_) | Command::Replay(_) | Command::Send => Err(Fault::Elsewhere),
     }
 }
 
-/// The program at these words, of which the first is its name; the result is its status.
+/// The program at these words, of which the first is its name; the result is its status. What is the command of another program does
+/// not end well.
 pub fn kprod_with<R, S: AsStr, I: Read, O: Write, E: Write>(
     rt: &R,
     words: &[S],
@@ -186,12 +99,9 @@ pub fn kprod_with<R, S: AsStr, I: Read, O: Write, E: Write>(
 where
     R: Files + Wait + Threads + Clock + RandomSource + AllocGlobal + Sync,
     R: Net<Listener = TcpListener, Stream = TcpStream>,
-    ensures packs_input { AskToPackInput (map S.text words.now) → result ≡ DONE
-        → IfSome (I.remaining input.old) (λ bytes.
-        Appends (O.contents out.old) (O.contents out.new) (packed_text (lines bytes))) }
-    ensures replays_input { AskToReplayInput (map S.text words.now) → result ≡ DONE
-        → IfSome (I.remaining input.old) (λ bytes.
-        PrintsReplay bytes (O.contents out.old) (O.contents out.new)) }
+    ensures packs_nothing { AskToPackInput (map S.text words.now) → result ≢ DONE }
+    ensures replays_nothing { AskToReplayInput (map S.text words.now) → result ≢ DONE }
+    ensures sends_nothing { (rows : List Row) → AskToSend (map S.text words.now) rows → result ≢ DONE }
 {
     match command_of(rt.alloc(), words) {
         Err(error) => refuse(&error, out, err),
@@ -200,11 +110,4 @@ where
             Err(fault) => fail(fault, err),
         },
     }
-}
-
-/// Ends a call whose words could not be had: its status.
-pub fn refuse_words<E: Write>(error: &io::Error, err: &mut E) -> u8
-    ensures { result ≢ DONE }
-{
-    fail(memory_or(error, Fault::NotText), err)
 }

@@ -7,11 +7,11 @@ ghost use Rattle.kprod.specs.Runs.{Prints};
 ghost use Rattle.kp_text.specs.Lines.{report_lines};
 
 use crate::fault::Fault;
-use crate::streams::write_whole;
 use kp_broker::Broker;
 use kp_core::Core;
 use kp_log::LogFault;
 use kp_options::Options;
+use kp_program::write_whole;
 use kp_run::{Came, Cause, Checked, is_too_large, run_lines};
 use kp_text::{put_audit, put_own, put_reports, put_totals};
 use std::alloc::{AllocError, AllocGlobal, Global};

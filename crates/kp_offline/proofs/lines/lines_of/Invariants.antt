@@ -1,5 +1,5 @@
 use Rattle.std.proofs.Common.{◌≡◌, ◌++◌, length}
-use Rattle.kp_offline.specs.Lines.{lines}
+use Rattle.kp_program.specs.Lines.{lines}
 use Rattle.kp_offline.specs.Packed.{records_of}
 use Rattle.kp_offline.proofs.lines.lines_of.Given as goal
 

@@ -2,7 +2,7 @@ use Rattle.std.proofs.Common.{◌≡◌, ◌<◌, ◌∙◌, ap, length, arith, 
 use Rattle.std.proofs.lemmas.Bool.Decides.{nat_tests}
 use Rattle.std.proofs.lemmas.List.{length-map}
 use Rattle.kp_batch.specs.Spelling.{size_of_batch}
-use Rattle.kp_offline.specs.Lines.{lines}
+use Rattle.kp_program.specs.Lines.{lines}
 use Rattle.kp_offline.specs.Packed.{records_of}
 use Rattle.kp_offline.proofs.PackedLemmas.{report_text-stored, size-none}
 use Rattle.kp_offline.proofs.packing.pack.Goals as goal
