@@ -8,7 +8,7 @@ use crate::commands::kprod;
 use crate::run_words::{Wanted, wanted_of};
 use clap::error::ErrorKind;
 use clap::{ArgMatches, Error};
-use std::alloc::Global;
+use std::alloc::{AllocError, Global};
 use std::convert::AsStr;
 
 /// What the program is asked to do.
@@ -33,12 +33,17 @@ fn file_of<'a>(matches: &ArgMatches<'a>, command: &str) -> Option<&'a str>
     matches.subcommand_matches(command)?.get_str("file")
 }
 
+/// What tells why words are refused.
+fn refusal(alloc: Global, kind: ErrorKind, message: &str) -> Result<Error, AllocError> {
+    kprod(alloc)?.error(kind, message)
+}
+
 /// The run that the matches ask for, where they ask for one.
 fn run_of<'a>(alloc: Global, matches: &ArgMatches<'a>) -> Result<Command<'a>, Error> {
     match wanted_of(matches) {
         Some(Ok(wanted)) => Ok(Command::Run(wanted)),
-        Some(Err(message)) => Err(kprod(alloc)?.error(ErrorKind::ValueValidation, message)?),
-        None => Err(kprod(alloc)?.error(ErrorKind::MissingSubcommand, "a FILE is missing")?),
+        Some(Err(message)) => Err(refusal(alloc, ErrorKind::ValueValidation, message)?),
+        None => Err(refusal(alloc, ErrorKind::MissingSubcommand, "a FILE is missing")?),
     }
 }
 

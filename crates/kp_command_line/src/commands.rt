@@ -63,12 +63,13 @@ pub fn bare_program<'a>(alloc: Global) -> Command<'a>
 pub(crate) fn kprod<'a>(alloc: Global) -> Result<Command<'a>, AllocError>
     ensures { IfOk result (λ command. app_of command ≡ kprod_app) }
 {
+    let program = bare_program(alloc);
     let pack = pack_command(alloc)?;
+    let program = program.subcommand(pack)?;
     let replay = replay_command(alloc)?;
-    let run = run_command(alloc)?;
-    let send = send_command(alloc);
-    let program = bare_program(alloc).subcommand(pack)?;
     let program = program.subcommand(replay)?;
+    let run = run_command(alloc)?;
     let program = program.subcommand(run)?;
+    let send = send_command(alloc);
     program.subcommand(send)
 }

@@ -8,7 +8,7 @@ use Rattle.kp_command_line.proofs.commands.kprod.Goals as goal
 pub returns : goal.returns
 returns c =
     let packing : app_of c.in_ok-program.program ≡ with_subcommand bare_app pack_app.top =
-    c.in_ok-program.ensures.shape c.in_ok-pack.ensures.local ∙ ap₂ with_subcommand c.bare_program.ensures (ap (λ (a : App). a.top) c.in_ok-pack.ensures.app) in
+    c.in_ok-program.ensures.shape c.in_ok-pack.ensures.local ∙ ap₂ with_subcommand c.bare_program-program.ensures (ap (λ (a : App). a.top) c.in_ok-pack.ensures.app) in
     let replaying : app_of c.in_ok-program-2.program ≡ with_subcommand (with_subcommand bare_app pack_app.top) replay_app.top =
     c.in_ok-program-2.ensures.shape c.in_ok-replay.ensures.local ∙ ap₂ with_subcommand packing (ap (λ (a : App). a.top) c.in_ok-replay.ensures.app) in
     let running : app_of c.in_ok-program-3.program ≡ with_subcommand (with_subcommand (with_subcommand bare_app pack_app.top) replay_app.top) run_app.top =
