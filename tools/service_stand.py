@@ -15,6 +15,7 @@ from contextlib import suppress
 from dataclasses import dataclass
 
 from c_stand import PIECE, Relay, Wrong, frames_in
+from program_cases import program_of
 from service_script import input_of, read_played
 
 SECONDS = 20  # The most that a program takes.
@@ -74,10 +75,15 @@ def ran(*words, given=b"", out=None, seconds=SECONDS):
 class Programs:
     """The programs, in a folder where they can be run."""
 
-    def __init__(self, folder, kprod, client_runs, loopback):
-        self.kprod, self.client_runs, self.loopback = (shutil.copy(it, folder) for it in (kprod, client_runs, loopback))
-        for program in (self.kprod, self.client_runs, self.loopback):
+    def __init__(self, folder, *files):
+        copies = [shutil.copy(it, folder) for it in files]
+        self.kprod, self.offline, self.client_runs, self.loopback = copies
+        for program in copies:
             os.chmod(program, 0o755)
+
+    def of(self, words):
+        """The program of a call's words."""
+        return self.offline if program_of([it.encode() for it in words]) == "kprod_offline" else self.kprod
 
     def run(self, *words, given=b"", seconds=SECONDS, told=""):
         """What `kprod run` prints of these lines. Its status is 0, and on standard error it tells just this."""
