@@ -80,6 +80,10 @@ enum kp_outcome {
 /* What became of the record with this ticket. */
 typedef struct kp_report { uint64_t number; int64_t detail; uint32_t partition; uint32_t outcome; } kp_report;
 
+/* What became of count records, from the one with this ticket on: of each the number is one more than of the one before it, and so
+ * is the detail of KP_DELIVERED; all else is the same. */
+typedef struct kp_report_run { uint64_t number; int64_t detail; uint64_t count; uint32_t partition; uint32_t outcome; } kp_report_run;
+
 enum kp_phase { KP_OPENING, KP_READY, KP_FAILED, KP_SPENT };
 
 typedef struct kp_state {
@@ -214,6 +218,10 @@ int32_t kp_producer_send_batch(kp_producer *, int32_t partition, const uint8_t *
 
 /* The oldest reports that were not fetched, as many as there are and there is room for: how many. */
 size_t kp_producer_reports(kp_producer *, kp_report *room, size_t room_len);
+
+/* The same reports as runs, of which there are few where many go on with each other: how many runs. They are of room_len reports at
+ * most: where they are of so many, there may be more. */
+size_t kp_producer_report_runs(kp_producer *, kp_report_run *room, size_t room_len);
 
 /* All that was accepted goes out, without lingering; is_flushed tells when all of it has its report. */
 int32_t kp_producer_flush(kp_producer *);

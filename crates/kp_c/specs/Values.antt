@@ -1,5 +1,5 @@
 -- What crosses to C and back.
-use Rattle.std.specs.Prelude.{ℕ, ℤ, pos, ◌==◌, not, Option, Some, None}
+use Rattle.std.specs.Prelude.{ℕ, zero, suc, ℤ, pos, ◌+◌, ◌+ℤ◌, ◌==◌, not, if◌then◌else◌, List, [], ◌∷◌, ◌++◌, flat_map, Option, Some, None}
 use Rattle.kp_accum.specs.declared.config.Config.{Config}
 use Rattle.kp_cluster.specs.declared.action.Action.{Action}
 use Rattle.kp_cluster.specs.declared.action.Action.TheVariants.{Connect, Close}
@@ -7,6 +7,7 @@ use Rattle.kp_cluster.specs.declared.config.ClusterConfig.{ClusterConfig}
 use Rattle.kp_c.specs.declared.values.KpAction.{KpAction}
 use Rattle.kp_c.specs.declared.values.KpConfig.{KpConfig}
 use Rattle.kp_c.specs.declared.values.KpReport.{KpReport}
+use Rattle.kp_c.specs.declared.values.KpReportRun.{KpReportRun}
 use Rattle.kp_embed.specs.declared.target.Target.{Target}
 use Rattle.kp_embed.specs.declared.target.Target.TheVariants.{Partition, Any}
 use Rattle.kp_rules.specs.declared.outcome.Outcome.{Outcome}
@@ -64,6 +65,33 @@ detail_of (Unsent reason) = pos 0
 
 abbrev pub told : Report → KpReport
 told r = record { number = r.number; detail = detail_of r.outcome; partition = r.partition; outcome = outcome_number r.outcome }
+
+-- ---- runs of reports
+
+-- the first report of a run
+abbrev pub first_of : KpReportRun → KpReport
+first_of r = record { number = r.number; detail = r.detail; partition = r.partition; outcome = r.outcome }
+
+-- a run of one report
+abbrev pub alone : KpReport → KpReportRun
+alone r = record { number = r.number; detail = r.detail; count = 1; partition = r.partition; outcome = r.outcome }
+
+-- the detail of a report that is so many behind one with this outcome and detail: an offset goes up, an error code does not
+abbrev pub detail_behind : ℕ → ℤ → ℕ → ℤ
+detail_behind outcome detail k = if outcome == 0 then detail +ℤ pos k else detail
+
+-- the report that is so many behind this one in a run
+abbrev pub behind : KpReport → ℕ → KpReport
+behind r k = record { number = r.number + k; detail = detail_behind r.outcome r.detail k; partition = r.partition; outcome = r.outcome }
+
+-- so many reports in a run, from this one on
+unfoldable pub reports_from : KpReport → ℕ → List KpReport
+reports_from r zero = []
+reports_from r (suc k) = reports_from r k ++ behind r k ∷ []
+
+-- the reports of runs, one after the other
+unfoldable pub reports_in : List KpReportRun → List KpReport
+reports_in runs = flat_map (λ (r : KpReportRun). reports_from (first_of r) r.count) runs
 
 -- Where a record is to go: a partition, or any one where it is below 0.
 abbrev pub target_of : ℤ → Target

@@ -1,15 +1,16 @@
 //! Reports, flush, close and end, and what is to be seen of a producer.
 
-ghost use Rattle.std.specs.Prelude.{◌≡◌, ◌≢◌, ◌≤◌, length, pos};
+ghost use Rattle.std.specs.Prelude.{◌≡◌, ◌≢◌, ◌≤◌, ◌<◌, ◌+◌, ◌^◌, ◌++◌, ◌∷◌, [], length, pos, take};
 ghost use Rattle.kp_c.specs.Calls.{IsEmpty, Makes, OfHeld, OnHeld};
-ghost use Rattle.kp_c.specs.Ending.{Ends, Fetches};
+ghost use Rattle.kp_c.specs.Ending.{Ends, Fetches, FetchesRuns};
 ghost use Rattle.kp_c.specs.Seeing.{Shows};
+ghost use Rattle.kp_c.specs.Values.{reports_in};
 ghost use Rattle.kp_embed.specs.Ending.{Calls};
 ghost use Rattle.kp_rules.specs.Calls.{Close, Flush};
 
 use crate::handle::KpProducer;
 use crate::status::{OK, Refusal};
-use crate::values::{KpReport, KpState};
+use crate::values::{KpReport, KpReportRun, KpState};
 use kp_embed::Embed;
 use std::alloc::Global;
 
@@ -42,6 +43,56 @@ fn fetch(embed: &mut Embed, room: &mut [KpReport]) -> usize
         }
     }
     room.len()
+}
+
+/// The same reports as runs, which go into the front of the room: how many runs. They are of no more reports than the room has places.
+#[unsafe(no_mangle)]
+pub extern "C" fn kp_producer_report_runs(
+    producer: &mut KpProducer,
+    alloc: Global,
+    room: &mut [KpReportRun],
+) -> usize
+    ensures count { result ≤ length room.old }
+    ensures fetches { OnHeld (FetchesRuns result room.new) producer.old.sealed.value producer.new.sealed.value }
+{
+    let Some(mut embed) = producer.take(alloc) else {
+        return 0;
+    };
+    let count = fetch_runs(&mut embed, room);
+    producer.put(embed);
+    count
+}
+
+fn fetch_runs(embed: &mut Embed, room: &mut [KpReportRun]) -> usize
+    ensures count { result ≤ length room.old }
+    ensures fetches { FetchesRuns result room.new embed.old embed.new }
+{
+    let mut count = 0;
+    for _place in 0..room.len() {
+        match embed.next_report() {
+            None => return count,
+            Some(report) => count = add(room, count, KpReport::of(report)),
+        }
+    }
+    count
+}
+
+/// Adds a report to the runs at the front of the room, which are so many: how many they are then.
+fn add(room: &mut [KpReportRun], count: usize, report: KpReport) -> usize
+    requires place { count < length room.old }
+    requires few { length (reports_in (take count room.old)) + 1 < 2 ^ 64 }
+    ensures added { reports_in (take result room.new) ≡ reports_in (take count room.old) ++ report ∷ [] }
+    ensures count { result ≤ count + 1 }
+    ensures same { length room.new ≡ length room.old }
+{
+    if let Some(last) = count.checked_sub(1) {
+        if room[last].goes_on_with(report) {
+            room[last].count += 1;
+            return count;
+        }
+    }
+    room[count] = KpReportRun::of(report);
+    count + 1
 }
 
 /// All that was accepted goes out, without lingering.

@@ -1,8 +1,8 @@
 //! What crosses to C and back.
 
-ghost use Rattle.std.specs.Prelude.{◌≡◌};
+ghost use Rattle.std.specs.Prelude.{◌≡◌, true, IfSome};
 ghost use Rattle.kp_c.specs.Seeing.{Shows};
-ghost use Rattle.kp_c.specs.Values.{cluster_of, config_of, told, told_action};
+ghost use Rattle.kp_c.specs.Values.{alone, behind, cluster_of, config_of, detail_behind, first_of, told, told_action};
 
 use kp_accum::Config;
 use kp_cluster::{Action, ClusterConfig};
@@ -56,6 +56,21 @@ pub struct KpReport {
     pub detail: i64,
     pub partition: u32,
     /// 0 delivered, 1 delivered with no offset, 2 unknown, 3 rejected, 4 expired, 5 fenced, 6 ended.
+    pub outcome: u32,
+}
+
+/// What became of records one after the other, of which the numbers go up by one, and where they were delivered the offsets too.
+#[repr(C)]
+#[derive(Clone, Copy, Drop)]
+pub struct KpReportRun {
+    /// Of the first.
+    pub number: u64,
+    /// Of the first, as a report has it.
+    pub detail: i64,
+    /// How many they are.
+    pub count: u64,
+    pub partition: u32,
+    /// As a report has it.
     pub outcome: u32,
 }
 
@@ -155,6 +170,45 @@ impl KpReport {
             detail,
             partition: report.partition,
             outcome,
+        }
+    }
+}
+
+impl KpReportRun {
+    /// A run of one report.
+    pub(crate) fn of(report: KpReport) -> KpReportRun
+        ensures { result ≡ alone report }
+    {
+        KpReportRun {
+            number: report.number,
+            detail: report.detail,
+            count: 1,
+            partition: report.partition,
+            outcome: report.outcome,
+        }
+    }
+
+    /// Whether this report goes on with it.
+    pub(crate) fn goes_on_with(&self, report: KpReport) -> bool
+        ensures { result ≡ true → report ≡ behind (first_of self.now) self.now.count }
+    {
+        let (Some(number), Some(detail)) = (self.number.checked_add(self.count), self.next_detail())
+        else {
+            return false;
+        };
+        self.outcome == report.outcome
+            && self.partition == report.partition
+            && number == report.number
+            && detail == report.detail
+    }
+
+    fn next_detail(&self) -> Option<i64>
+        ensures { IfSome result (λ detail. detail ≡ detail_behind self.now.outcome self.now.detail self.now.count) }
+    {
+        if self.outcome == 0 {
+            self.detail.checked_add(i64::try_from(self.count).ok()?)
+        } else {
+            Some(self.detail)
         }
     }
 }
