@@ -3,6 +3,7 @@
 use crate::settings::SettingsFault;
 use kp_accum::ConfigFault;
 use kp_bootstrap::BootstrapFault;
+use kp_program::{FAULT, OUT_OF_MEMORY, USAGE, put_cannot_read};
 use kp_publish::PublishFault;
 use std::alloc::AllocError;
 use std::io::{self, ErrorKind, Write};
@@ -10,8 +11,6 @@ use std::io::{self, ErrorKind, Write};
 /// Why lines are not sent, or no more.
 #[derive(Clone, Copy, Debug, PartialEq, Eq)]
 pub(crate) enum Fault<'a> {
-    /// A word of the call.
-    NotText,
     /// A file of settings that is no text.
     NoSettings(&'a str),
     /// What a file of settings says that can't be meant.
@@ -30,11 +29,6 @@ pub(crate) enum Fault<'a> {
 }
 
 impl<'a> Fault<'a> {
-    /// Why the words could not be had.
-    pub(crate) fn of_words(error: &io::Error) -> Fault<'a> {
-        Fault::of(error, Fault::NotText)
-    }
-
     /// Why a file of settings could not be read.
     pub(crate) fn of_settings(error: &io::Error, file: &'a str) -> Fault<'a> {
         match error.kind() {
@@ -51,11 +45,10 @@ impl<'a> Fault<'a> {
         }
     }
 
-    /// The exit status: 2 for words that can't be meant, else 1.
+    /// The exit status.
     pub(crate) fn status(self) -> u8 {
         match self {
-            Fault::NotText
-            | Fault::NoSettings(_)
+            Fault::NoSettings(_)
             | Fault::Settings(
                 _,
                 SettingsFault::NoSetting(_)
@@ -68,13 +61,13 @@ impl<'a> Fault<'a> {
             | Fault::Brokers(
                 BootstrapFault::Empty | BootstrapFault::Address | BootstrapFault::TooMany,
             )
-            | Fault::IsRead(_) => 2,
+            | Fault::IsRead(_) => USAGE,
             Fault::OutOfMemory
             | Fault::Settings(_, SettingsFault::OutOfMemory)
             | Fault::Brokers(BootstrapFault::OutOfMemory)
             | Fault::CannotRead(_)
             | Fault::CannotWrite(_)
-            | Fault::Publish(_) => 1,
+            | Fault::Publish(_) => FAULT,
         }
     }
 }
@@ -107,24 +100,23 @@ fn put_settings_fault<E: Write>(
                 "kprod: {file}, line {line}: {name} can't have this value here"
             )
         }
-        SettingsFault::OutOfMemory => err.write_all(b"kprod: out of memory\n"),
+        SettingsFault::OutOfMemory => err.write_all(OUT_OF_MEMORY),
     }
 }
 
 /// The fault's line. Nothing is allocated.
 pub(crate) fn put_fault<E: Write>(err: &mut E, fault: Fault<'_>) -> io::Result<()> {
     match fault {
-        Fault::NotText => err.write_all(b"kprod: a word is not UTF-8\n"),
         Fault::NoSettings(file) => writeln!(err, "kprod: {file} is no text"),
         Fault::Settings(file, fault) => put_settings_fault(err, file, fault),
-        Fault::OutOfMemory => err.write_all(b"kprod: out of memory\n"),
+        Fault::OutOfMemory => err.write_all(OUT_OF_MEMORY),
         Fault::Topic => err.write_all(
             b"kprod: a topic's name has 1 to 249 letters, digits, dots, underscores and hyphens, and is not . or ..\n",
         ),
         Fault::Client => err.write_all(b"kprod: client.id has more than 249 bytes\n"),
         Fault::Config(fault) => writeln!(err, "kprod: {fault}"),
         Fault::Brokers(fault) => writeln!(err, "kprod: --broker: {fault}"),
-        Fault::CannotRead(file) => writeln!(err, "kprod: cannot read {file}"),
+        Fault::CannotRead(file) => put_cannot_read(err, file),
         Fault::CannotWrite(file) => writeln!(err, "kprod: cannot write {file}"),
         Fault::IsRead(file) => writeln!(err, "kprod: {file} is read, and can't be written too"),
         Fault::Publish(fault) => writeln!(err, "kprod: {fault}"),

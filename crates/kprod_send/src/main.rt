@@ -10,26 +10,12 @@ mod settings;
 use crate::fault::{Fault, put_fault};
 use crate::sending::send;
 use crate::settings::{settings_file, with_settings};
-use clap::Error;
-use clap::error::ErrorKind;
+use kp_program::{refuse, refuse_words, words_of};
 use kp_send_words::sending_asked;
-use std::io::{self, Lock, Write};
+use std::fs;
+use std::io::{Lock, Write};
 use std::process::ExitCode;
-use std::rt::{Env, Files};
-use std::{env, fs};
-
-/// Each line was delivered.
-const DONE: u8 = 0;
-
-/// A line was not delivered, or a fault is told.
-const FAULT: u8 = 1;
-
-/// The words can't be meant.
-const USAGE: u8 = 2;
-
-fn words_of<R: Env + AllocGlobal>(rt: &R) -> io::Result<Vec<String>> {
-    Ok(env::args(rt)?.collect(rt.alloc())?)
-}
+use std::rt::Files;
 
 /// Tells a fault. Nothing is made of an `err` that fails.
 fn fail<E: Write>(fault: Fault<'_>, err: &mut E) -> u8 {
@@ -59,28 +45,13 @@ fn settled<R: Files + AllocGlobal, E: Write>(
     }
 }
 
-/// Ends a call whose words are no call, or ask for help.
-fn refuse<O: Write, E: Write>(error: &Error, out: &mut O, err: &mut E) -> u8 {
-    if matches!(error.kind(), ErrorKind::OutOfMemory) {
-        return fail(Fault::OutOfMemory, err);
-    }
-    if error.use_stderr() {
-        let _ = write!(err, "{error}");
-        return USAGE;
-    }
-    match write!(out, "{error}").and_then(|_| out.flush()) {
-        Ok(()) => DONE,
-        Err(_) => FAULT,
-    }
-}
-
 fn main(rt: HostRuntime) -> ExitCode {
     let input = &mut rt.stdin().lock();
     let out = &mut rt.stdout().lock();
     let err = &mut rt.stderr().lock();
     let words = match words_of(&rt) {
         Ok(words) => words,
-        Err(error) => return ExitCode::from(fail(Fault::of_words(&error), err)),
+        Err(error) => return ExitCode::from(refuse_words(&error, err)),
     };
     let words = match settled(&rt, words, err) {
         Ok(words) => words,
