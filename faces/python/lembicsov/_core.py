@@ -6,23 +6,23 @@ from __future__ import annotations
 import ctypes
 import logging
 import os
+import struct
 import time
 import weakref
-from array import array
 from functools import partial
 from typing import Any, Callable, Iterable, NamedTuple, Sequence
 
 from ._futures import AnyFuture, Many
 from ._given import as_addresses, as_blob, as_config, as_headers, as_partition, as_timestamp
 from ._library import INT32, INT64, UINT64, Action, Handle, State, Status, Ticket, kp, words_of
-from ._open import REPORT, One, Open, Telling
+from ._open import RUN, One, Open, Telling
 from ._queue import SIZE, Queue
 from ._values import ADVICE, BufferFull, Closed, Forked, NotReady, OpenFailed, Outcome
 from ._values import ProducerError, Record, RecordRefused, RecordTooLarge, Report, Settings, Spent, Statistics
 
 logger = logging.getLogger("lembicsov")
 
-REPORTS = 1024  # How many reports a call fetches.
+REPORTS = 1024  # How many reports a call fetches, at most.
 PIECE = 1 << 18  # How many bytes a call takes.
 VALUES, VALUES_SIZE = 1024, 1 << 20  # How many values a call sends, and how many bytes of them.
 CHARGE = SIZE + 128  # What a value in the queue takes of buffer_memory, at most.
@@ -60,8 +60,8 @@ class Core:
         self._is_short = False  # Memory was refused, and the call is to be made again.
         self._is_spent = False  # Each request was used, and no value is queued any more.
         self._ticked = 0  # When the last tick was.
-        self._turn = 0  # The partition of the next of many values that name none.
-        self._next = 0  # One more than that of the last record that named none and had no key; 0 before there is one.
+        self._turn = 0  # The partition of the next values that are accepted together and name none.
+        self._is_used = False  # A record was accepted.
         self._open = Open()
         self._flushes: list[tuple[dict[int, int], AnyFuture]] = []  # With the counts of when they were asked for.
         self._behind: list[Callable[[], object]] = []  # What is called once the queue is empty.
@@ -72,8 +72,8 @@ class Core:
         self._size, self._port = ctypes.c_size_t(), ctypes.c_uint16()
         self._handle, self._ticket_at, self._size_at = map(ctypes.byref, (self._producer, self._ticket, self._size))
         self._taken, self._room_at = memoryview(self.room), (ctypes.c_char * PIECE).from_buffer(self.room)
-        reports = bytearray(REPORT.size * REPORTS)
-        self._reports, self._reports_at = memoryview(reports), (ctypes.c_char * len(reports)).from_buffer(reports)
+        runs = bytearray(RUN.size * REPORTS)
+        self._runs, self._runs_at = memoryview(runs), (ctypes.c_char * len(runs)).from_buffer(runs)
         names = topic.encode(), client_id.encode(), as_addresses(bootstrap)
         slices = [argument for name in names for argument in (name, len(name))]
         seed = int.from_bytes(os.urandom(8), "little")
@@ -173,28 +173,26 @@ class Core:
     def _queues(self, record: One) -> bool:
         """Begins to queue values with this one, as many as there surely is room for, where that may be: whether it has."""
         is_open = not (self._is_closing or self._is_spent)
-        may_queue = self.is_attended and self._next > 0 and is_open and self._config.max_request_size >= CHARGE
+        may_queue = self.is_attended and self._is_used and is_open and self._config.max_request_size >= CHARGE
         if not may_queue or not isinstance(record.sent, bytes):
             return False
         self.queue.open((self._config.buffer_memory - self._see().buffer_used) // CHARGE)
         return self.queue.put(record, record.sent) is True
 
     def hand_over(self) -> int:
-        """Has all in the queue accepted: the status of the first that is refused."""
+        """Has all in the queue accepted, for one partition: the status of the first that is refused."""
         queue = self.queue.close()
         if queue:
             values: list[Any] = [record.sent for record in queue]
-            status, accepted = self._send_values(values, -1, self.queue.stamp)
-            partitions = self._see().partitions
-            for turn in range(min(partitions, accepted)):
-                self._open.put((self._next + turn) % partitions, queue[turn:accepted:partitions])
-            if accepted > 0:
-                self._next = (self._next + accepted - 1) % partitions + 1
+            status, accepted = self._send_values(values, b"".join(values), self._turn, self.queue.stamp)
+            self._open.put(self._turn, queue[:accepted])
             del queue[:accepted]
-            if status == Status.SPENT:
+            if status == Status.OK:
+                self._end_turn()
+            elif status == Status.SPENT:
                 self._is_spent = True
                 self._leave_unsent(queue)
-            elif status != Status.OK:
+            else:
                 self._is_short = self._is_short or status == Status.OUT_OF_MEMORY
                 return status
         self._go_on_behind()
@@ -202,10 +200,14 @@ class Core:
 
     def _leave_unsent(self, queue: list[One]) -> None:
         """Those in the queue are never sent."""
-        partitions, before = self._see().partitions, len(self._left)
-        for turn, record in enumerate(queue, self._next):
-            self._left.append((record, 0, Report(turn % partitions, None, Outcome.ENDED, ADVICE[Outcome.ENDED])))
-        del queue[: len(self._left) - before]
+        report = Report(self._turn, None, Outcome.ENDED, ADVICE[Outcome.ENDED])
+        left: list[Telling] = [(record, 0, report) for record in queue]
+        self._left += left
+        del queue[: len(left)]
+
+    def _end_turn(self) -> None:
+        """What comes next goes to the next partition."""
+        self._turn = (self._turn + 1) % self._see().partitions
 
     def _go_on_behind(self) -> None:
         while self._behind:
@@ -220,15 +222,17 @@ class Core:
         if status != Status.OK:
             return status
         values: Sequence[bytes] = many.values[many.at : many.at + VALUES]
-        while len(values) > 1 and sum(map(len, values)) > VALUES_SIZE:
+        text = b"".join(values)
+        while len(values) > 1 and len(text) > VALUES_SIZE:
             values = values[: len(values) // 2]
+            text = b"".join(values)
         place = self._turn if many.partition < 0 else many.partition
-        status, accepted = self._send_values(values, place, many.timestamp)
+        status, accepted = self._send_values(values, text, place, many.timestamp)
         if accepted > 0:
             self._open.put_part(place, many, accepted)
             many.at += accepted
         if status == Status.OK and many.partition < 0:
-            self._turn = (place + 1) % self._see().partitions
+            self._end_turn()
         return status
 
     def _send(self, record: One) -> int:
@@ -240,17 +244,16 @@ class Core:
             self._ticket_at,
         )
         if status == Status.OK:
-            place = self._ticket.partition
-            self._open.put(place, [record])
-            if key is None and partition is None:
-                self._next = place + 1
+            self._open.put(self._ticket.partition, [record])
+            self._is_used = True
         return status
 
-    def _send_values(self, values: Sequence[bytes], place: int, stamp: int) -> tuple[int, int]:
-        """Has values accepted: the status of the first that is refused, and how many were before it."""
-        text, lengths = b"".join(values), array("Q", map(len, values))
+    def _send_values(self, values: Sequence[bytes], text: bytes, place: int, stamp: int) -> tuple[int, int]:
+        """Has values accepted, which the text is of: the status of the first that is refused, and how many were before it."""
+        count = len(values)
+        lengths = struct.pack(f"{count}Q", *map(len, values))
         status = kp.kp_producer_send_batch(
-            self._handle, place, text, len(text), lengths.buffer_info()[0], len(lengths), stamp, clock(), self._size_at,
+            self._handle, place, text, len(text), lengths, count, stamp, clock(), self._size_at,
         )
         return status, self._size.value
 
@@ -302,10 +305,12 @@ class Core:
     def fetch(self) -> Told:
         """What has come to be told, by `settle`, once the core's owner holds no lock."""
         telling, self._left = self._left, []
-        count = REPORTS
-        while count == REPORTS:
-            count = kp.kp_producer_reports(self._handle, self._reports_at, REPORTS)
-            telling += self._open.take(self._reports[: REPORT.size * count], keeps=self._on_report is None)
+        told = REPORTS
+        while told == REPORTS:
+            before = self._open.records
+            count = kp.kp_producer_report_runs(self._handle, self._runs_at, REPORTS)
+            telling += self._open.take(self._runs[: RUN.size * count], keeps=self._on_report is None)
+            told = before - self._open.records
         done = [future for counts, future in self._flushes if self._open.is_past(counts)]
         if done:
             self._flushes = [flush for flush in self._flushes if flush[1] not in done]

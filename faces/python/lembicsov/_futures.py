@@ -5,6 +5,7 @@ from __future__ import annotations
 import asyncio
 import os
 import threading
+import time
 from bisect import bisect
 from concurrent.futures import Future
 from concurrent.futures._base import FINISHED, PENDING
@@ -19,7 +20,8 @@ Run = Tuple[int, int, Report]
 AnyFuture = Union["Future[Any]", "asyncio.Future[Any]"]
 
 DELIVERED = Outcome.DELIVERED
-ALONE, WATCHED = -1, -2  # In place of a partition: no report was kept, and nobody has begun to wait for it, or somebody has.
+# In place of a partition: no report was kept, and nobody has begun to wait for it, or somebody has for its result alone, or any has.
+ALONE, AWAITED, WATCHED = -1, -2, -3
 
 # Who keeps reports has it, and so has whoever begins to wait for a future, and who refuses some of many values.
 keeping = threading.RLock()
@@ -73,14 +75,16 @@ class Watched:
 class Pending(Future):  # type: ignore[type-arg]
     """What comes of what was accepted, which nobody can call back; of a record that is its report.
 
-    Most are done before anybody waits for them. So what it takes to wait is made only where somebody begins to, under `keeping`.
-    Before that a report is kept by two assignments (`_open.keep`), and is made from them where it is asked for.
+    Most are done before anybody waits for them. So what it takes to wait is made only where somebody begins to, under `keeping`:
+    for the first who waits for the result that is a lock, for any other all that a future has. Before that a report is kept by two
+    assignments (`_open.keep`, `_keep`), and is made from them where it is asked for.
     """
 
     _stage: str = PENDING  # The state, where no report was kept.
     _exception: BaseException | None = None
     _given: Any = None  # The result, where no report was kept.
     _partition = ALONE  # That of a report that was kept.
+    told: threading.Lock | None = None  # Who waits for the result alone waits for this.
     _condition: Any = Watched()
     _waiters: Any = Watched()
     _done_callbacks: Any = Watched()
@@ -91,8 +95,18 @@ class Pending(Future):  # type: ignore[type-arg]
         with keeping:
             if "_condition" not in self.__dict__:
                 self._condition, self._waiters, self._done_callbacks = threading.Condition(), [], []
-                if self._partition == ALONE:
+                if self._partition < 0:
                     self._partition = WATCHED
+
+    def _wait(self, timeout: float | None) -> None:
+        """Waits until it is done, where nobody else has begun to."""
+        with keeping:
+            if self._partition != ALONE:
+                return
+            self.told = told = threading.Lock()
+            told.acquire()
+            self._partition = AWAITED
+        told.acquire(timeout=-1 if timeout is None else min(max(timeout, 0.0), threading.TIMEOUT_MAX))
 
     @property
     def _state(self) -> str:
@@ -110,6 +124,18 @@ class Pending(Future):  # type: ignore[type-arg]
     def _result(self, result: Any) -> None:
         self._given = result
 
+    def set_result(self, result: Any) -> None:
+        super().set_result(result)
+        self._wake()
+
+    def set_exception(self, exception: BaseException | None) -> None:
+        super().set_exception(exception)
+        self._wake()
+
+    def _wake(self) -> None:
+        if self.told:  # (nobody begins to wait for it any more)
+            self.told.release()
+
     def cancel(self) -> bool:
         return False
 
@@ -118,6 +144,11 @@ class Pending(Future):  # type: ignore[type-arg]
 
     def result(self, timeout: float | None = None) -> Any:
         partition = self._partition
+        if partition == ALONE:
+            begun = time.monotonic()
+            self._wait(timeout)
+            partition = self._partition
+            timeout = None if timeout is None else timeout - (time.monotonic() - begun)
         return super().result(timeout) if partition < 0 else new(Report, (partition, self.sent, DELIVERED, "", 0))
 
     def exception(self, timeout: float | None = None) -> BaseException | None:
@@ -129,8 +160,18 @@ class Pending(Future):  # type: ignore[type-arg]
         return record_of(self.sent)
 
     def tell(self, number: int, report: Report) -> None:
-        sent, self.sent = self.sent, b""
-        tell(self, report, sent)
+        if not (report.outcome is DELIVERED and self._keep(report)):
+            sent, self.sent = self.sent, b""
+            tell(self, report, sent)
+
+    def _keep(self, report: Report) -> bool:
+        """Keeps the report of what was delivered, where at most one waits, for the result alone: whether it has."""
+        with keeping:
+            if self._partition == WATCHED:
+                return False
+            self.sent, self._partition = report.offset, report.partition
+        self._wake()
+        return True
 
 
 class Single:
@@ -190,7 +231,9 @@ class Many:
 
     def __init__(self, future: AnyFuture, values: Iterable[Bytes], partition: int | None, timestamp: int | None) -> None:
         self.future = future
-        self.values = [value if type(value) is bytes else as_bytes(value) for value in values]
+        self.values: list[Any] = list(values)
+        if set(map(type, self.values)) - {bytes}:
+            self.values = [as_bytes(value) for value in self.values]
         self.partition, self.timestamp = as_partition(partition), as_timestamp(timestamp)
         self.at = 0  # So many were accepted or refused.
         self._asked = partition, timestamp
@@ -238,9 +281,10 @@ class Many:
 
 
 class Part:
-    """Those of many values that one call accepted, for a partition, from this number on."""
+    """Those of many values that one call accepted, so many, for a partition, from this number on."""
 
-    def __init__(self, many: Many, first: int) -> None:
+    def __init__(self, many: Many, first: int, count: int) -> None:
+        self.end = first + count
         self._many = many
         self._shift = many.at - first  # From a number to the place among the many.
 

@@ -89,7 +89,7 @@ CALLS: dict[str, tuple[Any, list[Any] | None]] = {
     "kp_producer_next_due": (c_uint64, [HANDLE, NOW]),
     "kp_producer_send": (c_int32, None),  # It is given what the functions above make.
     "kp_producer_send_batch": (c_int32, [HANDLE, c_int32, *BYTES, *ROOM, c_int64, NOW, POINTER(c_size_t)]),
-    "kp_producer_reports": (c_size_t, [HANDLE, *ROOM]),
+    "kp_producer_report_runs": (c_size_t, [HANDLE, *ROOM]),
     "kp_producer_flush": (c_int32, [HANDLE]),
     "kp_producer_close": (c_int32, [HANDLE]),
     "kp_producer_end": (c_int32, [HANDLE]),

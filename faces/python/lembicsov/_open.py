@@ -4,25 +4,18 @@ from __future__ import annotations
 
 import struct
 from collections import defaultdict
-from itertools import groupby
-from typing import Any, Iterable, Iterator, List, Optional, Sequence, Tuple, Union
+from typing import Any, Iterable, List, Optional, Sequence, Tuple, Union
 
 from ._futures import ALONE, Many, Part, Pending, Single, delivered, keeping
 from ._values import ADVICE, Outcome, Report
 
-REPORT = struct.Struct("=QqII")  # kp_report: the number, the detail, the partition and the outcome.
-KIND, BOTH = struct.Struct("=Q"), struct.Struct("=II")  # Of a report its partition and its outcome.
+RUN = struct.Struct("=QqQII")  # kp_report_run: the number and the detail of the first, how many, the partition and the outcome.
 OUTCOMES = tuple(Outcome)
 TOLD = 1024  # So many places of records that were told of a line has at least, and more than others, before it lets go of them.
 
 One = Union[Pending, Single]
 Owner = Union[One, Part]
 Telling = Tuple[Owner, int, Report]  # An owner is to be told of the record with this number.
-
-
-def goes_up(values: list[int]) -> bool:
-    """Whether each is one more than the one before it."""
-    return values == list(range(values[0], values[0] + len(values)))
 
 
 class Line:
@@ -77,7 +70,7 @@ class Open:
     def put_part(self, partition: int, many: Many, count: int) -> None:
         """So many of the next records of the partition are those of many values."""
         line = self._lines[partition]
-        line.owners += [Part(many, line.count)] * count
+        line.owners += [Part(many, line.count, count)] * count
         self.records += count
 
     def counts(self) -> dict[int, int]:
@@ -88,47 +81,25 @@ class Open:
         """Whether none is open that was accepted before these counts."""
         return all(line.oldest >= counts.get(partition, 0) for partition, line in self._lines.items())
 
-    def take(self, reports: memoryview, keeps: bool) -> list[Telling]:
-        """Takes out the records that these reports are of. Owners keep their reports, where they may; the others are to be told."""
+    def take(self, runs: memoryview, keeps: bool) -> list[Telling]:
+        """Takes out the records that these runs of reports are of. Owners keep their reports, where they may; the others are to be
+        told."""
         left: list[Telling] = []
-        self.records -= len(reports) // REPORT.size
-        if len(reports) == REPORT.size:  # Who sends one record at a time waits for it.
-            number, offset, partition, code = REPORT.unpack(reports)
-            with keeping:
-                return self._take_run(partition, OUTCOMES[code], number, [offset], keeps)
-        numbers, offsets, kinds = (reports.cast(kind)[at::3].tolist() for at, kind in enumerate("QqQ"))
-        start = 0
         with keeping:
-            for kind, same in groupby(kinds):
-                stop = start + len(list(same))
-                partition, code = BOTH.unpack(KIND.pack(kind))
-                for first, count in runs(numbers, offsets, start, stop):
-                    left += self._take_run(partition, OUTCOMES[code], numbers[first], offsets[first : first + count], keeps)
-                start = stop
+            for number, detail, count, partition, code in RUN.iter_unpack(runs):
+                self.records -= count
+                left += self._take_run(partition, OUTCOMES[code], number, detail, count, keeps)
         return left
 
-    def _take_run(self, partition: int, outcome: Outcome, number: int, offsets: list[int], keeps: bool) -> list[Telling]:
-        """Takes out records of a partition from this number on, whose offsets go up by one where they were delivered."""
-        owners = self._lines[partition].take(number, len(offsets))
+    def _take_run(self, partition: int, outcome: Outcome, number: int, detail: int, count: int, keeps: bool) -> list[Telling]:
+        """Takes out so many records of a partition from this number on. The detail is that of the first."""
+        owners = self._lines[partition].take(number, count)
         if outcome is not Outcome.DELIVERED:
-            return failed(owners, number, partition, outcome, offsets)
+            report = Report(partition, None, outcome, ADVICE[outcome], detail)
+            return [(owner, number + k, report) for k, owner in enumerate(owners)]
         if keeps:
-            return keep(owners, number, partition, offsets[0])
-        return told(owners, number, partition, offsets[0], range(len(owners)))
-
-
-def runs(numbers: list[int], offsets: list[int], start: int, stop: int) -> Iterator[tuple[int, int]]:
-    """The reports of these places, many at a time where their numbers and offsets go up by one: places, and how many."""
-    if stop == start + 1 or goes_up(numbers[start:stop]) and goes_up(offsets[start:stop]):
-        yield start, stop - start
-    else:
-        yield from ((place, 1) for place in range(start, stop))
-
-
-def failed(owners: list[Owner], number: int, partition: int, outcome: Outcome, details: list[int]) -> list[Telling]:
-    """What is to be told of records that were not delivered."""
-    reports = [Report(partition, None, outcome, ADVICE[outcome], detail) for detail in details]
-    return [(owner, number + k, report) for k, (owner, report) in enumerate(zip(owners, reports))]
+            return keep(owners, number, partition, detail)
+        return told(owners, number, partition, detail, range(count))
 
 
 def told(owners: list[Owner], number: int, partition: int, offset: int, places: Iterable[int]) -> list[Telling]:
@@ -139,15 +110,16 @@ def told(owners: list[Owner], number: int, partition: int, offset: int, places: 
 def keep(owners: list[Any], number: int, partition: int, offset: int) -> list[Telling]:
     """Has owners keep the reports of records that were delivered to offsets that go up by one. What is to be told of the others. The
     caller has `keeping`."""
-    places: Iterable[int]
-    if type(owners[0]) is Part and owners[-1] is owners[0]:
-        places = range(owners[0].keep(number, partition, offset, len(owners)), len(owners))
-    else:
-        places = others = []
-        for at, owner in enumerate(owners, offset):
-            if type(owner) is Pending and owner._partition == ALONE:
-                owner.sent = at
-                owner._partition = partition
-            elif not (type(owner) is Part and owner.keep(number + at - offset, partition, at, 1)):
-                others.append(at - offset)
+    places: List[int] = []
+    begin, end = 0, len(owners)
+    while begin < end and type(owners[begin]) is Part:
+        stop = min(owners[begin].end - number, end)
+        places += range(begin + owners[begin].keep(number + begin, partition, offset + begin, stop - begin), stop)
+        begin = stop
+    for at, owner in enumerate(owners[begin:], offset + begin):
+        if type(owner) is Pending and owner._partition == ALONE:
+            owner.sent = at
+            owner._partition = partition
+        elif not (type(owner) is Part and owner.keep(number + at - offset, partition, at, 1)):
+            places.append(at - offset)
     return told(owners, number, partition, offset, places)

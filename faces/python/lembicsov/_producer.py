@@ -42,8 +42,9 @@ class Producer:
     ) -> concurrent.futures.Future[Report]:
         """Sends a record: the future's result is its report, or its exception a `NotDelivered`.
 
-        Without a partition it goes to that of its key, and without a key to each in turn. The timestamp is in milliseconds since
-        1970, or now. A record that is not accepted, after `max_block` seconds at most, is told by an exception at once.
+        Without a partition it goes to that of its key, and without a key to each in turn; of values alone those that come together in a
+        millisecond go to one. The timestamp is in milliseconds since 1970, or now. A record that is not accepted, after `max_block`
+        seconds at most, is told by an exception at once.
         """
         report = Pending()
         if key is None and partition is None and timestamp is None and not headers and type(value) is bytes:
