@@ -19,8 +19,13 @@ enum {
     PIECE = 65536, /* bytes that are written at once */
     HEAD = 6,      /* bytes of a request up to its kind: its length, and an API key */
     /* At no pace so many records go out at once, and at most so many have no report: what lingers, or waits until less is in
-     * flight, falls out of the processor's caches. */
+     * flight, falls out of the processor's caches. With FILLS it sends all that there is room for, as a program does that looks at
+     * no report before. */
+#ifdef FILLS
+    ROUND = 1 << 20, AHEAD = 1 << 30
+#else
     ROUND = 2048, AHEAD = 4096
+#endif
 };
 
 /* The connection to a node. What the socket has not taken yet is out[from..to]. */
