@@ -1,7 +1,12 @@
-"""The crates that crates.txt lists, the prover's commands over the libraries that `rt ci` left in crates/*/out, and processors."""
+"""The crates that crates.txt lists, the prover's commands over the libraries that `rt ci` left in crates/*/out, what is kept on this
+machine, and processors."""
 import contextlib
+import hashlib
 import os
 import subprocess
+
+# What a crate is made of.
+PARTS = ("src", "specs", "proofs")
 
 
 def kit():
@@ -31,6 +36,19 @@ class Crate:
 
     def rlib(self):
         return f"{self.folder}/out/rlib/{self.name}.rlib"
+
+    def sum(self, seen):
+        """A sum of the crate's sources and of those below it. Those that were seen are not read again."""
+        if self.name not in seen:
+            sum = hashlib.sha256(repr((self.name, self.needs)).encode())
+            for part in PARTS:
+                for at, folders, names in os.walk(f"{self.folder}/{part}"):
+                    folders.sort()
+                    for name in sorted(names):
+                        sum.update(repr((os.path.relpath(f"{at}/{name}", self.folder), text_of(f"{at}/{name}"))).encode())
+            sum.update(repr([self.all[it].sum(seen) for it in self.needs if it in self.all]).encode())
+            seen[self.name] = sum.hexdigest()
+        return seen[self.name]
 
     def is_program(self):
         return os.path.isfile(f"{self.folder}/src/main.rt")
@@ -68,6 +86,17 @@ def crates_of(root, kind=Crate):
         if colon:
             crates[name.split()[0]] = kind(root, name.split()[0], needs.split(), crates)
     return crates
+
+
+def kept_folder():
+    """The folder where what passed on this machine is kept."""
+    return os.environ.get("LEMBICSOV_KEPT") or os.path.expanduser("~/.cache/lembicsov")
+
+
+def jobs():
+    """How many processors may be used: as RT_JOBS says, or all."""
+    number = os.environ.get("RT_JOBS", "")
+    return int(number) if number.isdigit() and int(number) else len(os.sched_getaffinity(0))
 
 
 def spread(processors, count):

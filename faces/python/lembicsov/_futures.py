@@ -80,15 +80,18 @@ class Pending(Future):  # type: ignore[type-arg]
     assignments (`_open.keep`, `_keep`), and is made from them where it is asked for.
     """
 
+    # What each has is faster in slots than in a dictionary: what was sent, until it is told, and behind a report that was kept its
+    # offset; and the partition of that report.
+    __slots__ = "sent", "_partition"
+    sent: Any
+    _partition: int
     _stage: str = PENDING  # The state, where no report was kept.
     _exception: BaseException | None = None
     _given: Any = None  # The result, where no report was kept.
-    _partition = ALONE  # That of a report that was kept.
     told: threading.Lock | None = None  # Who waits for the result alone waits for this.
     _condition: Any = Watched()
     _waiters: Any = Watched()
     _done_callbacks: Any = Watched()
-    sent: Any = b""  # What was sent, until it is told; behind a report that was kept its offset.
     __init__ = object.__init__  # That of futures would make all of it at once, and one in Python takes as long as the rest.
 
     def watch(self) -> None:
@@ -172,6 +175,13 @@ class Pending(Future):  # type: ignore[type-arg]
             self.sent, self._partition = report.offset, report.partition
         self._wake()
         return True
+
+
+def pending(sent: Any = b"") -> Pending:
+    """A future of what was sent, for which nobody waits yet."""
+    future = Pending()
+    future.sent, future._partition = sent, ALONE
+    return future
 
 
 class Single:

@@ -12,7 +12,7 @@ from ssl import SSLContext, SSLSocket, SSLWantReadError, SSLWantWriteError
 from typing import Any, Callable, TypeVar
 
 from ._core import SHORT, Core, Told, tell_unclosed
-from ._futures import Pending
+from ._futures import Pending, pending
 from ._library import Action, Status
 from ._values import Statistics
 
@@ -85,7 +85,7 @@ class Host:
             return self.core.queue.withdraw(record)
 
     def flush(self) -> Pending:
-        flushed = Pending()
+        flushed = pending()
         with self._lock:
             if not self._has_ended:
                 self.core.flush(flushed)

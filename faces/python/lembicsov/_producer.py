@@ -9,7 +9,7 @@ from ssl import SSLContext
 from typing import TYPE_CHECKING, Iterable, Sequence
 
 from ._core import Core, OnReport
-from ._futures import Many, Pending
+from ._futures import Many, pending
 from ._host import Host
 from ._values import Bytes, Headers, ProducerError, Record, Report, Settings, Statistics
 
@@ -46,9 +46,8 @@ class Producer:
         millisecond go to one. The timestamp is in milliseconds since 1970, or now. A record that is not accepted, after `max_block`
         seconds at most, is told by an exception at once.
         """
-        report = Pending()
+        report = pending(value)
         if key is None and partition is None and timestamp is None and not headers and type(value) is bytes:
-            report.sent = value
             is_queued = self._put(report, value)
             if is_queued or (is_queued is None and not self._host.withdraw(report)):
                 return report
@@ -64,7 +63,7 @@ class Producer:
         """Sends values without keys by a few calls: the future's result is the sequence of their reports, or its exception
         `SomeNotDelivered`, also where not all are accepted. Without a partition some go to one, and others to the next."""
         self._core.check()
-        many = Many(Pending(), values, partition, timestamp)
+        many = Many(pending(), values, partition, timestamp)
         while many.at < len(many.values):
             try:
                 self._host.accept(self._core.send_next, many, self._max_block)
