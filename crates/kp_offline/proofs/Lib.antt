@@ -1,3 +1,0 @@
-mod OfferedLemmas
-mod PackedLemmas
-mod ReplayLemmas

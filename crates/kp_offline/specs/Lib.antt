@@ -1,4 +1,0 @@
-pub mod Offered
-pub mod Packed
-pub mod Replays
-pub mod Report

@@ -1,0 +1,2 @@
+mod OfferedLemmas
+mod PackedLemmas

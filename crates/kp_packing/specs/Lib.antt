@@ -1,0 +1,3 @@
+pub mod Offered
+pub mod Packed
+pub mod Report

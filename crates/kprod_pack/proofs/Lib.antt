@@ -1,0 +1,2 @@
+mod OtherLemmas
+mod PrintLemmas

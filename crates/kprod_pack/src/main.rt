@@ -1,0 +1,22 @@
+//! The program behind `kprod pack`, which needs no broker: it packs the lines of a file into one record batch, offers it to a
+//! partition log, and prints the log. All but `main` is over any streams, and nothing here starts a thread, waits, or opens a socket.
+#![tactic(auto)]
+
+mod fault;
+mod program;
+
+use crate::program::pack_with;
+use kp_program::{refuse_words, words_of};
+use std::io::Lock;
+use std::process::ExitCode;
+
+fn main(rt: HostRuntime) -> ExitCode {
+    let input = &mut rt.stdin().lock();
+    let out = &mut rt.stdout().lock();
+    let err = &mut rt.stderr().lock();
+    let status = match words_of(&rt) {
+        Ok(words) => pack_with(&rt, words.as_slice(), input, out, err),
+        Err(error) => refuse_words(&error, err),
+    };
+    ExitCode::from(status)
+}

@@ -1,0 +1,3 @@
+mod OtherLemmas
+mod PrintLemmas
+mod ReplayLemmas

@@ -1,0 +1,3 @@
+pub mod Faults
+pub mod Others
+pub mod Replays
