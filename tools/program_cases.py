@@ -26,7 +26,7 @@ SHOWN = 200  # How many bytes of a line are shown at most.
 
 
 # Which program has a command; any other words are kprod's.
-PROGRAMS = {b"pack": "kprod_offline", b"replay": "kprod_offline", b"send": "kprod_send"}
+PROGRAMS = {it.encode(): f"kprod_{it}" for it in ("pack", "replay", "send")}
 
 
 class Unclear(Exception):

@@ -77,13 +77,14 @@ class Programs:
 
     def __init__(self, folder, *files):
         copies = [shutil.copy(it, folder) for it in files]
-        self.kprod, self.offline, self.client_runs, self.loopback = copies
+        self.kprod, self.pack, self.replay, self.client_runs, self.loopback = copies
         for program in copies:
             os.chmod(program, 0o755)
 
     def of(self, words):
         """The program of a call's words."""
-        return self.offline if program_of([it.encode() for it in words]) == "kprod_offline" else self.kprod
+        name = program_of([it.encode() for it in words])
+        return {"kprod_pack": self.pack, "kprod_replay": self.replay}.get(name, self.kprod)
 
     def run(self, *words, given=b"", seconds=SECONDS, told=""):
         """What `kprod run` prints of these lines. Its status is 0, and on standard error it tells just this."""
