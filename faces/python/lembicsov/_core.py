@@ -66,11 +66,15 @@ class Core:
         self._flushes: list[tuple[dict[int, int], AnyFuture]] = []  # With the counts of when they were asked for.
         self._behind: list[Callable[[], object]] = []  # What is called once the queue is empty.
         self._left: list[Telling] = []  # Who is to be told of values that were in the queue and are never sent.
+        # What the library is to accept, until that is noted: for which partition, how many that has had, and whose it is. A partition
+        # below 0 is the library's to choose.
+        self._noting: tuple[int, int, list[One] | Many] | None = None
         self._is_closing = False
         # What the library writes to.
         self._producer, self._action, self._ticket, self._state = Handle(), Action(), Ticket(), State()
-        self._size, self._port = ctypes.c_size_t(), ctypes.c_uint16()
-        self._handle, self._ticket_at, self._size_at = map(ctypes.byref, (self._producer, self._ticket, self._size))
+        self._size, self._accepted, self._port = ctypes.c_size_t(), ctypes.c_size_t(), ctypes.c_uint16()
+        self._handle, self._ticket_at = ctypes.byref(self._producer), ctypes.byref(self._ticket)
+        self._size_at, self._accepted_at = ctypes.byref(self._size), ctypes.byref(self._accepted)
         self._taken, self._room_at = memoryview(self.room), (ctypes.c_char * PIECE).from_buffer(self.room)
         runs = bytearray(RUN.size * REPORTS)
         self._runs, self._runs_at = memoryview(runs), (ctypes.c_char * len(runs)).from_buffer(runs)
@@ -181,12 +185,12 @@ class Core:
 
     def hand_over(self) -> int:
         """Has all in the queue accepted, for one partition: the status of the first that is refused."""
+        self._mend()
         queue = self.queue.close()
         if queue:
-            values: list[Any] = [record.sent for record in queue]
-            status, accepted = self._send_values(values, b"".join(values), self._turn, self.queue.stamp)
-            self._open.put(self._turn, queue[:accepted])
-            del queue[:accepted]
+            ones = list(queue)
+            values: list[Any] = [record.sent for record in ones]
+            status, _ = self._send_values(values, b"".join(values), self._turn, self.queue.stamp, ones)
             if status == Status.OK:
                 self._end_turn()
             elif status == Status.SPENT:
@@ -211,7 +215,8 @@ class Core:
 
     def _go_on_behind(self) -> None:
         while self._behind:
-            self._behind.pop(0)()
+            self._behind[0]()
+            del self._behind[0]
 
     def send_next(self, many: Many) -> int:
         """Has the next of many values accepted, as many as one call takes: the status of the first that is refused.
@@ -227,10 +232,8 @@ class Core:
             values = values[: len(values) // 2]
             text = b"".join(values)
         place = self._turn if many.partition < 0 else many.partition
-        status, accepted = self._send_values(values, text, place, many.timestamp)
-        if accepted > 0:
-            self._open.put_part(place, many, accepted)
-            many.at += accepted
+        status, accepted = self._send_values(values, text, place, many.timestamp, many)
+        many.at += accepted
         if status == Status.OK and many.partition < 0:
             self._end_turn()
         return status
@@ -239,23 +242,49 @@ class Core:
         sent = record.sent
         value, key, partition, headers, timestamp = sent if isinstance(sent, Record) else (sent, None, None, (), None)
         key_blob, value_blob, asked = as_blob(key), as_blob(value), ANY if partition is None else INT32(as_partition(partition))
-        status: int = kp.kp_producer_send(
-            self._handle, asked, *key_blob, *value_blob, *as_headers(headers), INT64(as_timestamp(timestamp)), UINT64(clock()),
-            self._ticket_at,
-        )
-        if status == Status.OK:
-            self._open.put(self._ticket.partition, [record])
-            self._is_used = True
+        words = *key_blob, *value_blob, *as_headers(headers), INT64(as_timestamp(timestamp)), UINT64(clock())
+        self._ticket.number, self._noting = NEVER, (-1, 0, [record])
+        status: int = kp.kp_producer_send(self._handle, asked, *words, self._ticket_at)
+        self._is_used = self._note() > 0 or self._is_used
+        self._noting = None
         return status
 
-    def _send_values(self, values: Sequence[bytes], text: bytes, place: int, stamp: int) -> tuple[int, int]:
+    def _send_values(self, values: Sequence[bytes], text: bytes, place: int, stamp: int, whose: list[One] | Many) -> tuple[int, int]:
         """Has values accepted, which the text is of: the status of the first that is refused, and how many were before it."""
         count = len(values)
         lengths = struct.pack(f"{count}Q", *map(len, values))
+        self._accepted.value, self._noting = 0, (place, self._open.count(place), whose)
         status = kp.kp_producer_send_batch(
-            self._handle, place, text, len(text), lengths, count, stamp, clock(), self._size_at,
+            self._handle, place, text, len(text), lengths, count, stamp, clock(), self._accepted_at,
         )
-        return status, self._size.value
+        accepted = self._note()
+        self._noting = None
+        return status, accepted
+
+    def _note(self) -> int:
+        """Notes what the library has accepted: how many. Where it was broken off and is made again it makes each step once."""
+        if self._noting is None:
+            return 0
+        place, first, whose = self._noting
+        if place < 0:
+            place, first = self._ticket.partition, self._ticket.number
+            accepted = int(first != NEVER)
+        else:
+            accepted = self._accepted.value
+        if accepted > 0 and self._open.count(place) == first:
+            self._open.put(place, whose, accepted)
+        queue = self.queue.records
+        if accepted > 0 and queue and isinstance(whose, list) and queue[0] is whose[0]:
+            del queue[:accepted]
+        return accepted
+
+    def _mend(self) -> None:
+        """Notes what a call has left that was broken off: what a signal's handler raises, as KeyboardInterrupt is, may come between
+        any two steps of the main thread."""
+        if self._noting is not None:
+            self._note()
+            self._open.recount()
+            self._noting = None
 
     def refusal(self, status: int) -> tuple[Exception, bool]:
         """What a send is told that is refused, and whether it may be accepted in a while."""

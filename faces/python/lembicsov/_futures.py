@@ -7,7 +7,7 @@ import os
 import threading
 import time
 from bisect import bisect
-from concurrent.futures import Future
+from concurrent.futures import Future, TimeoutError
 from concurrent.futures._base import FINISHED, PENDING
 from typing import Any, Iterable, Iterator, Sequence, Tuple, Union, overload
 
@@ -20,7 +20,7 @@ Run = Tuple[int, int, Report]
 AnyFuture = Union["Future[Any]", "asyncio.Future[Any]"]
 
 DELIVERED = Outcome.DELIVERED
-# In place of a partition: no report was kept, and nobody has begun to wait for it, or somebody has for its result alone, or any has.
+# In place of a partition: no report was kept, and nobody has begun to wait for it, or only for its result, or for more.
 ALONE, AWAITED, WATCHED = -1, -2, -3
 
 # Who keeps reports has it, and so has whoever begins to wait for a future, and who refuses some of many values.
@@ -76,8 +76,9 @@ class Pending(Future):  # type: ignore[type-arg]
     """What comes of what was accepted, which nobody can call back; of a record that is its report.
 
     Most are done before anybody waits for them. So what it takes to wait is made only where somebody begins to, under `keeping`:
-    for the first who waits for the result that is a lock, for any other all that a future has. Before that a report is kept by two
-    assignments (`_open.keep`, `_keep`), and is made from them where it is asked for.
+    where all wait for the result alone that is a lock, else all that a future has. Before that a report is kept by two assignments
+    (`_open.keep`, `_keep`), and is made from them where it is asked for. (The condition that a future has may be left locked where a
+    signal's handler breaks off who waits for it, and whoever has the future done would wait for that; this lock has no such moment.)
     """
 
     # What each has is faster in slots than in a dictionary: what was sent, until it is told, and behind a report that was kept its
@@ -88,7 +89,7 @@ class Pending(Future):  # type: ignore[type-arg]
     _stage: str = PENDING  # The state, where no report was kept.
     _exception: BaseException | None = None
     _given: Any = None  # The result, where no report was kept.
-    told: threading.Lock | None = None  # Who waits for the result alone waits for this.
+    told: threading.Lock | None = None  # Those that wait for the result alone wait for this, one after the other.
     _condition: Any = Watched()
     _waiters: Any = Watched()
     _done_callbacks: Any = Watched()
@@ -96,20 +97,23 @@ class Pending(Future):  # type: ignore[type-arg]
 
     def watch(self) -> None:
         with keeping:
+            if self._partition < 0:
+                self._partition = WATCHED
             if "_condition" not in self.__dict__:
-                self._condition, self._waiters, self._done_callbacks = threading.Condition(), [], []
-                if self._partition < 0:
-                    self._partition = WATCHED
+                self.__dict__.update(_condition=threading.Condition(), _waiters=[], _done_callbacks=[])
 
     def _wait(self, timeout: float | None) -> None:
-        """Waits until it is done, where nobody else has begun to."""
+        """Waits until it is done, where all who wait do so for the result alone."""
         with keeping:
-            if self._partition != ALONE:
+            if self._partition == ALONE:
+                told = threading.Lock()
+                told.acquire()
+                self.told = told
+                self._partition = AWAITED
+            if self._partition != AWAITED or self.told is None:
                 return
-            self.told = told = threading.Lock()
-            told.acquire()
-            self._partition = AWAITED
-        told.acquire(timeout=-1 if timeout is None else min(max(timeout, 0.0), threading.TIMEOUT_MAX))
+        if self.told.acquire(timeout=-1 if timeout is None else min(max(timeout, 0.0), threading.TIMEOUT_MAX)):
+            self.told.release()  # For the next who waits.
 
     @property
     def _state(self) -> str:
@@ -147,10 +151,12 @@ class Pending(Future):  # type: ignore[type-arg]
 
     def result(self, timeout: float | None = None) -> Any:
         partition = self._partition
-        if partition == ALONE:
+        if partition == ALONE or partition == AWAITED:
             begun = time.monotonic()
             self._wait(timeout)
             partition = self._partition
+            if partition == AWAITED:
+                raise TimeoutError
             timeout = None if timeout is None else timeout - (time.monotonic() - begun)
         return super().result(timeout) if partition < 0 else new(Report, (partition, self.sent, DELIVERED, "", 0))
 

@@ -2,6 +2,7 @@
 
 from __future__ import annotations
 
+import contextlib
 import errno
 import logging
 import selectors
@@ -14,7 +15,7 @@ from typing import Any, Callable, TypeVar
 from ._core import SHORT, Core, Told, tell_unclosed
 from ._futures import Pending, pending
 from ._library import Action, Status
-from ._values import Statistics
+from ._values import ProducerError, Statistics
 
 logger = logging.getLogger("lembicsov")
 
@@ -35,6 +36,7 @@ class Connection:
         self.socket: socket.socket | None = None
         self.events = 0  # What the socket is watched for.
         self.is_open = False
+        self.is_torn = False  # Something was taken that is neither written nor in `out` yet.
         self.out = b""  # What was taken and not written.
 
     def look_up(self, flags: int = 0) -> None:
@@ -49,10 +51,11 @@ class Host:
         self.thread = threading.Thread(target=self._run, name=f"lembicsov {core.topic}", daemon=True)
         self._ssl, self._connect_timeout = ssl, connect_timeout
         self._lock = threading.Lock()
-        self._changed = threading.Condition(self._lock)  # There may be room, or the producer is ready, or has ended.
+        self._held_back: list[threading.Lock] = []  # What those wait for that were refused for a while.
         self._connections: dict[int, Connection] = {}
         self._looked_up: list[Connection] = []
         self._is_closing = self._is_ending = self._has_ended = False
+        self._ended = threading.Event()  # The thread has done all that it does.
         self._is_asleep = False  # The thread waits, and nobody has woken it.
         self._is_helped = False  # Another has written for it meanwhile.
         self._until = 0.0  # When it wakes by itself.
@@ -66,18 +69,42 @@ class Host:
 
     def accept(self, attempt: Callable[[Sending], int], what: Sending, max_block: float) -> None:
         """Attempts to send it until that is accepted, or has been refused for so many seconds."""
-        until = 0.0
-        with self._lock:
-            while (status := attempt(what)) != Status.OK:
-                error, may_wait = self.core.refusal(status)
-                self._wake()
-                now = time.monotonic()
-                until = until or now + max_block
-                if not may_wait or now >= until or threading.current_thread() is self.thread:
-                    raise error
-                self._changed.wait(SHORT if status == Status.OUT_OF_MEMORY else until - now)
-            if self._is_asleep:
-                self._send_off()
+        until, turn = 0.0, None
+        while True:
+            with self._lock:
+                try:
+                    status = attempt(what)
+                    if status == Status.OK:
+                        if self._is_asleep:
+                            self._send_off()
+                        return
+                    error, may_wait = self.core.refusal(status)
+                    self._wake()
+                    now = time.monotonic()
+                    until = until or now + max_block
+                    if not may_wait or now >= until or threading.current_thread() is self.thread:
+                        raise error
+                    turn = self._hold_back(turn)
+                except BaseException:
+                    self._wake()  # What a signal's handler has broken off is the thread's to mend.
+                    raise
+            turn.acquire(timeout=SHORT if status == Status.OUT_OF_MEMORY else min(until - now, threading.TIMEOUT_MAX))
+
+    def _hold_back(self, turn: threading.Lock | None) -> threading.Lock:
+        """What whoever was refused for a while waits for. (A condition that a signal's handler breaks off may leave its lock as it should
+        not be, and the thread takes this one.)"""
+        if turn is None:
+            turn = threading.Lock()
+            turn.acquire()
+        if turn not in self._held_back:
+            self._held_back.append(turn)
+        return turn
+
+    def _let_go(self) -> None:
+        """Those that were refused may attempt it again: there may be room, or the producer is ready, or has ended."""
+        held_back, self._held_back = self._held_back, []
+        for turn in held_back:
+            turn.release()
 
     def withdraw(self, record: Pending) -> bool:
         """Takes a record out of the queue, where it is still in it: whether it was."""
@@ -103,10 +130,11 @@ class Host:
             self.core.close()
             self._is_closing = True
             self._wake()
-        self.thread.join(timeout)
+        self._ended.wait(timeout)  # (a `join` that a signal's handler breaks off may take the thread for ended)
         with self._lock:
             self._is_ending = True
             self._wake()
+        self._ended.wait()
         self.thread.join()
 
     def abandon(self) -> None:
@@ -120,12 +148,12 @@ class Host:
         except OSError:
             pass  # It is woken already, or has ended.
         if threading.current_thread() is not self.thread:
-            self.thread.join(1)
+            self._ended.wait(1)
 
     def _wake(self) -> None:
         if self._is_asleep:
-            self._is_asleep, self.core.is_attended = False, True
             self._waker.send(b"\0")
+            self._is_asleep, self.core.is_attended = False, True
 
     def _send_off(self) -> None:
         """What was accepted goes out. The first since the thread fell asleep does so without waking it, which is faster; for more the
@@ -137,7 +165,7 @@ class Host:
                 sleep = self._until - time.monotonic()
                 if sleep <= MOMENT or sleep <= self._wait():
                     return  # It wakes in time.
-            except Exception:
+            except ProducerError:
                 pass  # The thread meets it too, and tells it.
         self._wake()
 
@@ -163,11 +191,12 @@ class Host:
                 self._lose(connection, "the producer has ended")
             told = self.core.end()
             self._has_ended, self._is_asleep = True, False
-            self._changed.notify_all()
+            self._let_go()
         self.core.settle(told)
         self._selector.close()
         self._waker.close()
         self._woken.close()
+        self._ended.set()
 
     def _serve(self) -> None:
         ready: list[tuple[selectors.SelectorKey, int]] = []
@@ -193,7 +222,7 @@ class Host:
             self._is_asleep = True
             return told
         if self.core.tick():
-            self._changed.notify_all()
+            self._let_go()
         self._act()
         more = self._fetch()
         is_done = self._is_closing and self.core.open_records == 0
@@ -206,7 +235,7 @@ class Host:
         before = self.core.open_records
         told = self.core.fetch()
         if self.core.open_records < before:
-            self._changed.notify_all()  # There may be room.
+            self._let_go()
         return told
 
     def _act(self) -> None:
@@ -229,8 +258,13 @@ class Host:
 
     def _write_all(self) -> None:
         for connection in list(self._connections.values()):
-            if connection.is_open and (out := connection.out or self.core.take(connection.node)):
-                self._guard(self._write, connection, out)
+            if connection.is_torn:
+                self._lose(connection, "a call was broken off that wrote to it")
+            elif connection.is_open:
+                connection.is_torn = True
+                if out := connection.out or self.core.take(connection.node):
+                    self._guard(self._write, connection, out)
+                connection.is_torn = False
 
     def _wait(self) -> float:
         """For how many seconds there is nothing to do, if no socket is ready before."""
@@ -265,12 +299,13 @@ class Host:
     def _lose(self, connection: Connection, why: object) -> None:
         logger.info("no connection to %s:%d: %s", connection.host, connection.port, why)
         self._hang_up(connection)
-        del self._connections[connection.node]
         self.core.lost(connection.node)
+        del self._connections[connection.node]
 
     def _hang_up(self, connection: Connection) -> None:
         if connection.socket is not None:
-            self._selector.unregister(connection.socket)
+            with contextlib.suppress(KeyError, ValueError):  # It was closed before, by a call that was broken off.
+                self._selector.unregister(connection.socket)
             connection.socket.close()
             connection.socket = None
 

@@ -62,16 +62,19 @@ class Open:
         self.records = 0  # How many there are.
         self._lines: defaultdict[int, Line] = defaultdict(Line)
 
-    def put(self, partition: int, ones: Sequence[One]) -> None:
-        """The next records of the partition are theirs."""
-        self._lines[partition].owners += ones
-        self.records += len(ones)
-
-    def put_part(self, partition: int, many: Many, count: int) -> None:
-        """So many of the next records of the partition are those of many values."""
+    def put(self, partition: int, whose: Sequence[One] | Many, count: int) -> None:
+        """So many of the next records of the partition are those of the first owners, or of many values."""
         line = self._lines[partition]
-        line.owners += [Part(many, line.count, count)] * count
+        line.owners += [Part(whose, line.count, count)] * count if isinstance(whose, Many) else whose[:count]
         self.records += count
+
+    def recount(self) -> None:
+        """Counts anew how many there are."""
+        self.records = sum(len(line.owners) - line.owners.count(None) for line in self._lines.values())
+
+    def count(self, partition: int) -> int:
+        """How many there ever were of a partition."""
+        return self._lines[partition].count
 
     def counts(self) -> dict[int, int]:
         """By partition, how many were accepted up to now."""

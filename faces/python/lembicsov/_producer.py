@@ -73,9 +73,7 @@ class Producer:
 
     def flush(self, timeout: float | None = None) -> bool:
         """Sends without lingering what was accepted, and waits until all of it has its report: whether it has."""
-        self._core.check()
-        if threading.current_thread() is self._host.thread:
-            raise RuntimeError("the producer's thread can't wait for itself")
+        self._check()
         try:
             self._host.flush().result(timeout)
         except concurrent.futures.TimeoutError:
@@ -85,7 +83,7 @@ class Producer:
     def close(self, timeout: float | None = None) -> None:
         """Accepts no more, waits for so many seconds at most until all that was accepted has its report, and gives up what is left:
         each future is done then."""
-        self._core.check()
+        self._check()
         self._host.close(timeout)
         self._unclosed.detach()
 
@@ -93,6 +91,11 @@ class Producer:
         """What is to be seen of it."""
         self._core.check()
         return self._host.statistics()
+
+    def _check(self) -> None:
+        self._core.check()
+        if threading.current_thread() is self._host.thread:
+            raise RuntimeError("the producer's thread can't wait for itself")
 
     def __enter__(self) -> Self:
         return self
