@@ -69,7 +69,8 @@ class Host:
 
     def accept(self, attempt: Callable[[Sending], int], what: Sending, max_block: float) -> None:
         """Attempts to send it until that is accepted, or has been refused for so many seconds."""
-        until, turn = 0.0, None
+        until = 0.0
+        turn: threading.Lock | None = None
         while True:
             with self._lock:
                 try:
