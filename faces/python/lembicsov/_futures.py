@@ -185,7 +185,7 @@ class Pending(Future):  # type: ignore[type-arg]
 
 def pending(sent: Any = b"") -> Pending:
     """A future of what was sent, for which nobody waits yet."""
-    future = Pending()
+    future: Pending = Pending()
     future.sent, future._partition = sent, ALONE
     return future
 
