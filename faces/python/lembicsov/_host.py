@@ -50,7 +50,7 @@ class Host:
         self.core = core
         self.thread = threading.Thread(target=self._run, name=f"lembicsov {core.topic}", daemon=True)
         self._ssl, self._connect_timeout = ssl, connect_timeout
-        self._lock = threading.Lock()
+        self._lock = threading.RLock()  # It is taken once at a time: `_check` tells who would take it twice.
         self._held_back: list[threading.Lock] = []  # What those wait for that were refused for a while.
         self._connections: dict[int, Connection] = {}
         self._looked_up: list[Connection] = []
@@ -67,8 +67,14 @@ class Host:
 
     # ---- for other threads
 
+    def _check(self) -> None:
+        """Tells a signal's handler, or what else the interpreter calls in the midst of a call of this thread, that it may not call."""
+        if self._lock._is_owned():  # type: ignore[attr-defined]
+            raise RuntimeError("a signal's handler has called the producer in the midst of a call: let it raise, or set a flag")
+
     def accept(self, attempt: Callable[[Sending], int], what: Sending, max_block: float) -> None:
         """Attempts to send it until that is accepted, or has been refused for so many seconds."""
+        self._check()
         until = 0.0
         turn: threading.Lock | None = None
         while True:
@@ -109,10 +115,12 @@ class Host:
 
     def withdraw(self, record: Pending) -> bool:
         """Takes a record out of the queue, where it is still in it: whether it was."""
+        self._check()
         with self._lock:
             return self.core.queue.withdraw(record)
 
     def flush(self) -> Pending:
+        self._check()
         flushed = pending()
         with self._lock:
             if not self._has_ended:
@@ -123,10 +131,12 @@ class Host:
         return flushed
 
     def statistics(self) -> Statistics:
+        self._check()
         with self._lock:
             return self.core.statistics()
 
     def close(self, timeout: float | None) -> None:
+        self._check()
         with self._lock:
             self.core.close()
             self._is_closing = True
