@@ -119,12 +119,13 @@ impl<'a, R: RandomSource + AllocGlobal> Engines<'a, R> {
 
     /// Whether the engine has stopped for good, has kept its calls as it was asked to, and each record is found once. It is gone then.
     fn account(&mut self, came: &mut String) -> Result<(), StepFault> {
-        let mut scene = self.scene.take().ok_or("no engine")?;
+        let keeps_calls = self.setting.keeps_calls;
+        let scene = self.scene()?;
         scene.polls_alike()?;
-        if scene.engine.last_turn().is_some() != self.setting.keeps_calls {
+        if scene.engine.last_turn().is_some() != keeps_calls {
             return Err("calls are kept otherwise".into());
         }
-        let found = scene.has_each_once();
+        let found = self.scene.take().is_some_and(|scene| scene.has_each_once());
         Ok(came.push_str(if found { "each once" } else { "not each once" })?)
     }
 
