@@ -43,6 +43,22 @@ class Connection:
         self.addresses = list(socket.getaddrinfo(self.host, self.port, type=socket.SOCK_STREAM, flags=flags))
 
 
+def hold_back(those: list[threading.Lock], turn: threading.Lock | None) -> threading.Lock:
+    """Has whoever acquires this wait until those are let go. (A condition that a signal's handler breaks off may leave its lock as it
+    should not be, for which the thread would wait.)"""
+    if turn is None:
+        turn = threading.Lock()
+        turn.acquire()
+    if turn not in those:
+        those.append(turn)
+    return turn
+
+
+def let_go(those: list[threading.Lock]) -> None:
+    while those:
+        those.pop().release()
+
+
 class Host:
     """Calls the library: its thread moves the bytes and tells the reports, and others send, in turn by a lock."""
 
@@ -51,11 +67,12 @@ class Host:
         self.thread = threading.Thread(target=self._run, name=f"lembicsov {core.topic}", daemon=True)
         self._ssl, self._connect_timeout = ssl, connect_timeout
         self._lock = threading.RLock()  # It is taken once at a time: `_check` tells who would take it twice.
-        self._held_back: list[threading.Lock] = []  # What those wait for that were refused for a while.
+        self._held_back: list[threading.Lock] = []  # Those that were refused for a while.
+        self._closing: list[threading.Lock] = []  # Those that wait for the end.
         self._connections: dict[int, Connection] = {}
         self._looked_up: list[Connection] = []
         self._is_closing = self._is_ending = self._has_ended = False
-        self._ended = threading.Event()  # The thread has done all that it does.
+        self._is_over = False  # All that there was is told, too.
         self._is_asleep = False  # The thread waits, and nobody has woken it.
         self._is_helped = False  # Another has written for it meanwhile.
         self._until = 0.0  # When it wakes by itself.
@@ -91,27 +108,11 @@ class Host:
                     until = until or now + max_block
                     if not may_wait or now >= until or threading.current_thread() is self.thread:
                         raise error
-                    turn = self._hold_back(turn)
+                    turn = hold_back(self._held_back, turn)
                 except BaseException:
                     self._wake()  # What a signal's handler has broken off is the thread's to mend.
                     raise
             turn.acquire(timeout=SHORT if status == Status.OUT_OF_MEMORY else min(until - now, threading.TIMEOUT_MAX))
-
-    def _hold_back(self, turn: threading.Lock | None) -> threading.Lock:
-        """What whoever was refused for a while waits for. (A condition that a signal's handler breaks off may leave its lock as it should
-        not be, and the thread takes this one.)"""
-        if turn is None:
-            turn = threading.Lock()
-            turn.acquire()
-        if turn not in self._held_back:
-            self._held_back.append(turn)
-        return turn
-
-    def _let_go(self) -> None:
-        """Those that were refused may attempt it again: there may be room, or the producer is ready, or has ended."""
-        held_back, self._held_back = self._held_back, []
-        for turn in held_back:
-            turn.release()
 
     def withdraw(self, record: Pending) -> bool:
         """Takes a record out of the queue, where it is still in it: whether it was."""
@@ -141,12 +142,24 @@ class Host:
             self.core.close()
             self._is_closing = True
             self._wake()
-        self._ended.wait(timeout)  # (a `join` that a signal's handler breaks off may take the thread for ended)
+        self._await_end(threading.TIMEOUT_MAX if timeout is None else timeout)
         with self._lock:
             self._is_ending = True
             self._wake()
-        self._ended.wait()
+        self._await_end(threading.TIMEOUT_MAX)
         self.thread.join()
+
+    def _await_end(self, timeout: float) -> None:
+        """Waits for so many seconds at most until all is told. (A `join` that a signal's handler breaks off may take the thread for
+        ended.)"""
+        until = time.monotonic() + timeout
+        turn: threading.Lock | None = None
+        while (left := until - time.monotonic()) > 0:
+            with self._lock:
+                if self._is_over:
+                    return
+                turn = hold_back(self._closing, turn)
+            turn.acquire(timeout=min(left, threading.TIMEOUT_MAX))
 
     def abandon(self) -> None:
         """The producer was let go, or the process ends, without a close."""
@@ -159,7 +172,7 @@ class Host:
         except OSError:
             pass  # It is woken already, or has ended.
         if threading.current_thread() is not self.thread:
-            self._ended.wait(1)
+            self.thread.join(1)
 
     def _wake(self) -> None:
         if self._is_asleep:
@@ -197,17 +210,24 @@ class Host:
             self._serve()
         except BaseException:
             logger.exception("the producer of topic %s has failed", self.core.topic)
+        try:
+            self._end()
+        finally:
+            with self._lock:
+                self._is_over = True
+                let_go(self._closing)
+
+    def _end(self) -> None:
         with self._lock:
             for connection in list(self._connections.values()):
                 self._lose(connection, "the producer has ended")
             told = self.core.end()
             self._has_ended, self._is_asleep = True, False
-            self._let_go()
+            let_go(self._held_back)
         self.core.settle(told)
         self._selector.close()
         self._waker.close()
         self._woken.close()
-        self._ended.set()
 
     def _serve(self) -> None:
         ready: list[tuple[selectors.SelectorKey, int]] = []
@@ -233,7 +253,7 @@ class Host:
             self._is_asleep = True
             return told
         if self.core.tick():
-            self._let_go()
+            let_go(self._held_back)
         self._act()
         more = self._fetch()
         is_done = self._is_closing and self.core.open_records == 0
@@ -246,7 +266,7 @@ class Host:
         before = self.core.open_records
         told = self.core.fetch()
         if self.core.open_records < before:
-            self._let_go()
+            let_go(self._held_back)
         return told
 
     def _act(self) -> None:
