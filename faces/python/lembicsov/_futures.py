@@ -13,6 +13,7 @@ from typing import Any, Iterable, Iterator, Sequence, Tuple, Union, overload
 
 from ._given import as_bytes, as_partition, as_timestamp
 from ._values import NOT_DELIVERED, Bytes, NotDelivered, Outcome, Record, RecordTooLarge, Report, SomeNotDelivered
+from ._waiting import hold_back, let_go
 
 Sent = Union[bytes, Record]  # A value alone, or a record that is more than that.
 # Reports of values one after the other, to one partition and with offsets that go up by one: the first place, how many, the first.
@@ -76,9 +77,8 @@ class Pending(Future):  # type: ignore[type-arg]
     """What comes of what was accepted, which nobody can call back; of a record that is its report.
 
     Most are done before anybody waits for them. So what it takes to wait is made only where somebody begins to, under `keeping`:
-    where all wait for the result alone that is a lock, else all that a future has. Before that a report is kept by two assignments
-    (`_open.keep`, `_keep`), and is made from them where it is asked for. (The condition that a future has may be left locked where a
-    signal's handler breaks off who waits for it, and whoever has the future done would wait for that; this lock has no such moment.)
+    for those that wait for the result alone these are locks, for any other all that a future has. Before that a report is kept by two
+    assignments (`_open.keep`, `_keep`), and is made from them where it is asked for.
     """
 
     # What each has is faster in slots than in a dictionary: what was sent, until it is told, and behind a report that was kept its
@@ -89,7 +89,7 @@ class Pending(Future):  # type: ignore[type-arg]
     _stage: str = PENDING  # The state, where no report was kept.
     _exception: BaseException | None = None
     _given: Any = None  # The result, where no report was kept.
-    told: threading.Lock | None = None  # Those that wait for the result alone wait for this, one after the other.
+    _held_back: list[threading.Lock] | None = None  # Those that wait for the result alone.
     _condition: Any = Watched()
     _waiters: Any = Watched()
     _done_callbacks: Any = Watched()
@@ -105,15 +105,17 @@ class Pending(Future):  # type: ignore[type-arg]
     def _wait(self, timeout: float | None) -> None:
         """Waits until it is done, where all who wait do so for the result alone."""
         with keeping:
+            if self._held_back is None:
+                self._held_back = []
             if self._partition == ALONE:
-                told = threading.Lock()
-                told.acquire()
-                self.told = told
                 self._partition = AWAITED
-            if self._partition != AWAITED or self.told is None:
+            if self._partition != AWAITED:
                 return
-        if self.told.acquire(timeout=-1 if timeout is None else min(max(timeout, 0.0), threading.TIMEOUT_MAX)):
-            self.told.release()  # For the next who waits.
+            turn = hold_back(self._held_back)
+        if not turn.acquire(timeout=-1 if timeout is None else min(max(timeout, 0.0), threading.TIMEOUT_MAX)):
+            with keeping:
+                if turn in self._held_back:
+                    self._held_back.remove(turn)
 
     @property
     def _state(self) -> str:
@@ -140,8 +142,9 @@ class Pending(Future):  # type: ignore[type-arg]
         self._wake()
 
     def _wake(self) -> None:
-        if self.told:  # (nobody begins to wait for it any more)
-            self.told.release()
+        with keeping:
+            if self._held_back:  # (nobody begins to wait for the result alone any more)
+                let_go(self._held_back)
 
     def cancel(self) -> bool:
         return False

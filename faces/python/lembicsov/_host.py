@@ -16,6 +16,7 @@ from ._core import SHORT, Core, Told, tell_unclosed
 from ._futures import Pending, pending
 from ._library import Action, Status
 from ._values import ProducerError, Statistics
+from ._waiting import hold_back, let_go
 
 logger = logging.getLogger("lembicsov")
 
@@ -41,22 +42,6 @@ class Connection:
 
     def look_up(self, flags: int = 0) -> None:
         self.addresses = list(socket.getaddrinfo(self.host, self.port, type=socket.SOCK_STREAM, flags=flags))
-
-
-def hold_back(those: list[threading.Lock], turn: threading.Lock | None) -> threading.Lock:
-    """Has whoever acquires this wait until those are let go. (A condition that a signal's handler breaks off may leave its lock as it
-    should not be, for which the thread would wait.)"""
-    if turn is None:
-        turn = threading.Lock()
-        turn.acquire()
-    if turn not in those:
-        those.append(turn)
-    return turn
-
-
-def let_go(those: list[threading.Lock]) -> None:
-    while those:
-        those.pop().release()
 
 
 class Host:
