@@ -47,6 +47,20 @@ impl PartPlayer {
     }
 }
 
+impl PartPlayer {
+    /// Tells what settings, flags and items come to.
+    fn look_at(&mut self, step: &str, words: &mut Words<'_>, came: &mut String) -> Played {
+        match step {
+            "setting" => write!(came, "{}", value_of(&mut self.config, words.word()?)?)?,
+            "flags" => write!(came, "{:?}", flags_of(words)?)?,
+            "pressed" => write!(came, "{}", flags_of(words)?.is_pressed())?,
+            "charge" => write!(came, "{}", item_of(self.alloc, words)?.charge())?,
+            _ => return Err(StepFault::NotUnderstood),
+        }
+        Ok(())
+    }
+}
+
 impl Player for PartPlayer {
     fn begin(&mut self) {
         *self = PartPlayer::new(self.alloc);
@@ -54,27 +68,22 @@ impl Player for PartPlayer {
 
     fn play(&mut self, step: &str, words: &mut Words<'_>, came: &mut String) -> Played {
         match step {
-            "config" => self.set(words, came)?,
-            "setting" => write!(came, "{}", value_of(&mut self.config, words.word()?)?)?,
-            "flags" => write!(came, "{:?}", flags_of(words)?)?,
-            "pressed" => write!(came, "{}", flags_of(words)?.is_pressed())?,
-            "charge" => write!(came, "{}", item_of(self.alloc, words)?.charge())?,
-            "copy" => self.tell_copy(words, came)?,
-            "accum" => self.play_accum(words, came)?,
-            "queue" => self.play_queue(words, came)?,
-            "taken" => self.tell_taken(came)?,
-            "values" => self.tell_values(came)?,
-            "into-items" => self.tell_given(came)?,
-            "partition" => self.play_partition(words, came)?,
-            "budget" => self.play_budget(words, came)?,
-            "desk" => self.tell_desk(words, came)?,
-            "data" => self.tell_data(words, came)?,
-            "produce" => self.tell_request(words, came)?,
-            "init-producer-id" => self.tell_id_request(words, came)?,
-            "code" => tell_code(words.number()?, came)?,
-            _ => return Err(StepFault::NotUnderstood),
+            "config" => self.set(words, came),
+            "copy" => self.tell_copy(words, came),
+            "accum" => self.play_accum(words, came),
+            "queue" => self.play_queue(words, came),
+            "taken" => self.tell_taken(came),
+            "values" => self.tell_values(came),
+            "into-items" => self.tell_given(came),
+            "partition" => self.play_partition(words, came),
+            "budget" => self.play_budget(words, came),
+            "desk" => self.tell_desk(words, came),
+            "data" => self.tell_data(words, came),
+            "produce" => self.tell_request(words, came),
+            "init-producer-id" => self.tell_id_request(words, came),
+            "code" => tell_code(words.number()?, came),
+            _ => self.look_at(step, words, came),
         }
-        Ok(())
     }
 }
 

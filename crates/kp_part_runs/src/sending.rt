@@ -7,6 +7,7 @@ use kp_accum::{Config, Flags, Item};
 use kp_batch::SIZE_LIMIT;
 use kp_cases::{StepFault, Words};
 use kp_parts::{HandedBatch, Partition};
+use std::alloc::Global;
 
 fn enqueue(partition: &mut Partition, config: &Config, item: Item) -> Played {
     let charge = item.charge();
@@ -40,6 +41,50 @@ fn tell_handed(handed: Option<HandedBatch<'_>>, came: &mut String) -> Played {
     tell_items(batch.items(), came)
 }
 
+/// What befalls a partition.
+fn change(
+    partition: &mut Partition,
+    config: &Config,
+    call: &str,
+    alloc: Global,
+    words: &mut Words<'_>,
+) -> Played {
+    match call {
+        "append" => enqueue(partition, config, item_of(alloc, words)?)?,
+        "send" => send(partition, words.number()?)?,
+        "drop-attempts" => partition.drop_attempts(words.number()?),
+        "mark" => partition.mark(),
+        "go-on-under" => partition.go_on_under(words.number()?)?,
+        _ => return Err(StepFault::NotUnderstood),
+    }
+    Ok(())
+}
+
+/// Tells what a partition awaits, and what it wants.
+fn look_at(
+    partition: &Partition,
+    config: &Config,
+    call: &str,
+    words: &mut Words<'_>,
+    came: &mut String,
+) -> Played {
+    match call {
+        "awaits" => write!(came, "{}", partition.awaits(words.number()?))?,
+        "awaiting" => {
+            let open = partition.awaiting(words.number()?);
+            write!(came, "{:?}", open.map(|open| (open.number(), open.begun())))?;
+        }
+        "lowest-waiting" => {
+            let open = partition.lowest_waiting();
+            write!(came, "{:?}", open.map(|open| open.attempt()))?;
+        }
+        "has-marks" => write!(came, "{}", partition.has_marks())?,
+        "wants-id" => write!(came, "{}", partition.wants_id(config))?,
+        _ => return Err(StepFault::NotUnderstood),
+    }
+    Ok(())
+}
+
 impl PartPlayer {
     /// A call of a partition.
     pub(crate) fn play_partition(&mut self, words: &mut Words<'_>, came: &mut String) -> Played {
@@ -51,28 +96,14 @@ impl PartPlayer {
         let partition = self.partition.as_mut().ok_or(StepFault::NotUnderstood)?;
         let config = &self.config;
         match call {
-            "append" => enqueue(partition, config, item_of(self.alloc, words)?)?,
             "sends" => tell_handed(
                 partition.sends(config, Flags::default(), words.number()?),
                 came,
-            )?,
-            "send" => send(partition, words.number()?)?,
-            "awaits" => write!(came, "{}", partition.awaits(words.number()?))?,
-            "awaiting" => {
-                let open = partition.awaiting(words.number()?);
-                write!(came, "{:?}", open.map(|open| (open.number(), open.begun())))?;
+            ),
+            "append" | "send" | "drop-attempts" | "mark" | "go-on-under" => {
+                change(partition, config, call, self.alloc, words)
             }
-            "drop-attempts" => partition.drop_attempts(words.number()?),
-            "lowest-waiting" => {
-                let open = partition.lowest_waiting();
-                write!(came, "{:?}", open.map(|open| open.attempt()))?;
-            }
-            "mark" => partition.mark(),
-            "has-marks" => write!(came, "{}", partition.has_marks())?,
-            "wants-id" => write!(came, "{}", partition.wants_id(config))?,
-            "go-on-under" => partition.go_on_under(words.number()?)?,
-            _ => return Err(StepFault::NotUnderstood),
+            _ => look_at(partition, config, call, words, came),
         }
-        Ok(())
     }
 }

@@ -1,5 +1,7 @@
 //! Batches that wait, in an accumulator or in the queue of one partition alone.
 
+ghost use Rattle.std.specs.Prelude.{◌<◌, length};
+
 use crate::framing::tell_bytes;
 use crate::given::{flags_of, item_of, number_or_zero};
 use crate::{PartPlayer, Played};
@@ -55,16 +57,54 @@ fn keep(taken: &mut Option<Pending>, batch: Option<Pending>, came: &mut String) 
     tell_batch(taken.as_ref(), came)
 }
 
+/// Gives back memory that is used.
+fn release(accum: &mut Accum, charge: u64) -> Played {
+    if charge > accum.used() {
+        return Err("so much is not used".into());
+    }
+    accum.release(charge);
+    Ok(())
+}
+
+/// Tells what is to be seen of an accumulator.
+fn look_at(accum: &Accum, call: &str, words: &mut Words<'_>, came: &mut String) -> Played
+    requires { 0 < length accum.now.queues }
+{
+    match call {
+        "partitions" => write!(came, "{}", accum.partitions())?,
+        "ready" => {
+            let ready = accum.front_ready(0, words.number()?, flags_of(words)?);
+            write!(came, "{ready}")?;
+        }
+        "front" => {
+            let partition = number_or_zero(words)?;
+            if partition as usize >= accum.partitions() {
+                return Err("there is no such partition".into());
+            }
+            tell_batch(accum.front(partition), came)?;
+        }
+        "used" => write!(came, "{}", accum.used())?,
+        "marked" => write!(came, "{}", accum.marked())?,
+        _ => return Err(StepFault::NotUnderstood),
+    }
+    Ok(())
+}
+
 impl PartPlayer {
+    /// A new accumulator.
+    fn open_accum(&mut self, partitions: u32) -> Played {
+        if self.config.check() != Ok(()) {
+            return Err("the configuration is refused".into());
+        }
+        self.accum = Some(Accum::new(self.alloc, self.config, partitions)?);
+        Ok(())
+    }
+
     /// A call of an accumulator; where it takes a partition, one of partition 0.
     pub(crate) fn play_accum(&mut self, words: &mut Words<'_>, came: &mut String) -> Played {
         let call = words.word()?;
         if call == "new" {
-            if self.config.check() != Ok(()) {
-                return Err("the configuration is refused".into());
-            }
-            self.accum = Some(Accum::new(self.alloc, self.config, words.number()?)?);
-            return Ok(());
+            return self.open_accum(words.number()?);
         }
         let accum = self.accum.as_mut().ok_or(StepFault::NotUnderstood)?;
         if accum.partitions() == 0 {
@@ -73,31 +113,11 @@ impl PartPlayer {
         match call {
             "append" => append(accum, item_of(self.alloc, words)?, came)?,
             "may-append" => write!(came, "{}", accum.may_append(&item_of(self.alloc, words)?))?,
-            "partitions" => write!(came, "{}", accum.partitions())?,
-            "ready" => {
-                let ready = accum.front_ready(0, words.number()?, flags_of(words)?);
-                write!(came, "{ready}")?;
-            }
-            "front" => {
-                let partition = number_or_zero(words)?;
-                if partition as usize >= accum.partitions() {
-                    return Err("there is no such partition".into());
-                }
-                tell_batch(accum.front(partition), came)?;
-            }
             "take" => keep(&mut self.taken, accum.take_front(0), came)?,
             "expire" => keep(&mut self.taken, accum.expire(0, words.number()?), came)?,
-            "used" => write!(came, "{}", accum.used())?,
-            "release" => {
-                let charge = words.number()?;
-                if charge > accum.used() {
-                    return Err("so much is not used".into());
-                }
-                accum.release(charge);
-            }
+            "release" => release(accum, words.number()?)?,
             "mark" => accum.mark(),
-            "marked" => write!(came, "{}", accum.marked())?,
-            _ => return Err(StepFault::NotUnderstood),
+            _ => look_at(accum, call, words, came)?,
         }
         Ok(())
     }
