@@ -45,9 +45,7 @@ impl PartPlayer {
             budget: Budget::new(0),
         }
     }
-}
 
-impl PartPlayer {
     /// Tells what settings, flags and items come to.
     fn look_at(&mut self, step: &str, words: &mut Words<'_>, came: &mut String) -> Played {
         match step {
