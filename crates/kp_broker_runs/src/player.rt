@@ -1,8 +1,8 @@
 //! The steps of the cases.
 
 use crate::connection::Connection;
-use kp_broker::{Broker, BrokerFault, FaultPlan, PlanFault};
-use kp_cases::{Player, StepFault, Words, refused};
+use kp_broker::{Broker, BrokerFault, FaultPlan, PlanFault, Served};
+use kp_cases::{Player, StepFault, Words, put, put_debug, refused};
 use kp_frames::FrameFault;
 use std::alloc::{AllocError, AllocFailed, Global};
 use std::mem;
@@ -142,11 +142,13 @@ impl Brokers {
         let text = quoted.strip_prefix('"').ok_or(StepFault::NotUnderstood)?;
         let text = text.strip_suffix('"').ok_or(StepFault::NotUnderstood)?;
         match FaultPlan::parse(self.alloc, text) {
-            Ok(plan) => self.plan = plan,
-            Err(PlanFault::OutOfMemory) => return Err(StepFault::OutOfMemory),
-            Err(fault) => write!(came, "{fault:?}")?,
+            Ok(plan) => {
+                self.plan = plan;
+                Ok(())
+            }
+            Err(PlanFault::OutOfMemory) => Err(StepFault::OutOfMemory),
+            Err(fault) => put_debug(came, &fault),
         }
-        Ok(())
     }
 
     /// What was put, and the bytes behind it.
@@ -165,11 +167,11 @@ impl Brokers {
             Ok(frame) => {
                 write!(came, "{} bytes", frame.len())?;
                 self.told = frame;
+                Ok(())
             }
-            Err(BrokerFault::OutOfMemory) => return Err(refused_at(broker, &before)),
-            Err(fault) => write!(came, "{fault:?}")?,
+            Err(BrokerFault::OutOfMemory) => Err(refused_at(broker, &before)),
+            Err(fault) => put_debug(came, &fault),
         }
-        Ok(())
     }
 
     fn prefixes(&mut self, words: &mut Words<'_>, came: &mut String) -> Result<(), StepFault> {
@@ -189,16 +191,25 @@ impl Brokers {
             self.begun = written;
             return Err(fault);
         }
+        self.tell_served(ended, written, came)
+    }
+
+    /// Tells how a connection has ended, and keeps what was written there.
+    fn tell_served(
+        &mut self,
+        ended: Result<Served, BrokerFault>,
+        written: Vec<u8>,
+        came: &mut String,
+    ) -> Result<(), StepFault> {
         if !written.starts_with(&self.begun) {
             return Err("it has begun otherwise where memory was refused".into());
         }
         self.begun.clear();
         self.told = written;
         match ended {
-            Ok(served) => write!(came, "{served:?}")?,
-            Err(fault) => write!(came, "{fault:?}")?,
+            Ok(served) => put_debug(came, &served),
+            Err(fault) => put_debug(came, &fault),
         }
-        Ok(())
     }
 
     /// Writes what the broker told last, where it is not these bytes.
@@ -212,19 +223,17 @@ impl Brokers {
     fn records(&self, partition: u32, came: &mut String) -> Result<(), StepFault> {
         let broker = self.broker.as_ref().ok_or("there is no broker")?;
         match broker.log(partition) {
-            Some(log) => write!(came, "{}", log.len())?,
-            None => came.push_str("none")?,
+            Some(log) => put(came, &log.len()),
+            None => put(came, &"none"),
         }
-        Ok(())
     }
 
     fn value(&self, partition: u32, offset: u64, came: &mut String) -> Result<(), StepFault> {
         let broker = self.broker.as_ref().ok_or("there is no broker")?;
         match value_at(broker, partition, offset) {
-            Some(value) => put_bytes(came, value)?,
-            None => came.push_str("none")?,
+            Some(value) => Ok(put_bytes(came, value)?),
+            None => put(came, &"none"),
         }
-        Ok(())
     }
 
     /// Plays a step that looks at what there is.
@@ -238,8 +247,8 @@ impl Brokers {
             "told" => self.told(&words.rest_bytes()?, came),
             "records" => self.records(words.number()?, came),
             "value" => self.value(words.number()?, words.number()?, came),
-            "action" => Ok(write!(came, "{:?}", self.plan.action(words.number()?))?),
-            "read_calls" => Ok(write!(came, "{}", self.connection.read_calls)?),
+            "action" => put_debug(came, &self.plan.action(words.number()?)),
+            "read_calls" => put(came, &self.connection.read_calls),
             _ => self.connection.play(step, words),
         }
     }

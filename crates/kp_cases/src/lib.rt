@@ -10,6 +10,7 @@
 //! with has stopped for good, and the steps that it can't play are passed over. How many cases were short of memory is told.
 #![tactic(auto)]
 
+mod came;
 mod fault;
 mod play;
 mod run;
@@ -17,6 +18,7 @@ mod script;
 mod seen;
 mod words;
 
+pub use came::{put, put_debug};
 pub use fault::StepFault;
 pub use play::Player;
 pub use run::play_files;

@@ -1,28 +1,38 @@
 //! What is computed of a step's words.
 
+ghost use Rattle.std.specs.Prelude.{◌≤◌, length};
+
 use crate::fault::{Done, Played};
 use crate::told::put_hex;
 use kp_batch::Timestamp;
-use kp_cases::{StepFault, Words};
+use kp_cases::{Words, put, put_debug};
 use kp_wire::{
     Text, add_sizes, crc32c, murmur2, partition_of_key, put_string, size_of_nullable_text,
     size_of_text, take_string,
 };
 use std::alloc::Global;
 
+/// Tells the first three bytes of a text as a STRING.
+fn tell_front(alloc: Global, text: &str, came: &mut String) -> Done
+    requires { length text.now ≤ 32767 }
+{
+    let mut out = Vec::new(alloc);
+    put_string(&mut out, text)?;
+    came.push_str(" from ")?;
+    put_hex(came, out.get(..3).unwrap_or(&[]))?;
+    if take_string(&out) != Ok((text, out.len())) {
+        came.push_str(", taken otherwise")?;
+    }
+    Ok(())
+}
+
 /// Tells how many bytes a text has as a STRING, and the first three of them.
 fn tell_string(alloc: Global, word: &str, came: &mut String) -> Done {
     let text = Text::from_str(alloc, word)?;
     let size = size_of_text(&text);
-    write!(came, "{size:?}")?;
+    put_debug(came, &size)?;
     if size.is_some() {
-        let mut out = Vec::new(alloc);
-        put_string(&mut out, text.as_str())?;
-        came.push_str(" from ")?;
-        put_hex(came, out.get(..3).unwrap_or(&[]))?;
-        if take_string(&out) != Ok((text.as_str(), out.len())) {
-            came.push_str(", taken otherwise")?;
-        }
+        tell_front(alloc, text.as_str(), came)?;
     }
     if size_of_nullable_text(&Some(text)) != size {
         came.push_str(", of another size where it may be null")?;
@@ -30,12 +40,24 @@ fn tell_string(alloc: Global, word: &str, came: &mut String) -> Done {
     Ok(())
 }
 
-/// The partition of a key.
-fn partition(partitions: u32, key: &[u8]) -> Result<u32, StepFault> {
+fn tell_crc32c(words: &mut Words<'_>, came: &mut String) -> Done {
+    Ok(write!(came, "{:08x}", crc32c(&words.bytes()?))?)
+}
+
+/// Tells which of so many partitions a key has.
+fn tell_partition(words: &mut Words<'_>, came: &mut String) -> Done {
+    let partitions = words.number()?;
+    let key = words.bytes()?;
     if partitions == 0 {
         return Err("there is no partition".into());
     }
-    Ok(partition_of_key(key, partitions))
+    put(came, &partition_of_key(&key, partitions))
+}
+
+/// Tells the milliseconds of a moment, where it is one.
+fn tell_moment(words: &mut Words<'_>, came: &mut String) -> Done {
+    let moment = Timestamp::from_millis(words.number()?);
+    put_debug(came, &moment.map(|moment| moment.millis()))
 }
 
 /// Plays a step that computes; false where it is none.
@@ -45,17 +67,14 @@ pub(crate) fn compute(
     words: &mut Words<'_>,
     came: &mut String,
 ) -> Played {
-    match step {
-        "crc32c" => write!(came, "{:08x}", crc32c(&words.bytes()?))?,
-        "murmur2" => write!(came, "{}", murmur2(&words.bytes()?).cast_signed())?,
-        "partition" => write!(came, "{}", partition(words.number()?, &words.bytes()?)?)?,
-        "sum" => write!(came, "{}", add_sizes(words.number()?, words.number()?))?,
-        "moment" => {
-            let moment = Timestamp::from_millis(words.number()?);
-            write!(came, "{:?}", moment.map(|moment| moment.millis()))?;
-        }
-        "text_of" => tell_string(alloc, words.word()?, came)?,
+    let done = match step {
+        "crc32c" => tell_crc32c(words, came),
+        "murmur2" => put(came, &murmur2(&words.bytes()?).cast_signed()),
+        "partition" => tell_partition(words, came),
+        "sum" => put(came, &add_sizes(words.number()?, words.number()?)),
+        "moment" => tell_moment(words, came),
+        "text_of" => tell_string(alloc, words.word()?, came),
         _ => return Ok(false),
-    }
-    Ok(true)
+    };
+    done.map(|()| true)
 }

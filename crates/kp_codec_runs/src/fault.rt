@@ -1,7 +1,7 @@
 //! Why bytes are not what they are read as.
 
 use kp_batch::BatchFault;
-use kp_cases::StepFault;
+use kp_cases::{StepFault, put};
 use kp_frames::FrameFault;
 use kp_wire::{ReadError, WireFault};
 use std::alloc::AllocError;
@@ -24,13 +24,22 @@ pub enum Fault {
 
 impl Fault {
     /// Whether memory was refused.
-    pub(crate) fn wants_memory(&self) -> bool {
+    fn wants_memory(&self) -> bool {
         matches!(
             self,
             Fault::Memory(_)
                 | Fault::Batch(BatchFault::OutOfMemory)
                 | Fault::Frame(FrameFault::OutOfMemory)
         )
+    }
+
+    /// Tells a codec's fault, where the step can be played.
+    pub(crate) fn tell(self, came: &mut String) -> Done {
+        match self {
+            Fault::Step(fault) => Err(fault),
+            fault if fault.wants_memory() => Err(StepFault::OutOfMemory),
+            fault => put(came, &fault),
+        }
     }
 }
 

@@ -36,7 +36,7 @@ fn numbers<'a>(bytes: &'a [u8], told: &mut Told) -> Left<'a> {
 
 fn boolean<'a>(bytes: &'a [u8], told: &mut Told) -> Left<'a> {
     let (value, rest) = read_bool(bytes)?;
-    write!(told.text, "{value}")?;
+    told.show(&value)?;
     told.size = Some(size_of_bool(value));
     put_bool(&mut told.written, value)?;
     Ok(rest)
@@ -46,7 +46,7 @@ fn boolean<'a>(bytes: &'a [u8], told: &mut Told) -> Left<'a> {
 fn varint<'a>(after: usize, bytes: &'a [u8], told: &mut Told) -> Left<'a> {
     let (taken, len) = take_varint(bytes)?;
     let (n, rest) = end_before(read_varint(bytes)?, after)?;
-    write!(told.text, "{n}")?;
+    told.show(&n)?;
     told.is_taken = taken == n && bytes.get(len..) == Some(rest);
     told.size = Some(varint_len(n));
     put_varint(&mut told.written, n)?;
@@ -57,7 +57,7 @@ fn varint<'a>(after: usize, bytes: &'a [u8], told: &mut Told) -> Left<'a> {
 fn varlong<'a>(after: usize, bytes: &'a [u8], told: &mut Told) -> Left<'a> {
     let (taken, len) = take_varlong(bytes)?;
     let (n, rest) = end_before(read_varlong(bytes)?, after)?;
-    write!(told.text, "{n}")?;
+    told.show(&n)?;
     told.is_taken = taken == n && bytes.get(len..) == Some(rest);
     told.size = Some(varlong_len(n));
     put_varlong(&mut told.written, n)?;
@@ -84,7 +84,7 @@ fn utf8<'a>(len: usize, bytes: &'a [u8], told: &mut Told) -> Left<'a> {
     let text = Text::from_str(told.alloc, front)?;
     told.size = Some(text.len() as u64);
     let text = Text::new(text.into_string());
-    write!(told.text, "{:?}", text.as_str())?;
+    told.show(&text.as_str())?;
     told.written.extend_from_slice(text.as_str().as_bytes())?;
     Ok(rest)
 }
@@ -93,7 +93,7 @@ fn utf8<'a>(len: usize, bytes: &'a [u8], told: &mut Told) -> Left<'a> {
 fn string<'a>(bytes: &'a [u8], told: &mut Told) -> Left<'a> {
     let (taken, len) = take_string(bytes)?;
     let (text, rest) = read_string(bytes)?;
-    write!(told.text, "{text:?}")?;
+    told.show(&text)?;
     told.is_taken = taken == text && bytes.get(len..) == Some(rest);
     if text.len() <= TEXT_LIMIT {
         put_string(&mut told.written, text)?;
@@ -105,7 +105,7 @@ fn string<'a>(bytes: &'a [u8], told: &mut Told) -> Left<'a> {
 fn nullable_string<'a>(bytes: &'a [u8], told: &mut Told) -> Left<'a> {
     let (taken, len) = take_nullable(bytes)?;
     let (text, rest) = read_nullable(bytes)?;
-    write!(told.text, "{text:?}")?;
+    told.show(&text)?;
     told.is_taken = taken == text && bytes.get(len..) == Some(rest);
     match text {
         Some(text) if text.len() > TEXT_LIMIT => {}
@@ -117,7 +117,7 @@ fn nullable_string<'a>(bytes: &'a [u8], told: &mut Told) -> Left<'a> {
 /// A STRING of its own memory.
 fn text<'a>(bytes: &'a [u8], told: &mut Told) -> Left<'a> {
     let (text, rest) = read_text(told.alloc, bytes)?;
-    write!(told.text, "{:?}", text.as_str())?;
+    told.show(&text.as_str())?;
     told.size = size_of_text(&text);
     if told.size.is_some() {
         put_text(&mut told.written, &text)?;
@@ -128,7 +128,7 @@ fn text<'a>(bytes: &'a [u8], told: &mut Told) -> Left<'a> {
 /// A NULLABLE_STRING of its own memory.
 fn nullable_text<'a>(bytes: &'a [u8], told: &mut Told) -> Left<'a> {
     let (text, rest) = read_nullable_text(told.alloc, bytes)?;
-    write!(told.text, "{:?}", text.as_ref().map(|text| text.as_str()))?;
+    told.show(&text.as_ref().map(|text| text.as_str()))?;
     told.size = size_of_nullable_text(&text);
     if told.size.is_some() {
         put_nullable_text(&mut told.written, &text)?;
@@ -139,7 +139,7 @@ fn nullable_text<'a>(bytes: &'a [u8], told: &mut Told) -> Left<'a> {
 /// An ARRAY of INT32.
 fn array<'a>(bytes: &'a [u8], told: &mut Told) -> Left<'a> {
     let (numbers, rest) = read_array::<i32>(told.alloc, bytes)?;
-    write!(told.text, "{:?}", numbers.as_slice())?;
+    told.show(&numbers.as_slice())?;
     told.size = size_of_array(&numbers);
     if told.size.is_some() {
         put_array(&mut told.written, &numbers)?;
@@ -150,7 +150,7 @@ fn array<'a>(bytes: &'a [u8], told: &mut Told) -> Left<'a> {
 /// An ARRAY of INT32 that may be null.
 fn nullable_array<'a>(bytes: &'a [u8], told: &mut Told) -> Left<'a> {
     let (numbers, rest) = read_nullable_array::<i32>(told.alloc, bytes)?;
-    write!(told.text, "{:?}", numbers.as_ref().map(|n| n.as_slice()))?;
+    told.show(&numbers.as_ref().map(|n| n.as_slice()))?;
     told.size = size_of_nullable_array(&numbers);
     if told.size.is_some() {
         put_nullable_array(&mut told.written, &numbers)?;
@@ -173,7 +173,7 @@ fn records<'a>(bytes: &'a [u8], told: &mut Told) -> Left<'a> {
 fn many<'a>(count: usize, bytes: &'a [u8], told: &mut Told) -> Left<'a> {
     let count = u32::try_from(count).map_err(|_| StepFault::NotUnderstood)?;
     let (numbers, rest) = read_many::<i32>(told.alloc, count, bytes, 0)?;
-    write!(told.text, "{:?}", numbers.as_slice())?;
+    told.show(&numbers.as_slice())?;
     for n in numbers.as_slice() {
         put_i32(&mut told.written, *n)?;
     }

@@ -23,17 +23,27 @@ fn take_down(frame: Vec<u8>, content: &[u8], told: &mut Told) -> Result<(), Faul
     Ok(())
 }
 
+/// Tells a request, and takes down how it is written.
+fn tell_request(request: &Request, content: &[u8], told: &mut Told) -> Result<(), Fault> {
+    told.show(request)?;
+    take_down(write_request(told.alloc, request)?, content, told)
+}
+
 pub(crate) fn request<'a>(content: &'a [u8], told: &mut Told) -> Left<'a> {
     let request = read_request(told.alloc, content)?;
-    write!(told.text, "{request:?}")?;
-    take_down(write_request(told.alloc, &request)?, content, told)?;
+    tell_request(&request, content, told)?;
     Ok(&[])
+}
+
+/// Tells a response, and takes down how it is written.
+fn tell_response(response: &Response, content: &[u8], told: &mut Told) -> Result<(), Fault> {
+    told.show(response)?;
+    take_down(write_response(told.alloc, response)?, content, told)
 }
 
 pub(crate) fn response<'a>(api: Api, content: &'a [u8], told: &mut Told) -> Left<'a> {
     let response = read_response(told.alloc, api, content)?;
-    write!(told.text, "{response:?}")?;
-    take_down(write_response(told.alloc, &response)?, content, told)?;
+    tell_response(&response, content, told)?;
     Ok(&[])
 }
 
@@ -53,40 +63,43 @@ fn one<T: Drop>(alloc: Global, item: T) -> Result<Seq<T>, AllocError> {
     Ok(Seq::new(items))
 }
 
-/// So many zeros for partition 0 of "t".
-fn zeros(alloc: Global, len: usize) -> Result<TopicProduceData, AllocError> {
+/// The one topic "t", with so many zeros for partition 0.
+fn zeros(alloc: Global, len: usize) -> Result<Seq<TopicProduceData>, AllocError> {
     let partition = PartitionProduceData {
         partition: 0,
         records: Blob::new(vec![in alloc; 0u8; len]?),
     };
-    Ok(TopicProduceData {
+    let topic = TopicProduceData {
         topic: Text::from_str(alloc, "t")?,
         partitions: one(alloc, partition)?,
-    })
+    };
+    one(alloc, topic)
 }
 
-/// The answer to so many partitions of "t".
-fn answers(alloc: Global, count: usize) -> Result<TopicProduceResponse, AllocError> {
+/// The answers to so many partitions of the one topic "t".
+fn answers(alloc: Global, count: usize) -> Result<Seq<TopicProduceResponse>, AllocError> {
     let partition = PartitionProduceResponse {
         partition: 0,
         error_code: 0,
         base_offset: 0,
         log_append_time_ms: -1,
     };
-    Ok(TopicProduceResponse {
+    let topic = TopicProduceResponse {
         topic: Text::from_str(alloc, "t")?,
         partitions: Seq::new(vec![in alloc; partition; count]?),
-    })
+    };
+    one(alloc, topic)
 }
 
-/// A broker at this host.
-fn broker(host: Text) -> Broker {
-    Broker {
+/// The one broker, at this host.
+fn broker(alloc: Global, host: &str) -> Result<Seq<Broker>, AllocError> {
+    let broker = Broker {
         node_id: 0,
-        host,
+        host: Text::from_str(alloc, host)?,
         port: 9092,
         rack: None,
-    }
+    };
+    one(alloc, broker)
 }
 
 fn count_of(word: &str) -> Result<usize, StepFault> {
@@ -102,7 +115,7 @@ fn set_in_request(alloc: Global, request: &mut Request, word: &str) -> Done {
             body.topics = Some(one(alloc, Text::from_str(alloc, with)?)?);
         }
         ("batch", RequestBody::Produce(body)) => {
-            body.topics = one(alloc, zeros(alloc, count_of(with)?)?)?;
+            body.topics = zeros(alloc, count_of(with)?)?;
         }
         _ => return Err(StepFault::NotUnderstood),
     }
@@ -114,28 +127,18 @@ fn set_in_response(alloc: Global, response: &mut Response, word: &str) -> Done {
     let (what, with) = word.split_once(':').ok_or(StepFault::NotUnderstood)?;
     match (what, &mut response.body) {
         ("host", ResponseBody::Metadata(body)) => {
-            body.brokers = one(alloc, broker(Text::from_str(alloc, with)?))?;
+            body.brokers = broker(alloc, with)?;
         }
         ("partitions", ResponseBody::Produce(body)) => {
-            body.topics = one(alloc, answers(alloc, count_of(with)?)?)?;
+            body.topics = answers(alloc, count_of(with)?)?;
         }
         _ => return Err(StepFault::NotUnderstood),
     }
     Ok(())
 }
 
-/// The frame of the message whose content these bytes are, with what the words put into it.
-fn frame_of(alloc: Global, kind: &str, content: &[u8], words: &str) -> Result<Vec<u8>, Fault> {
-    if let Some(api) = api_of(kind) {
-        let mut response = read_response(alloc, api, content)?;
-        for word in words.split_whitespace() {
-            set_in_response(alloc, &mut response, word)?;
-        }
-        return Ok(write_response(alloc, &response)?);
-    }
-    if kind != "request" {
-        return Err(Fault::Step(StepFault::NotUnderstood));
-    }
+/// The frame of the request whose content these bytes are, with what the words put into it.
+fn request_frame(alloc: Global, content: &[u8], words: &str) -> Result<Vec<u8>, Fault> {
     let mut request = read_request(alloc, content)?;
     for word in words.split_whitespace() {
         set_in_request(alloc, &mut request, word)?;
@@ -143,19 +146,41 @@ fn frame_of(alloc: Global, kind: &str, content: &[u8], words: &str) -> Result<Ve
     Ok(write_request(alloc, &request)?)
 }
 
-/// Tells the frame of a message, a long one by its length and its first four bytes, or why there is none.
+/// The frame of the response whose content these bytes are, with what the words put into it.
+fn response_frame(alloc: Global, api: Api, content: &[u8], words: &str) -> Result<Vec<u8>, Fault> {
+    let mut response = read_response(alloc, api, content)?;
+    for word in words.split_whitespace() {
+        set_in_response(alloc, &mut response, word)?;
+    }
+    Ok(write_response(alloc, &response)?)
+}
+
+/// The frame of a message of this kind.
+fn frame_of(alloc: Global, kind: &str, content: &[u8], words: &str) -> Result<Vec<u8>, Fault> {
+    if let Some(api) = api_of(kind) {
+        return response_frame(alloc, api, content, words);
+    }
+    if kind != "request" {
+        return Err(Fault::Step(StepFault::NotUnderstood));
+    }
+    request_frame(alloc, content, words)
+}
+
+/// Writes a frame, a long one as its length and its first four bytes.
+fn put_frame(came: &mut String, frame: &[u8]) -> Result<(), AllocError> {
+    if frame.len() <= TOLD_LIMIT {
+        return put_hex(came, frame);
+    }
+    write!(came, "{} bytes from ", frame.len())?;
+    put_hex(came, frame.get(..4).unwrap_or(&[]))
+}
+
+/// Tells the frame of a message, or why there is none.
 pub(crate) fn tell_frame(alloc: Global, words: &mut Words<'_>, came: &mut String) -> Done {
     let kind = words.word()?;
     let content = words.bytes()?;
     match frame_of(alloc, kind, &content, words.rest()) {
-        Ok(frame) if frame.len() <= TOLD_LIMIT => put_hex(came, &frame)?,
-        Ok(frame) => {
-            write!(came, "{} bytes from ", frame.len())?;
-            put_hex(came, frame.get(..4).unwrap_or(&[]))?;
-        }
-        Err(Fault::Step(fault)) => return Err(fault),
-        Err(fault) if fault.wants_memory() => return Err(StepFault::OutOfMemory),
-        Err(fault) => write!(came, "{fault}")?,
+        Ok(frame) => Ok(put_frame(came, &frame)?),
+        Err(fault) => fault.tell(came),
     }
-    Ok(())
 }

@@ -30,15 +30,15 @@ fn text_of<'a>(words: &mut Words<'a>) -> Result<&'a str, StepFault>
 
 /// Writes what the words say: a `varint`, a `varlong`, a `string`, a `nullable` one, or `null`.
 fn put(out: &mut Vec<u8>, words: &mut Words<'_>) -> Done {
-    match words.word()? {
-        "varint" => put_varint(out, words.number()?)?,
-        "varlong" => put_varlong(out, words.number()?)?,
-        "string" => put_string(out, text_of(words)?)?,
-        "nullable" => put_nullable(out, Some(text_of(words)?))?,
-        "null" => put_nullable(out, None)?,
+    let put = match words.word()? {
+        "varint" => put_varint(out, words.number()?),
+        "varlong" => put_varlong(out, words.number()?),
+        "string" => put_string(out, text_of(words)?),
+        "nullable" => put_nullable(out, Some(text_of(words)?)),
+        "null" => put_nullable(out, None),
         _ => return Err(StepFault::NotUnderstood),
-    }
-    Ok(())
+    };
+    Ok(put?)
 }
 
 impl Putting {

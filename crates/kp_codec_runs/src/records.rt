@@ -7,7 +7,7 @@ use kp_batch::{
     write_batch,
 };
 use kp_batch_reading::read_batch;
-use kp_cases::{StepFault, Words};
+use kp_cases::{StepFault, Words, put, put_debug};
 use std::alloc::Global;
 
 /// A batch that is one.
@@ -36,7 +36,7 @@ fn written<T: AsRecord>(alloc: Global, head: BatchHead, items: &[T]) -> Result<V
 /// A batch: its records.
 pub(crate) fn read_records<'a>(bytes: &'a [u8], told: &mut Told) -> Left<'a> {
     let batch = read_batch(told.alloc, bytes)?;
-    write!(told.text, "{:?}", batch.records.as_slice())?;
+    told.show(&batch.records.as_slice())?;
     told.size = Some(batch_size(batch.records.as_slice()));
     told.written = written(told.alloc, batch.head, batch.records.as_slice())?;
     told.wanted.clear();
@@ -116,19 +116,36 @@ impl Held {
         Ok(())
     }
 
+    /// Keeps a record beside the last one.
+    fn keep(&mut self, words: &mut Words<'_>) -> Done {
+        self.last()?.kept = Some(record_of(self.alloc, words)?);
+        Ok(())
+    }
+
+    /// Tells the size of the last record, as the first of a batch.
+    fn tell_size(&mut self, came: &mut String) -> Done {
+        put(came, &record_size(&self.last()?.sent, 0, 0))
+    }
+
+    /// Tells the batch of these records.
+    fn tell_written(&self, came: &mut String) -> Done {
+        let bytes = written(self.alloc, HEAD, self.items.as_slice())?;
+        Ok(put_hex(came, &bytes)?)
+    }
+
     /// Plays a step about these records; false where it is none.
     pub(crate) fn play(&mut self, step: &str, words: &mut Words<'_>, came: &mut String) -> Played {
-        match step {
-            "record" => self.add(words)?,
-            "beside" => self.last()?.kept = Some(record_of(self.alloc, words)?),
-            "copy" => self.copy()?,
-            "told" => write!(came, "{:?}", self.items)?,
-            "charges" => self.tell_charges(came)?,
-            "record_size" => write!(came, "{}", record_size(&self.last()?.sent, 0, 0))?,
-            "batch_size" => write!(came, "{}", batch_size(self.items.as_slice()))?,
-            "write" => put_hex(came, &written(self.alloc, HEAD, self.items.as_slice())?)?,
+        let done = match step {
+            "record" => self.add(words),
+            "beside" => self.keep(words),
+            "copy" => self.copy(),
+            "told" => put_debug(came, &self.items),
+            "charges" => self.tell_charges(came),
+            "record_size" => self.tell_size(came),
+            "batch_size" => put(came, &batch_size(self.items.as_slice())),
+            "write" => self.tell_written(came),
             _ => return Ok(false),
-        }
-        Ok(true)
+        };
+        done.map(|()| true)
     }
 }

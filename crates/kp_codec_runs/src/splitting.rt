@@ -1,28 +1,36 @@
 //! Streams of frames, in pieces.
 
-use crate::fault::{Done, Left, Played};
+use crate::fault::{Done, Fault, Left, Played};
 use crate::told::{Told, put_hex};
-use kp_cases::{StepFault, Words, refused};
+use kp_cases::{StepFault, Words, put, put_debug, refused};
 use kp_frames::{FrameFault, Splitter};
 use kp_wire::put_i32;
-use std::alloc::Global;
+use std::alloc::{AllocError, Global};
+
+/// Writes a frame's content behind its size.
+fn put_content(out: &mut Vec<u8>, content: &[u8]) -> Result<(), AllocError> {
+    put_i32(out, i32::try_from(content.len()).unwrap_or(-1))?;
+    out.extend_from_slice(content)
+}
+
+/// Takes the frames that are whole, so many at most, and writes each: how many there were.
+fn take_frames(splitter: &mut Splitter, most: usize, out: &mut Vec<u8>) -> Result<u32, Fault> {
+    let mut count = 0u32;
+    for _ in 0..most {
+        let Some(content) = splitter.next_frame()? else {
+            break;
+        };
+        put_content(out, &content)?;
+        count = count.saturating_add(1);
+    }
+    Ok(count)
+}
 
 /// A stream, given to a splitter in one piece: how many frames it has whole.
 pub(crate) fn read_stream<'a>(bytes: &'a [u8], told: &mut Told) -> Left<'a> {
     let mut splitter = Splitter::new(told.alloc);
     splitter.feed(bytes)?;
-    let mut count = 0u32;
-    for _ in bytes {
-        let Some(content) = splitter.next_frame()? else {
-            break;
-        };
-        put_i32(
-            &mut told.written,
-            i32::try_from(content.len()).unwrap_or(-1),
-        )?;
-        told.written.extend_from_slice(&content)?;
-        count = count.saturating_add(1);
-    }
+    let count = take_frames(&mut splitter, bytes.len(), &mut told.written)?;
     write!(told.text, "{count} frames")?;
     let given = bytes.len().saturating_sub(splitter.rest_len());
     Ok(bytes.get(given..).unwrap_or(&[]))
@@ -57,7 +65,7 @@ impl Splitting {
         if fault == FrameFault::OutOfMemory {
             return Err(refused(self.splitter.rest_len() == waited));
         }
-        Ok(write!(came, "{fault:?}")?)
+        put_debug(came, &fault)
     }
 
     /// Feeds each word as a piece.
@@ -74,19 +82,19 @@ impl Splitting {
         let waited = self.splitter.rest_len();
         match self.splitter.next_frame() {
             Ok(Some(content)) => Ok(put_hex(came, &content)?),
-            Ok(None) => Ok(came.push_str("none")?),
+            Ok(None) => put(came, &"none"),
             Err(fault) => self.tell_fault(fault, waited, came),
         }
     }
 
     /// Plays a step about a stream; false where it is none.
     pub(crate) fn play(&mut self, step: &str, words: &mut Words<'_>, came: &mut String) -> Played {
-        match step {
-            "feed" => self.feed_words(words, came)?,
-            "next" => self.tell_next(came)?,
-            "waits" => write!(came, "{}", self.splitter.rest_len())?,
+        let done = match step {
+            "feed" => self.feed_words(words, came),
+            "next" => self.tell_next(came),
+            "waits" => put(came, &self.splitter.rest_len()),
             _ => return Ok(false),
-        }
-        Ok(true)
+        };
+        done.map(|()| true)
     }
 }

@@ -5,8 +5,9 @@ use crate::fields::read_field;
 use crate::frames::{api_of, request, response};
 use crate::records::read_records;
 use crate::splitting::read_stream;
-use kp_cases::StepFault;
+use kp_cases::{StepFault, put};
 use std::alloc::{AllocError, Global};
+use std::fmt::Debug;
 
 /// What stands before a field that is written, which is appended to it.
 const BEFORE: u8 = 0xbb;
@@ -48,6 +49,11 @@ impl Told {
             written: vec![in alloc; BEFORE]?,
             wanted: vec![in alloc; BEFORE]?,
         })
+    }
+
+    /// Takes down the value, as its `Debug` has it.
+    pub(crate) fn show<T: Debug>(&mut self, value: &T) -> Result<(), AllocError> {
+        write!(self.text, "{value:?}")
     }
 
     /// Tells the value that was read of these bytes, and what does not agree with them.
@@ -99,9 +105,7 @@ pub(crate) fn tell(alloc: Global, kind: &str, bytes: &[u8], came: &mut String) -
             told.tell(bytes.get(..len).unwrap_or(&[]), came)?;
             Ok(put_rest(came, rest)?)
         }
-        Err(Fault::Step(fault)) => Err(fault),
-        Err(fault) if fault.wants_memory() => Err(StepFault::OutOfMemory),
-        Err(fault) => Ok(write!(came, "{fault}")?),
+        Err(fault) => fault.tell(came),
     }
 }
 
@@ -109,9 +113,8 @@ pub(crate) fn tell(alloc: Global, kind: &str, bytes: &[u8], came: &mut String) -
 pub(crate) fn tell_at_once(alloc: Global, kind: &str, bytes: &[u8], came: &mut String) -> Done {
     let mut told = Told::new(alloc)?;
     match read(kind, bytes, &mut told) {
-        Ok(_) => came.push_str("none")?,
-        Err(Fault::Step(fault)) => return Err(fault),
-        Err(fault) => write!(came, "{fault}")?,
+        Ok(_) => put(came, &"none"),
+        Err(Fault::Step(fault)) => Err(fault),
+        Err(fault) => put(came, &fault),
     }
-    Ok(())
 }

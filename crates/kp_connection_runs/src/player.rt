@@ -62,16 +62,6 @@ fn names_of(alloc: Global, words: &mut Words<'_>) -> Result<Names, StepFault> {
     })
 }
 
-/// Tells what comes of a poll: what is left behind it.
-fn tell_poll(task: &MockTask, shaking: Shaking, came: &mut String) -> Result<Near, StepFault> {
-    let (near, polled) = shaking.poll(task);
-    if matches!(polled, Poll::Ready(Err(HandshakeFault::OutOfMemory))) {
-        return Err(StepFault::OutOfMemory);
-    }
-    put_polled(came, &polled)?;
-    Ok(near)
-}
-
 /// A connection, and the task in which its ends are polled.
 #[derive(Drop)]
 pub(crate) struct Connections {
@@ -107,49 +97,86 @@ impl Connections {
         }
     }
 
-    fn reads(&mut self, words: &mut Words<'_>) -> Result<Near, StepFault> {
-        let steps = steps_of(self.alloc, words)?;
-        Ok(Near::script(self.take_script()?.reading(steps)))
+    /// A stream that gives the bytes of the words.
+    fn open(&mut self, words: &mut Words<'_>) -> Result<(), StepFault> {
+        self.near = Near::script(Script::new(self.alloc, words.rest_bytes()?));
+        Ok(())
     }
 
-    fn writes(&mut self, words: &mut Words<'_>) -> Result<Near, StepFault> {
-        let steps = steps_of(self.alloc, words)?;
-        Ok(Near::script(self.take_script()?.writing(steps)))
+    /// A stream that gives a long frame.
+    fn open_long(&mut self, words: &mut Words<'_>) -> Result<(), StepFault> {
+        self.near = Near::script(Script::new(self.alloc, long_frame(self.alloc, words)?));
+        Ok(())
     }
 
-    fn ends_after(&mut self, count: usize) -> Result<Near, StepFault> {
-        Ok(Near::script(self.take_script()?.ending_after(count)))
+    fn reads(&mut self, words: &mut Words<'_>) -> Result<(), StepFault> {
+        let steps = steps_of(self.alloc, words)?;
+        self.near = Near::script(self.take_script()?.reading(steps));
+        Ok(())
+    }
+
+    fn writes(&mut self, words: &mut Words<'_>) -> Result<(), StepFault> {
+        let steps = steps_of(self.alloc, words)?;
+        self.near = Near::script(self.take_script()?.writing(steps));
+        Ok(())
+    }
+
+    fn ends_after(&mut self, count: usize) -> Result<(), StepFault> {
+        self.near = Near::script(self.take_script()?.ending_after(count));
+        Ok(())
     }
 
     /// Two ends, each of which holds at most so many bytes that the other did not read.
-    fn duplex(&mut self, room: usize) -> Result<Near, StepFault> {
+    fn duplex(&mut self, room: usize) -> Result<(), StepFault> {
         if room == 0 {
             return Err("a stream without room".into());
         }
         let (near, far) = duplex(self.alloc, room)?;
+        self.near = Near::Stream(Memory::Duplex(Plain { inner: near }));
         self.far = Some(far);
-        Ok(Near::Stream(Memory::Duplex(Plain { inner: near })))
+        Ok(())
     }
 
-    fn handshake(&mut self, words: &mut Words<'_>) -> Result<Near, StepFault> {
+    fn wire(&mut self) -> Result<(), StepFault> {
+        self.near = Near::Wire(Wire::new(self.alloc, self.take_stream()?));
+        Ok(())
+    }
+
+    fn into_stream(&mut self) -> Result<(), StepFault> {
+        self.near = Near::Stream(self.take_stream()?);
+        Ok(())
+    }
+
+    fn handshake(&mut self, words: &mut Words<'_>) -> Result<(), StepFault> {
         let names = names_of(self.alloc, words)?;
         let handshake = Handshake::new(self.alloc, self.take_stream()?, names);
-        Ok(Near::Handshake(Shaking { handshake }))
+        self.near = Near::Handshake(Shaking { handshake });
+        Ok(())
     }
 
-    fn poll(&mut self, came: &mut String) -> Result<Near, StepFault> {
+    /// Polls a handshake, and tells what comes of it. What is left behind it is the near end.
+    fn poll(&mut self, shaking: Shaking, came: &mut String) -> Result<(), StepFault> {
+        let (near, polled) = shaking.poll(&self.task);
+        if matches!(polled, Poll::Ready(Err(HandshakeFault::OutOfMemory))) {
+            return Err(StepFault::OutOfMemory);
+        }
+        self.near = near;
+        Ok(put_polled(came, &polled)?)
+    }
+
+    fn poll_again(&mut self, came: &mut String) -> Result<(), StepFault> {
         match mem::replace(&mut self.near, Near::Gone) {
-            Near::Handshake(shaking) => tell_poll(&self.task, shaking, came),
+            Near::Handshake(shaking) => self.poll(shaking, came),
             _ => Err("there is no handshake".into()),
         }
     }
 
     /// A handshake over a stream that gives these bytes, polled once. Both are made anew.
-    fn greet(&self, words: &mut Words<'_>, came: &mut String) -> Result<Near, StepFault> {
+    fn greet(&mut self, words: &mut Words<'_>, came: &mut String) -> Result<(), StepFault> {
         let names = names_of(self.alloc, words)?;
         let stream = Memory::Script(Script::new(self.alloc, words.rest_bytes()?));
         let handshake = Handshake::new(self.alloc, stream, names);
-        tell_poll(&self.task, Shaking { handshake }, came)
+        self.poll(Shaking { handshake }, came)
     }
 
     /// Plays a step of what the near end is.
@@ -181,24 +208,26 @@ impl Player for Connections {
         words: &mut Words<'_>,
         came: &mut String,
     ) -> Result<(), StepFault> {
-        self.near = match step {
-            "stream" => Near::script(Script::new(self.alloc, words.rest_bytes()?)),
-            "stream_of" => Near::script(Script::new(self.alloc, long_frame(self.alloc, words)?)),
-            "reads" => self.reads(words)?,
-            "writes" => self.writes(words)?,
-            "ends_after" => self.ends_after(words.number()?)?,
-            "duplex" => self.duplex(words.number()?)?,
-            "wire" => Near::Wire(Wire::new(self.alloc, self.take_stream()?)),
-            "into_stream" => Near::Stream(self.take_stream()?),
-            "handshake" => self.handshake(words)?,
-            "poll" => self.poll(came)?,
-            "greet" => self.greet(words, came)?,
-            "drop_near" => Near::Gone,
+        match step {
+            "stream" => self.open(words),
+            "stream_of" => self.open_long(words),
+            "reads" => self.reads(words),
+            "writes" => self.writes(words),
+            "ends_after" => self.ends_after(words.number()?),
+            "duplex" => self.duplex(words.number()?),
+            "wire" => self.wire(),
+            "into_stream" => self.into_stream(),
+            "handshake" => self.handshake(words),
+            "poll" => self.poll_again(came),
+            "greet" => self.greet(words, came),
             "says" | "hears" | "drop_far" => {
-                return play_far(&self.task, &mut self.far, step, words, came);
+                play_far(&self.task, &mut self.far, step, words, came)
             }
-            _ => return self.play_near(step, words, came),
-        };
-        Ok(())
+            "drop_near" => {
+                self.near = Near::Gone;
+                Ok(())
+            }
+            _ => self.play_near(step, words, came),
+        }
     }
 }

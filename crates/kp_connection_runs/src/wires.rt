@@ -3,7 +3,7 @@
 use crate::memory::{Memory, count_of};
 use crate::telling::{put_bytes, put_polled};
 use futures::test::MockTask;
-use kp_cases::{StepFault, Words};
+use kp_cases::{StepFault, Words, put};
 use kp_connection::Wire;
 use kp_connection::script::Script;
 
@@ -18,7 +18,7 @@ fn send(wire: &mut Wire<Memory>, frame: Vec<u8>) -> Result<(), StepFault> {
 fn hear(wire: &mut Wire<Memory>, came: &mut String) -> Result<(), StepFault> {
     match wire.next_frame()? {
         Some(content) => Ok(put_bytes(came, &content)?),
-        None => Ok(came.push_str("none")?),
+        None => put(came, &"none"),
     }
 }
 
@@ -33,17 +33,16 @@ pub(crate) fn play_wire(
     match step {
         "read" => {
             let most = count_of(words.word()?)?.max(1);
-            put_polled(came, &task.enter(|cx| wire.poll_read_once(cx, most)))?;
+            Ok(put_polled(came, &task.enter(|cx| wire.poll_read_once(cx, most)))?)
         }
-        "write" => put_polled(came, &task.enter(|cx| wire.poll_write(cx)))?,
-        "send" => send(wire, words.rest_bytes()?)?,
-        "frame" => hear(wire, came)?,
-        "wanted" => write!(came, "{}", wire.wanted())?,
-        "idle" => write!(came, "{}", wire.is_idle())?,
-        "woken" => write!(came, "{}", task.is_woken())?,
-        _ => return Err(StepFault::NotUnderstood),
+        "write" => Ok(put_polled(came, &task.enter(|cx| wire.poll_write(cx)))?),
+        "send" => send(wire, words.rest_bytes()?),
+        "frame" => hear(wire, came),
+        "wanted" => put(came, &wire.wanted()),
+        "idle" => put(came, &wire.is_idle()),
+        "woken" => put(came, &task.is_woken()),
+        _ => Err(StepFault::NotUnderstood),
     }
-    Ok(())
 }
 
 pub(crate) fn play_script(script: &Script, step: &str, came: &mut String) -> Result<(), StepFault> {

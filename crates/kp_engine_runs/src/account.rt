@@ -55,28 +55,33 @@ fn count_lane(intake: &mut Intake, tally: &mut Tally) {
     }
 }
 
+/// Counts what is left in the parts of an engine.
+fn count_parts(parts: &mut Parts, tally: &mut Tally) {
+    count_held(&parts.held, tally);
+    count_core(&mut parts.core, tally);
+    count_lane(&mut parts.intake, tally);
+}
+
 impl Scene {
+    /// Ends the engine, and counts the reports of which the senders can be told.
+    fn end(&mut self) {
+        self.engine.end();
+        for sender in &mut self.senders {
+            count_told(sender, &mut self.tally);
+        }
+    }
+
     /// Ends the engine and takes it apart: whether each record that was sent has one report, which was fetched, or is to be, was
     /// held back or left in the core, or comes back as an item.
     pub(crate) fn has_each_once(self) -> bool {
+        let mut scene = self;
+        scene.end();
         let Scene {
-            mut engine,
-            mut senders,
+            engine,
             mut tally,
             ..
-        } = self;
-        engine.end();
-        for sender in &mut senders {
-            count_told(sender, &mut tally);
-        }
-        let Parts {
-            mut core,
-            mut intake,
-            held,
-        } = engine.into_parts();
-        count_held(&held, &mut tally);
-        count_core(&mut core, &mut tally);
-        count_lane(&mut intake, &mut tally);
+        } = scene;
+        count_parts(&mut engine.into_parts(), &mut tally);
         tally.has_each_once()
     }
 }

@@ -4,8 +4,7 @@ use crate::calls::calls_of;
 use crate::scene::Scene;
 use crate::setting::Setting;
 use crate::texts::{put_calls, put_held, put_stop};
-use kp_cases::{Player, StepFault, Words};
-use kp_connection::script::Script;
+use kp_cases::{Player, StepFault, Words, put, put_debug};
 use std::random::RandomSource;
 
 /// The engine of a case, once there is one, and what it was opened with.
@@ -18,8 +17,60 @@ pub(crate) struct Engines<'a, R> {
     core: String,
 }
 
+/// How a step ends, when it has written what it came to.
+type Played = Result<(), StepFault>;
+
+/// What the senders do and are told.
+fn play_senders(scene: &mut Scene, step: &str, words: &mut Words<'_>, came: &mut String) -> Played {
+    match step {
+        "send" => scene.send(words.number()?, words.word()?, came),
+        "flush" => scene.flush(words.number()?, came),
+        "shut" => {
+            scene.closer.shut();
+            Ok(())
+        }
+        "told" => scene.tell(words.number()?, came),
+        _ => play_engine(scene, step, words, came),
+    }
+}
+
+/// What is done with the engine.
+fn play_engine(scene: &mut Scene, step: &str, words: &mut Words<'_>, came: &mut String) -> Played {
+    match step {
+        "poll" => Ok(put_stop(came, scene.poll_on()?)?),
+        "turn" => tell_turn(scene, came),
+        "connect" => connect(scene, came),
+        "end" => put(came, &scene.engine.end()),
+        _ => play_stream(scene, step, words, came),
+    }
+}
+
+/// Goes on over another connection, and tells where none was needed.
+fn connect(scene: &mut Scene, came: &mut String) -> Played {
+    Ok(came.push_str(if scene.connect()? { "" } else { "no need" })?)
+}
+
+/// Polls, and tells the calls on the core and what the poll gave.
+fn tell_turn(scene: &mut Scene, came: &mut String) -> Played {
+    let stop = scene.poll_on()?;
+    put_calls(came, scene.engine.last_turn().ok_or("no calls are kept")?)?;
+    Ok(put_stop(came, stop)?)
+}
+
+/// What goes over the stream.
+fn play_stream(scene: &Scene, step: &str, words: &mut Words<'_>, came: &mut String) -> Played {
+    match step {
+        "say" => scene.say(words.rest_bytes()?),
+        "answer" => answer(scene, words.number()?, words.number()?),
+        "play" => play_calls(scene, words),
+        "written" => tell_written(scene, came),
+        "written-len" => tell_written_len(scene, came),
+        _ => look(scene, step, came),
+    }
+}
+
 /// From now on the stream gives the answer that the batch of this request stands at this offset.
-fn answer(scene: &Scene, correlation: u32, offset: i64) -> Result<(), StepFault> {
+fn answer(scene: &Scene, correlation: u32, offset: i64) -> Played {
     let stored = "0000000100017400000001000000000000";
     let no_time = "ffffffffffffffff00000000";
     let digits = format!(in scene.alloc;
@@ -28,62 +79,31 @@ fn answer(scene: &Scene, correlation: u32, offset: i64) -> Result<(), StepFault>
     scene.say(hex::decode(scene.alloc, digits.as_str())?)
 }
 
-/// What the senders do and are told, and what goes over the stream.
-fn play_ends(
-    scene: &mut Scene,
-    step: &str,
-    words: &mut Words<'_>,
-    came: &mut String,
-) -> Result<(), StepFault> {
-    let alloc = scene.alloc;
-    match step {
-        "send" => scene.send(words.number()?, words.word()?, came)?,
-        "flush" => scene.flush(words.number()?, came)?,
-        "shut" => scene.closer.shut(),
-        "told" => scene.tell(words.number()?, came)?,
-        "say" => scene.say(words.rest_bytes()?)?,
-        "answer" => answer(scene, words.number()?, words.number()?)?,
-        "play" => {
-            let (reads, writes) = (
-                calls_of(alloc, words.word()?)?,
-                calls_of(alloc, words.word()?)?,
-            );
-            scene.play(reads, writes, words.rest_bytes()?)?;
-        }
-        "written" => came.push_str(hex::encode(alloc, scene.stream.lend()?.output())?.as_str())?,
-        "written-len" => write!(came, "{}", scene.stream.lend()?.output().len())?,
-        _ => return play_engine(scene, step, words, came),
-    }
-    Ok(())
+/// From now on the stream's reads and its writes go through these calls, and it gives the bytes behind them.
+fn play_calls(scene: &Scene, words: &mut Words<'_>) -> Played {
+    let reads = calls_of(scene.alloc, words.word()?)?;
+    let writes = calls_of(scene.alloc, words.word()?)?;
+    scene.play(reads, writes, words.rest_bytes()?)
 }
 
-/// What polls do, and what is to be seen of the engine.
-fn play_engine(
-    scene: &mut Scene,
-    step: &str,
-    words: &mut Words<'_>,
-    came: &mut String,
-) -> Result<(), StepFault> {
+fn tell_written(scene: &Scene, came: &mut String) -> Played {
+    let digits = hex::encode(scene.alloc, scene.stream.lend()?.output())?;
+    put(came, &digits)
+}
+
+fn tell_written_len(scene: &Scene, came: &mut String) -> Played {
+    put(came, &scene.stream.lend()?.output().len())
+}
+
+/// What is to be seen of the engine.
+fn look(scene: &Scene, step: &str, came: &mut String) -> Played {
     match step {
-        "poll" => put_stop(came, scene.poll_on()?)?,
-        "turn" => {
-            let stop = scene.poll_on()?;
-            put_calls(came, scene.engine.last_turn().ok_or("no calls are kept")?)?;
-            put_stop(came, stop)?;
-        }
-        "connect" => came.push_str(if scene.connect()? { "" } else { "no need" })?,
-        "end" => write!(came, "{}", scene.engine.end())?,
-        "calls" => write!(
-            came,
-            "{:?}",
-            scene.engine.last_turn().map(|calls| calls.len())
-        )?,
-        "stopped" => write!(came, "{:?}", scene.engine.stopped())?,
-        "woken" => write!(came, "{}", scene.task.is_woken())?,
-        "moved" => scene.tell_moves(came)?,
-        _ => return Err(StepFault::NotUnderstood),
+        "calls" => put_debug(came, &scene.engine.last_turn().map(|calls| calls.len())),
+        "stopped" => put_debug(came, &scene.engine.stopped()),
+        "woken" => put(came, &scene.task.is_woken()),
+        "moved" => Ok(scene.tell_moves(came)?),
+        _ => Err(StepFault::NotUnderstood),
     }
-    Ok(())
 }
 
 impl<'a, R: RandomSource + AllocGlobal> Engines<'a, R> {
@@ -96,12 +116,9 @@ impl<'a, R: RandomSource + AllocGlobal> Engines<'a, R> {
         }
     }
 
-    /// A new engine over a stream that takes all and gives nothing.
-    fn open(&mut self, words: &mut Words<'_>) -> Result<(), StepFault> {
-        let alloc = self.rt.alloc();
+    fn open(&mut self, words: &mut Words<'_>) -> Played {
         self.setting = Setting::read(words)?;
-        let silent = Script::new(alloc, Vec::new(alloc));
-        self.scene = Some(Scene::open(self.rt, self.setting, silent)?);
+        self.scene = Some(Scene::open(self.rt, self.setting)?);
         Ok(())
     }
 
@@ -110,7 +127,7 @@ impl<'a, R: RandomSource + AllocGlobal> Engines<'a, R> {
     }
 
     /// Whether the core shows itself as the one did that was last looked at, of this engine or another one of the case.
-    fn compare_core(&mut self, came: &mut String) -> Result<(), StepFault> {
+    fn compare_core(&mut self, came: &mut String) -> Played {
         let core = self.scene()?.core()?;
         let is_same = core.as_str() == self.core.as_str();
         self.core = core;
@@ -118,7 +135,7 @@ impl<'a, R: RandomSource + AllocGlobal> Engines<'a, R> {
     }
 
     /// Whether the engine has stopped for good, has kept its calls as it was asked to, and each record is found once. It is gone then.
-    fn account(&mut self, came: &mut String) -> Result<(), StepFault> {
+    fn account(&mut self, came: &mut String) -> Played {
         let keeps_calls = self.setting.keeps_calls;
         let scene = self.scene()?;
         scene.polls_alike()?;
@@ -135,7 +152,7 @@ impl<'a, R: RandomSource + AllocGlobal> Engines<'a, R> {
     }
 
     /// What the engine held back, which is gone then.
-    fn take_apart(&mut self, came: &mut String) -> Result<(), StepFault> {
+    fn take_apart(&mut self, came: &mut String) -> Played {
         let Scene { engine, .. } = self.scene.take().ok_or("no engine")?;
         Ok(put_held(came, &engine.into_parts().held)?)
     }
@@ -148,19 +165,14 @@ impl<R: RandomSource + AllocGlobal> Player for Engines<'_, R> {
         self.core.clear();
     }
 
-    fn play(
-        &mut self,
-        step: &str,
-        words: &mut Words<'_>,
-        came: &mut String,
-    ) -> Result<(), StepFault> {
+    fn play(&mut self, step: &str, words: &mut Words<'_>, came: &mut String) -> Played {
         match step {
             "engine" => self.open(words),
             "account" => self.account(came),
             _ if self.is_refused() => Err(StepFault::Stopped),
             "core" => self.compare_core(came),
             "held" => self.take_apart(came),
-            _ => play_ends(self.scene()?, step, words, came),
+            _ => play_senders(self.scene()?, step, words, came),
         }
     }
 }

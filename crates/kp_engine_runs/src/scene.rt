@@ -9,7 +9,7 @@ use crate::texts::put_told;
 use futures::task::Poll;
 use futures::test::MockTask;
 use kp_batch::{Record, Timestamp};
-use kp_cases::StepFault;
+use kp_cases::{StepFault, put_debug};
 use kp_connection::script::{Script, Step};
 use kp_engine::{Engine, Stop};
 use kp_lanes::{Closer, Sender, Target};
@@ -52,15 +52,14 @@ fn task_of<R: RandomSource + AllocGlobal>(rt: &R) -> Result<MockTask, StepFault>
 }
 
 impl Scene {
-    /// A new engine over this stream.
+    /// A new engine over a stream that takes all and gives nothing.
     pub(crate) fn open<R: RandomSource + AllocGlobal>(
         rt: &R,
         setting: Setting,
-        stream: Script,
     ) -> Result<Scene, StepFault> {
         let alloc = rt.alloc();
         let task = task_of(rt)?;
-        let stream = Shared::new(alloc, stream)?;
+        let stream = Shared::new(alloc, Script::new(alloc, Vec::new(alloc)))?;
         let (engine, senders, closer) = open(alloc, setting, stream.share()?)?;
         Ok(Scene {
             alloc,
@@ -126,7 +125,7 @@ impl Scene {
         let record = record_of(self.alloc, value)?;
         match self.sender(sender)?.send(Target::Named(0), record, 0) {
             Ok(_) => Ok(self.tally.send()),
-            Err((fault, _)) => Ok(write!(came, "{fault:?}")?),
+            Err((fault, _)) => put_debug(came, &fault),
         }
     }
 
@@ -134,7 +133,7 @@ impl Scene {
     pub(crate) fn flush(&mut self, sender: usize, came: &mut String) -> Result<(), StepFault> {
         match self.sender(sender)?.flush() {
             Ok(()) => Ok(()),
-            Err(fault) => Ok(write!(came, "{fault:?}")?),
+            Err(fault) => put_debug(came, &fault),
         }
     }
 

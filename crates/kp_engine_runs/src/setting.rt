@@ -52,10 +52,18 @@ impl Setting {
             "partitions" => self.partitions = words.number()?,
             "senders" => self.senders = words.number()?,
             "correlation" => self.correlation = words.number()?,
+            name => return self.set_turning(name, words),
+        }
+        Ok(())
+    }
+
+    /// Sets what has this name among what the core has no part in, or among Kafka's settings.
+    fn set_turning(&mut self, name: &str, words: &mut Words<'_>) -> Result<(), StepFault> {
+        match name {
             "capacity" => self.capacity = words.number()?,
             "step" => self.step = words.number()?,
             "keeps-calls" => self.keeps_calls = words.number()?,
-            name => return configure(&mut self.config, name, words.number()?),
+            _ => return configure(&mut self.config, name, words.number()?),
         }
         Ok(())
     }

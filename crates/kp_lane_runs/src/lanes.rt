@@ -6,7 +6,7 @@ ghost use Rattle.kp_lanes.specs.Sender.{IsSenderOf};
 ghost use Rattle.kp_lanes.specs.Settling.{IsOf};
 
 use crate::steps::{play_intake, play_sender};
-use kp_cases::{StepFault, Words};
+use kp_cases::{StepFault, Words, put, put_debug};
 use kp_lanes::{Closer, Finished, Intake, OpenFault, Sender, SettleFault, Settled, open_lanes};
 use std::alloc::Global;
 use std::fmt::Write;
@@ -97,17 +97,17 @@ impl Lanes {
     ) -> Result<(), StepFault> {
         match step {
             "now" => self.now = words.number()?,
-            "ends" => self.tell(came)?,
-            "finish" => self.finish(came)?,
+            "ends" => return self.tell(came),
+            "finish" => return self.finish(came),
             "shut" => self.closer.shut(),
-            "closer.quiet" => write!(came, "{}", self.closer.quiet())?,
+            "closer.quiet" => return put(came, &self.closer.quiet()),
             "take" | "asked" | "report" | "intake.quiet" => {
-                play_intake(&mut self.intake, step, words, came)?
+                return play_intake(&mut self.intake, step, words, came);
             }
             _ => {
                 let number: usize = words.number()?;
                 let sender = self.senders.get_mut(number).ok_or("no such sender")?;
-                play_sender(self.alloc, sender, self.now, step, words, came)?
+                return play_sender(self.alloc, sender, self.now, step, words, came);
             }
         }
         Ok(())
@@ -134,6 +134,6 @@ fn tell_left(settled: &Settled, came: &mut String) -> Result<(), StepFault> {
 fn tell_refused(fault: SettleFault, came: &mut String) -> Result<(), StepFault> {
     match fault {
         SettleFault::OutOfMemory => Err(StepFault::OutOfMemory),
-        fault => Ok(write!(came, "{fault:?}")?),
+        fault => put_debug(came, &fault),
     }
 }

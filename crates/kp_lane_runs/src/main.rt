@@ -19,7 +19,20 @@ struct Scene {
     lanes: Option<Lanes>,
 }
 
+/// Tells the numbers of the first fault and of the last.
+fn tell_numbers(came: &mut String) -> Result<(), StepFault> {
+    let (first, last) = (OpenFault::Senders, OpenFault::OutOfMemory);
+    let (first_number, last_number) = (first.number(), last.number());
+    write!(came, "{first:?} {first_number}, {last:?} {last_number}")?;
+    Ok(())
+}
+
 impl Scene {
+    fn open(&mut self, words: &mut Words<'_>, came: &mut String) -> Result<(), StepFault> {
+        self.lanes = open(self.alloc, words, came)?;
+        Ok(())
+    }
+
     fn settle(&mut self, came: &mut String) -> Result<(), StepFault> {
         let lanes = self.lanes.take().ok_or("no lanes")?;
         let (back, told) = lanes.settle(came);
@@ -40,19 +53,14 @@ impl Player for Scene {
         came: &mut String,
     ) -> Result<(), StepFault> {
         match step {
-            "lanes" => self.lanes = open(self.alloc, words, came)?,
-            "settle" => self.settle(came)?,
-            "fault.numbers" => {
-                let (first, last) = (OpenFault::Senders, OpenFault::OutOfMemory);
-                let (first_number, last_number) = (first.number(), last.number());
-                write!(came, "{first:?} {first_number}, {last:?} {last_number}")?
-            }
+            "lanes" => self.open(words, came),
+            "settle" => self.settle(came),
+            "fault.numbers" => tell_numbers(came),
             _ => match &mut self.lanes {
-                Some(lanes) => lanes.play(step, words, came)?,
-                None => return Err(StepFault::CannotBe("no lanes")),
+                Some(lanes) => lanes.play(step, words, came),
+                None => Err(StepFault::CannotBe("no lanes")),
             },
         }
-        Ok(())
     }
 }
 

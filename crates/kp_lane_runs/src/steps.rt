@@ -5,7 +5,7 @@ ghost use Rattle.kp_lanes.specs.Intake.{lanes_of};
 ghost use Rattle.kp_lanes.specs.Sender.{SameSender};
 
 use kp_batch::{Record, Timestamp};
-use kp_cases::{StepFault, Words};
+use kp_cases::{StepFault, Words, put, put_debug};
 use kp_lanes::{Intake, SendFault, Sender, Target, Ticket};
 use kp_rules::{Outcome, Report};
 use kp_wire::{Blob, Seq};
@@ -62,14 +62,13 @@ pub(crate) fn play_sender(
     match step {
         "send" => {
             let (target, body) = record_of(alloc, words)?;
-            tell_sent(came, sender.send(target, body, now))?
+            tell_sent(came, sender.send(target, body, now))
         }
-        "flush" => write!(came, "{:?}", sender.flush())?,
-        "told" => write!(came, "{:?}", sender.poll_report())?,
-        "waiting" => write!(came, "{}", sender.waiting())?,
-        _ => return Err(StepFault::NotUnderstood),
+        "flush" => put_debug(came, &sender.flush()),
+        "told" => put_debug(came, &sender.poll_report()),
+        "waiting" => put(came, &sender.waiting()),
+        _ => Err(StepFault::NotUnderstood),
     }
-    Ok(())
 }
 
 /// Plays a step of the intake.
@@ -82,15 +81,15 @@ pub(crate) fn play_intake(
     ensures { lanes_of intake.new ≡ lanes_of intake.old }
 {
     if step == "intake.quiet" {
-        return Ok(write!(came, "{}", intake.quiet())?);
+        return put(came, &intake.quiet());
     }
     let sender: u32 = words.number()?;
     if sender as usize >= intake.senders() {
         return Err(StepFault::CannotBe("no such sender"));
     }
     match step {
-        "take" => write!(came, "{:?}", intake.take(sender))?,
-        "asked" => write!(came, "{}", intake.asked(sender))?,
+        "take" => put_debug(came, &intake.take(sender)),
+        "asked" => put(came, &intake.asked(sender)),
         "report" => {
             let report = Report {
                 sender,
@@ -98,9 +97,8 @@ pub(crate) fn play_intake(
                 number: words.number()?,
                 outcome: Outcome::Unknown,
             };
-            write!(came, "{:?}", intake.report(report))?
+            put_debug(came, &intake.report(report))
         }
-        _ => return Err(StepFault::NotUnderstood),
+        _ => Err(StepFault::NotUnderstood),
     }
-    Ok(())
 }

@@ -5,7 +5,7 @@
 mod batch;
 
 use crate::batch::{bytes_of, records_of};
-use kp_cases::{Player, StepFault, Words, play_files, refused, seen_of};
+use kp_cases::{Player, StepFault, Words, play_files, put, put_debug, refused, seen_of};
 use kp_log::{ErrorCode, LogFault, PartitionLog, Whim};
 use std::alloc::Global;
 use std::io;
@@ -24,6 +24,15 @@ fn out_of_memory(_fault: LogFault) -> StepFault {
 /// The next word, which is the number of an error code that a log may be told to answer.
 fn code_of(words: &mut Words<'_>) -> Result<ErrorCode, StepFault> {
     Ok(ErrorCode::new(words.number()?).ok_or("it is no error code")?)
+}
+
+/// The producer ids of the words.
+fn ids_of(alloc: Global, words: &mut Words<'_>) -> Result<Vec<i64>, StepFault> {
+    let mut ids = Vec::new(alloc);
+    for word in words.rest().split_whitespace() {
+        ids.push(word.parse().map_err(|_| StepFault::NotUnderstood)?)?;
+    }
+    Ok(ids)
 }
 
 impl LogPlayer {
@@ -63,7 +72,7 @@ impl LogPlayer {
     /// Tells the producer id of the record at this offset, and its number.
     fn tell_record(&self, offset: u64, came: &mut String) -> Result<(), StepFault> {
         let Some(stored) = self.log.get(offset) else {
-            return Ok(came.push_str("none")?);
+            return put(came, &"none");
         };
         write!(came, "{}", stored.producer_id)?;
         if let Some([high, low]) = stored.body.value.as_ref().map(|value| value.as_slice()) {
@@ -74,16 +83,12 @@ impl LogPlayer {
 
     /// Tells the offsets of the records under the producer ids of the words.
     fn tell_own(&self, words: &mut Words<'_>, came: &mut String) -> Result<(), StepFault> {
-        let mut ids = Vec::new(self.alloc);
-        for word in words.rest().split_whitespace() {
-            ids.push(word.parse().map_err(|_| StepFault::NotUnderstood)?)?;
-        }
+        let ids = ids_of(self.alloc, words)?;
         let offsets = match ids.as_slice() {
             [id] => self.log.own(*id),
             ids => self.log.own_any(ids),
         };
-        write!(came, "{:?}", offsets.map_err(out_of_memory)?.as_slice())?;
-        Ok(())
+        put_debug(came, &offsets.map_err(out_of_memory)?.as_slice())
     }
 }
 
@@ -99,21 +104,20 @@ impl Player for LogPlayer {
         came: &mut String,
     ) -> Result<(), StepFault> {
         match step {
-            "offer" => self.offer(None, words, came)?,
-            "refuse" => self.offer(Some(Whim::Refuse(code_of(words)?)), words, came)?,
-            "late" => self.offer(Some(Whim::Late(code_of(words)?)), words, came)?,
-            "others" => self.append_others(words.number()?)?,
-            "len" => write!(came, "{}", self.log.len())?,
-            "segments" => write!(came, "{}", self.log.segments())?,
-            "record" => self.tell_record(words.number()?, came)?,
-            "own" => self.tell_own(words, came)?,
+            "offer" => self.offer(None, words, came),
+            "refuse" => self.offer(Some(Whim::Refuse(code_of(words)?)), words, came),
+            "late" => self.offer(Some(Whim::Late(code_of(words)?)), words, came),
+            "others" => self.append_others(words.number()?),
+            "len" => put(came, &self.log.len()),
+            "segments" => put(came, &self.log.segments()),
+            "record" => self.tell_record(words.number()?, came),
+            "own" => self.tell_own(words, came),
             "code" => {
                 let code = ErrorCode::new(words.number()?);
-                write!(came, "{:?}", code.map(|code| code.get()))?;
+                put_debug(came, &code.map(|code| code.get()))
             }
-            _ => return Err(StepFault::NotUnderstood),
+            _ => Err(StepFault::NotUnderstood),
         }
-        Ok(())
     }
 }
 

@@ -23,6 +23,14 @@ pub(crate) fn value_of<'c>(config: &'c mut Config, name: &str) -> Result<&'c mut
     })
 }
 
+/// Sets what a word says, as `NAME=VALUE`.
+fn configure(config: &mut Config, setting: &str) -> Played {
+    let (name, value) = setting.split_once('=').ok_or(StepFault::NotUnderstood)?;
+    let value = value.parse().map_err(|_| StepFault::NotUnderstood)?;
+    *value_of(config, name)? = value;
+    Ok(())
+}
+
 /// The flags that the words name.
 pub(crate) fn flags_of(words: &mut Words<'_>) -> Result<Flags, StepFault> {
     let mut flags = Flags::default();
@@ -45,21 +53,48 @@ pub(crate) fn number_or_zero(words: &mut Words<'_>) -> Result<u32, StepFault> {
     words.number()
 }
 
-/// An item with neither key nor headers, at moment 0: its number, its value, the moment at which it was accepted, and, each 0
-/// where it is not said, its partition and its sender.
-pub(crate) fn item_of(alloc: Global, words: &mut Words<'_>) -> Result<Item, StepFault> {
-    Ok(Item {
-        number: words.number()?,
-        body: Record {
-            timestamp: Timestamp::from_millis(0).ok_or("there is no such moment")?,
-            key: None,
-            value: Some(Blob::new(words.bytes()?)),
-            headers: Seq::new(Vec::new(alloc)),
-        },
-        at: words.number()?,
-        partition: number_or_zero(words)?,
-        sender: number_or_zero(words)?,
+/// A record of this value, with neither key nor headers, at moment 0.
+fn record_of(alloc: Global, value: Vec<u8>) -> Result<Record, StepFault> {
+    Ok(Record {
+        timestamp: Timestamp::from_millis(0).ok_or("there is no such moment")?,
+        key: None,
+        value: Some(Blob::new(value)),
+        headers: Seq::new(Vec::new(alloc)),
     })
+}
+
+/// An item with such a record: its number, its value, the moment at which it was accepted, and, each 0 where it is not said,
+/// its partition and its sender.
+pub(crate) fn item_of(alloc: Global, words: &mut Words<'_>) -> Result<Item, StepFault> {
+    let number = words.number()?;
+    let value = words.bytes()?;
+    let at = words.number()?;
+    let (partition, sender) = (number_or_zero(words)?, number_or_zero(words)?);
+    Ok(Item {
+        sender,
+        partition,
+        number,
+        at,
+        body: record_of(alloc, value)?,
+    })
+}
+
+/// Gives the item's record this timestamp.
+fn stamp(item: &mut Item, millis: i64) -> Played {
+    item.body.timestamp = Timestamp::from_millis(millis).ok_or("there is no such moment")?;
+    Ok(())
+}
+
+/// Tells what an item has: sender, partition, number, moment of acceptance, timestamp and charge.
+fn tell_item(item: &Item, came: &mut String) -> Played {
+    write!(
+        came,
+        "{} {} {} {}",
+        item.sender, item.partition, item.number, item.at
+    )?;
+    let record = item.as_record();
+    write!(came, " {} {}", record.timestamp.millis(), charge(record))?;
+    Ok(())
 }
 
 impl PartPlayer {
@@ -67,9 +102,7 @@ impl PartPlayer {
     pub(crate) fn set(&mut self, words: &mut Words<'_>, came: &mut String) -> Played {
         self.config = Config::default();
         for setting in words.rest().split_whitespace() {
-            let (name, value) = setting.split_once('=').ok_or(StepFault::NotUnderstood)?;
-            let value = value.parse().map_err(|_| StepFault::NotUnderstood)?;
-            *value_of(&mut self.config, name)? = value;
+            configure(&mut self.config, setting)?;
         }
         match self.config.check() {
             Ok(()) => came.push_str("ok")?,
@@ -78,21 +111,10 @@ impl PartPlayer {
         Ok(())
     }
 
-    /// Tells what a copy of the item has, at the moment behind it: sender, partition, number, moment of acceptance,
-    /// timestamp and charge.
+    /// Tells what a copy of the item has, with the timestamp behind it.
     pub(crate) fn tell_copy(&self, words: &mut Words<'_>, came: &mut String) -> Played {
         let mut item = item_of(self.alloc, words)?;
-        item.body.timestamp = Timestamp::from_millis(words.number()?).ok_or(
-            "there is no such moment",
-        )?;
-        let copy = item.copy(self.alloc)?;
-        write!(
-            came,
-            "{} {} {} {}",
-            copy.sender, copy.partition, copy.number, copy.at
-        )?;
-        let record = copy.as_record();
-        write!(came, " {} {}", record.timestamp.millis(), charge(record))?;
-        Ok(())
+        stamp(&mut item, words.number()?)?;
+        tell_item(&item.copy(self.alloc)?, came)
     }
 }

@@ -10,7 +10,7 @@ mod waiting;
 
 use crate::given::{flags_of, item_of, value_of};
 use kp_accum::{Accum, Budget, Config, Pending, Queue};
-use kp_cases::{Player, StepFault, Words, play_files};
+use kp_cases::{Player, StepFault, Words, play_files, put, put_debug};
 use kp_parts::Partition;
 use kp_rules::{ErrorCode, meaning_of};
 use std::alloc::Global;
@@ -49,13 +49,12 @@ impl PartPlayer {
     /// Tells what settings, flags and items come to.
     fn look_at(&mut self, step: &str, words: &mut Words<'_>, came: &mut String) -> Played {
         match step {
-            "setting" => write!(came, "{}", value_of(&mut self.config, words.word()?)?)?,
-            "flags" => write!(came, "{:?}", flags_of(words)?)?,
-            "pressed" => write!(came, "{}", flags_of(words)?.is_pressed())?,
-            "charge" => write!(came, "{}", item_of(self.alloc, words)?.charge())?,
-            _ => return Err(StepFault::NotUnderstood),
+            "setting" => put(came, &*value_of(&mut self.config, words.word()?)?),
+            "flags" => put_debug(came, &flags_of(words)?),
+            "pressed" => put(came, &flags_of(words)?.is_pressed()),
+            "charge" => put(came, &item_of(self.alloc, words)?.charge()),
+            _ => Err(StepFault::NotUnderstood),
         }
-        Ok(())
     }
 }
 

@@ -5,7 +5,7 @@ use crate::waiting::tell_items;
 use crate::{PartPlayer, Played};
 use kp_accum::{Config, Flags, Item};
 use kp_batch::SIZE_LIMIT;
-use kp_cases::{StepFault, Words};
+use kp_cases::{StepFault, Words, put, put_debug};
 use kp_parts::{HandedBatch, Partition};
 use std::alloc::Global;
 
@@ -30,7 +30,7 @@ fn send(partition: &mut Partition, correlation: u32) -> Played {
 /// Tells the batch that goes out, if one does: its producer id, its first sequence number, and the numbers of its items.
 fn tell_handed(handed: Option<HandedBatch<'_>>, came: &mut String) -> Played {
     let Some(batch) = handed else {
-        return Ok(came.push_str("none")?);
+        return put(came, &"none");
     };
     write!(
         came,
@@ -41,13 +41,14 @@ fn tell_handed(handed: Option<HandedBatch<'_>>, came: &mut String) -> Played {
     tell_items(batch.items(), came)
 }
 
-/// What befalls a partition.
+/// What befalls a partition, or what is told of it.
 fn change(
+    alloc: Global,
     partition: &mut Partition,
     config: &Config,
     call: &str,
-    alloc: Global,
     words: &mut Words<'_>,
+    came: &mut String,
 ) -> Played {
     match call {
         "append" => enqueue(partition, config, item_of(alloc, words)?)?,
@@ -55,7 +56,7 @@ fn change(
         "drop-attempts" => partition.drop_attempts(words.number()?),
         "mark" => partition.mark(),
         "go-on-under" => partition.go_on_under(words.number()?)?,
-        _ => return Err(StepFault::NotUnderstood),
+        _ => return look_at(partition, config, call, words, came),
     }
     Ok(())
 }
@@ -69,29 +70,33 @@ fn look_at(
     came: &mut String,
 ) -> Played {
     match call {
-        "awaits" => write!(came, "{}", partition.awaits(words.number()?))?,
+        "awaits" => put(came, &partition.awaits(words.number()?)),
         "awaiting" => {
             let open = partition.awaiting(words.number()?);
-            write!(came, "{:?}", open.map(|open| (open.number(), open.begun())))?;
+            put_debug(came, &open.map(|open| (open.number(), open.begun())))
         }
         "lowest-waiting" => {
             let open = partition.lowest_waiting();
-            write!(came, "{:?}", open.map(|open| open.attempt()))?;
+            put_debug(came, &open.map(|open| open.attempt()))
         }
-        "has-marks" => write!(came, "{}", partition.has_marks())?,
-        "wants-id" => write!(came, "{}", partition.wants_id(config))?,
-        _ => return Err(StepFault::NotUnderstood),
+        "has-marks" => put(came, &partition.has_marks()),
+        "wants-id" => put(came, &partition.wants_id(config)),
+        _ => Err(StepFault::NotUnderstood),
     }
-    Ok(())
 }
 
 impl PartPlayer {
+    /// A new partition under this producer id.
+    fn open_partition(&mut self, id: u64) -> Played {
+        self.partition = Some(Partition::new(self.alloc, id, true)?);
+        Ok(())
+    }
+
     /// A call of a partition.
     pub(crate) fn play_partition(&mut self, words: &mut Words<'_>, came: &mut String) -> Played {
         let call = words.word()?;
         if call == "new" {
-            self.partition = Some(Partition::new(self.alloc, words.number()?, true)?);
-            return Ok(());
+            return self.open_partition(words.number()?);
         }
         let partition = self.partition.as_mut().ok_or(StepFault::NotUnderstood)?;
         let config = &self.config;
@@ -100,10 +105,7 @@ impl PartPlayer {
                 partition.sends(config, Flags::default(), words.number()?),
                 came,
             ),
-            "append" | "send" | "drop-attempts" | "mark" | "go-on-under" => {
-                change(partition, config, call, self.alloc, words)
-            }
-            _ => look_at(partition, config, call, words, came),
+            _ => change(self.alloc, partition, config, call, words, came),
         }
     }
 }

@@ -7,7 +7,8 @@ use crate::given::{flags_of, item_of, number_or_zero};
 use crate::{PartPlayer, Played};
 use kp_accum::{Accum, AppendFault, Config, Item, Pending, Queue};
 use kp_batch::SIZE_LIMIT;
-use kp_cases::{StepFault, Words, refused, seen_of};
+use kp_cases::{StepFault, Words, put, refused, seen_of};
+use std::alloc::Global;
 
 /// Puts the item last. Where it comes back, the fault is told, and the number of what comes back.
 fn append(accum: &mut Accum, item: Item, came: &mut String) -> Played {
@@ -47,7 +48,7 @@ pub(crate) fn tell_items(items: &[Item], came: &mut String) -> Played {
 fn tell_batch(batch: Option<&Pending>, came: &mut String) -> Played {
     match batch {
         Some(batch) => tell_items(batch.items(), came),
-        None => Ok(came.push_str("none")?),
+        None => put(came, &"none"),
     }
 }
 
@@ -66,28 +67,56 @@ fn release(accum: &mut Accum, charge: u64) -> Played {
     Ok(())
 }
 
+/// Tells the batch at the front of a partition.
+fn tell_front(accum: &Accum, partition: u32, came: &mut String) -> Played {
+    if partition as usize >= accum.partitions() {
+        return Err("there is no such partition".into());
+    }
+    tell_batch(accum.front(partition), came)
+}
+
 /// Tells what is to be seen of an accumulator.
-fn look_at(accum: &Accum, call: &str, words: &mut Words<'_>, came: &mut String) -> Played
+fn look_at(
+    alloc: Global,
+    accum: &Accum,
+    call: &str,
+    words: &mut Words<'_>,
+    came: &mut String,
+) -> Played
     requires { 0 < length accum.now.queues }
 {
     match call {
-        "partitions" => write!(came, "{}", accum.partitions())?,
+        "may-append" => put(came, &accum.may_append(&item_of(alloc, words)?)),
+        "partitions" => put(came, &accum.partitions()),
         "ready" => {
-            let ready = accum.front_ready(0, words.number()?, flags_of(words)?);
-            write!(came, "{ready}")?;
+            let now = words.number()?;
+            put(came, &accum.front_ready(0, now, flags_of(words)?))
         }
-        "front" => {
-            let partition = number_or_zero(words)?;
-            if partition as usize >= accum.partitions() {
-                return Err("there is no such partition".into());
-            }
-            tell_batch(accum.front(partition), came)?;
-        }
-        "used" => write!(came, "{}", accum.used())?,
-        "marked" => write!(came, "{}", accum.marked())?,
-        _ => return Err(StepFault::NotUnderstood),
+        "front" => tell_front(accum, number_or_zero(words)?, came),
+        "used" => put(came, &accum.used()),
+        "marked" => put(came, &accum.marked()),
+        _ => Err(StepFault::NotUnderstood),
     }
-    Ok(())
+}
+
+/// Tells what is to be seen of a queue.
+fn look_at_queue(
+    queue: &Queue,
+    config: &Config,
+    call: &str,
+    words: &mut Words<'_>,
+    came: &mut String,
+) -> Played {
+    match call {
+        "len" => put(came, &queue.len()),
+        "ready" => {
+            let now = words.number()?;
+            put(came, &queue.is_ready(config, flags_of(words)?, now))
+        }
+        "front" => tell_batch(queue.front(), came),
+        "marked" => put(came, &queue.marked()),
+        _ => Err(StepFault::NotUnderstood),
+    }
 }
 
 impl PartPlayer {
@@ -111,35 +140,31 @@ impl PartPlayer {
             return Err("there is no partition".into());
         }
         match call {
-            "append" => append(accum, item_of(self.alloc, words)?, came)?,
-            "may-append" => write!(came, "{}", accum.may_append(&item_of(self.alloc, words)?))?,
-            "take" => keep(&mut self.taken, accum.take_front(0), came)?,
-            "expire" => keep(&mut self.taken, accum.expire(0, words.number()?), came)?,
-            "release" => release(accum, words.number()?)?,
-            "mark" => accum.mark(),
-            _ => look_at(accum, call, words, came)?,
+            "append" => append(accum, item_of(self.alloc, words)?, came),
+            "take" => keep(&mut self.taken, accum.take_front(0), came),
+            "expire" => keep(&mut self.taken, accum.expire(0, words.number()?), came),
+            "release" => release(accum, words.number()?),
+            "mark" => {
+                accum.mark();
+                Ok(())
+            }
+            _ => look_at(self.alloc, accum, call, words, came),
         }
-        Ok(())
     }
 
     /// A call of a queue alone.
     pub(crate) fn play_queue(&mut self, words: &mut Words<'_>, came: &mut String) -> Played {
         let (queue, config) = (&mut self.queue, &self.config);
         match words.word()? {
-            "append" => append_to_queue(queue, config, item_of(self.alloc, words)?)?,
-            "len" => write!(came, "{}", queue.len())?,
-            "ready" => {
-                let now = words.number()?;
-                write!(came, "{}", queue.is_ready(config, flags_of(words)?, now))?;
+            "append" => append_to_queue(queue, config, item_of(self.alloc, words)?),
+            "take" => keep(&mut self.taken, queue.take_front(), came),
+            "expire" => keep(&mut self.taken, queue.expire(config, words.number()?), came),
+            "mark" => {
+                queue.mark();
+                Ok(())
             }
-            "front" => tell_batch(queue.front(), came)?,
-            "take" => keep(&mut self.taken, queue.take_front(), came)?,
-            "expire" => keep(&mut self.taken, queue.expire(config, words.number()?), came)?,
-            "mark" => queue.mark(),
-            "marked" => write!(came, "{}", queue.marked())?,
-            _ => return Err(StepFault::NotUnderstood),
+            call => look_at_queue(queue, config, call, words, came),
         }
-        Ok(())
     }
 
     /// Tells of the batch that was taken last.

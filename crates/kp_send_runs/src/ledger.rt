@@ -1,8 +1,8 @@
 //! The lines that were sent, and what is told of them.
 
 use crate::ends::{fault_of, outcome_of};
-use crate::texts::{bytes_or_none, put_bytes_or, put_lines};
-use kp_cases::{StepFault, Words, refused, seen_of};
+use crate::texts::{bytes_or_none, put_bytes_or, put_lines, separate};
+use kp_cases::{StepFault, Words, put, refused, seen_of};
 use kp_embed::Ticket;
 use kp_rules::Report;
 use kp_send::{Ledger, LedgerFault, Sent, Tellings, Told, keep_of};
@@ -40,9 +40,7 @@ pub(crate) fn send(
 
 /// A line and what became of it: `LINE FATE BYTES`.
 fn put_told(told: &Told, came: &mut String) -> Result<(), StepFault> {
-    if !came.is_empty() {
-        came.push_str("; ")?;
-    }
+    separate(came)?;
     write!(came, "{} {:?} ", told.line, told.fate)?;
     put_bytes_or(came, &told.bytes, "none")
 }
@@ -61,7 +59,7 @@ pub(crate) fn report(
     };
     match ledger.told(&report) {
         Some(told) => put_told(&told, came),
-        None => Ok(came.push_str("no line")?),
+        None => put(came, &"no line"),
     }
 }
 
@@ -83,6 +81,15 @@ pub(crate) fn leave(
     Ok(())
 }
 
+/// Where the bytes of a line are kept, if they are.
+fn put_keep(told: &Told, came: &mut String) -> Result<(), StepFault> {
+    if let Some(keep) = keep_of(told.fate) {
+        separate(came)?;
+        write!(came, "kept: {keep:?}")?;
+    }
+    Ok(())
+}
+
 /// Tells of a line, and where its bytes are kept, if they are.
 fn tell(
     alloc: Global,
@@ -97,13 +104,7 @@ fn tell(
     }
     put_lines(came, "out", &out)?;
     put_lines(came, "said", &said)?;
-    if let Some(keep) = keep_of(told.fate) {
-        if !came.is_empty() {
-            came.push_str("; ")?;
-        }
-        write!(came, "kept: {keep:?}")?;
-    }
-    Ok(())
+    put_keep(told, came)
 }
 
 /// Tells of a line that was sent: its number, its partition and the outcome.
@@ -139,8 +140,6 @@ pub(crate) fn end(alloc: Global, tellings: &Tellings, came: &mut String) -> Resu
     let mut said = Vec::new(alloc);
     tellings.end(&mut said)?;
     put_lines(came, "said", &said)?;
-    if !came.is_empty() {
-        came.push_str("; ")?;
-    }
+    separate(came)?;
     Ok(write!(came, "status {}", tellings.status())?)
 }

@@ -1,7 +1,7 @@
 //! A stream that is cut into lines, chunk by chunk.
 
 use crate::texts::put_bytes;
-use kp_cases::{StepFault, refused, seen_of};
+use kp_cases::{StepFault, put, refused, seen_of};
 use kp_lines::{Line, LineFault, Lines};
 use std::fmt::Write;
 
@@ -44,6 +44,6 @@ pub(crate) fn take(lines: &mut Lines, chunk: &[u8], came: &mut String) -> Result
 pub(crate) fn finish(lines: Lines, came: &mut String) -> Result<(), StepFault> {
     match lines.finish() {
         Some(line) => put_line(&line, came),
-        None => Ok(came.push_str("none")?),
+        None => put(came, &"none"),
     }
 }

@@ -24,7 +24,7 @@ mod lines;
 mod records;
 mod texts;
 
-use kp_cases::{Player, StepFault, Words, play_files};
+use kp_cases::{Player, StepFault, Words, play_files, put, put_debug};
 use kp_lines::Lines;
 use kp_send::{Form, Latencies, Ledger, Tellings};
 use std::alloc::Global;
@@ -79,8 +79,7 @@ impl SendPlayer {
 
     /// Tells the latency of so many hundredths.
     fn tell_percentile(&self, percent: u8, came: &mut String) -> Result<(), StepFault> {
-        let told = self.latencies()?.percentile(percent);
-        Ok(write!(came, "{told:?}")?)
+        put_debug(came, &self.latencies()?.percentile(percent))
     }
 
     /// Tells how many latencies there were, their mean and the greatest.
@@ -123,7 +122,7 @@ impl SendPlayer {
             "send" => ledger::send(&mut self.ledger, words, came),
             "report" => ledger::report(&mut self.ledger, words, came),
             "leave" => ledger::leave(self.alloc, &mut self.ledger, words, came),
-            "waiting" => Ok(write!(came, "{}", self.ledger.len())?),
+            "waiting" => put(came, &self.ledger.len()),
             "tell" => ledger::tell_report(self.alloc, &mut self.tellings, words, came),
             "refuse" => ledger::tell_refusal(self.alloc, &mut self.tellings, words, came),
             "end" => ledger::end(self.alloc, &self.tellings, came),

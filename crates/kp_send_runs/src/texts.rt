@@ -4,6 +4,11 @@ use kp_cases::{StepFault, Words};
 use kp_wire::Blob;
 use std::fmt::Write;
 
+/// Goes on with a list.
+pub(crate) fn separate(out: &mut String) -> Result<(), StepFault> {
+    Ok(out.push_str(if out.is_empty() { "" } else { "; " })?)
+}
+
 /// Bytes in hexadecimal; `-` is none at all.
 pub(crate) fn put_bytes(out: &mut String, bytes: &[u8]) -> Result<(), StepFault> {
     if bytes.is_empty() {
@@ -40,9 +45,7 @@ pub(crate) fn bytes_or_none(words: &mut Words<'_>) -> Result<Option<Blob>, StepF
 pub(crate) fn put_lines(out: &mut String, name: &str, text: &[u8]) -> Result<(), StepFault> {
     let text = std::str::from_utf8(text).map_err(|_| "it is no text")?;
     for line in text.lines() {
-        if !out.is_empty() {
-            out.push_str("; ")?;
-        }
+        separate(out)?;
         write!(out, "{name}: {line}")?;
     }
     Ok(())

@@ -3,7 +3,7 @@
 use crate::answer::{does_nothing, is_refused, item_back, item_in};
 use crate::item::item_of;
 use crate::setting::core_of;
-use kp_cases::{StepFault, Words, refused, seen_of};
+use kp_cases::{StepFault, Words, put, put_debug, refused, seen_of};
 use kp_core::{Answered, Asked, Core};
 use kp_wire::Blob;
 use std::alloc::{AllocError, Global};
@@ -40,14 +40,19 @@ impl Scene {
         came: &mut String,
     ) -> Result<(), StepFault> {
         match step {
-            "now" => self.now = words.number()?,
-            "fetch" => self.fetch(words.number()?, came)?,
-            "list" => self.list(words)?,
-            "make-all" => self.make_all(came)?,
-            "keep" => self.kept = seen_of(&self.core),
-            _ => self.call_or_look(step, words, came)?,
+            "now" => {
+                self.now = words.number()?;
+                Ok(())
+            }
+            "fetch" => self.fetch(words.number()?, came),
+            "list" => self.list(words),
+            "make-all" => self.make_all(came),
+            "keep" => {
+                self.kept = seen_of(&self.core);
+                Ok(())
+            }
+            _ => self.call_or_look(step, words, came),
         }
-        Ok(())
     }
 
     /// The call that a step makes, if it makes one.
@@ -89,12 +94,23 @@ impl Scene {
         }
         let (core, item) = (seen_of(&self.core), item_in(&asked));
         let answer = self.core.make(asked);
+        self.tell_call(&answer, core, item, came)
+    }
+
+    /// Tells what a call has answered, before which the core and the item that it appends showed this of themselves.
+    fn tell_call(
+        &self,
+        answer: &Answered,
+        core: u64,
+        item: Option<u64>,
+        came: &mut String,
+    ) -> Result<(), StepFault> {
         let is_same = seen_of(&self.core) == core;
-        if is_refused(&answer) {
-            return Err(refused(is_same && item_back(&answer) == item));
+        if is_refused(answer) {
+            return Err(refused(is_same && item_back(answer) == item));
         }
-        self.tell_answer(&answer, came)?;
-        if does_nothing(&answer) && !is_same {
+        self.tell_answer(answer, came)?;
+        if does_nothing(answer) && !is_same {
             came.push_str(", and the core has changed")?;
         }
         Ok(())
@@ -112,9 +128,9 @@ impl Scene {
     }
 
     /// Tells the sender's oldest report.
-    fn fetch(&mut self, sender: u32, came: &mut String) -> Result<(), AllocError> {
+    fn fetch(&mut self, sender: u32, came: &mut String) -> Result<(), StepFault> {
         let answer = self.core.make(Asked::Fetch(sender));
-        self.tell_answer(&answer, came)
+        Ok(self.tell_answer(&answer, came)?)
     }
 
     fn list(&mut self, words: &mut Words<'_>) -> Result<(), StepFault> {
@@ -127,24 +143,23 @@ impl Scene {
     fn make_all(&mut self, came: &mut String) -> Result<(), StepFault> {
         let listed = mem::replace(&mut self.listed, Vec::new(self.alloc));
         let answers = self.core.make_all(listed)?;
-        Ok(write!(came, "{answers:?}")?)
+        put_debug(came, &answers)
     }
 
     /// A step that looks at the core.
     fn look(&self, step: &str, words: &mut Words<'_>, came: &mut String) -> Result<(), StepFault> {
         let core = &self.core;
         match step {
-            "counts" => self.count(came)?,
-            "used" => write!(came, "{}", core.used())?,
-            "untold" => write!(came, "{}", core.untold())?,
-            "due" => write!(came, "{:?}", core.next_due())?,
-            "flushed" => write!(came, "{}", core.flushed())?,
-            "closing" => write!(came, "{}", core.is_closing())?,
-            "ended" => write!(came, "{}", core.has_ended())?,
-            "unchanged" => write!(came, "{}", seen_of(&self.core) == self.kept)?,
-            _ => self.look_at(step, words, came)?,
+            "counts" => self.count(came),
+            "used" => put(came, &core.used()),
+            "untold" => put(came, &core.untold()),
+            "due" => put_debug(came, &core.next_due()),
+            "flushed" => put(came, &core.flushed()),
+            "closing" => put(came, &core.is_closing()),
+            "ended" => put(came, &core.has_ended()),
+            "unchanged" => put(came, &(seen_of(core) == self.kept)),
+            _ => self.look_at(step, words, came),
         }
-        Ok(())
     }
 
     /// A step that looks at what its words say, or at all that the core was asked to be.
@@ -163,9 +178,9 @@ impl Scene {
         }
     }
 
-    fn count(&self, came: &mut String) -> Result<(), AllocError> {
+    fn count(&self, came: &mut String) -> Result<(), StepFault> {
         let core = &self.core;
-        write!(
+        Ok(write!(
             came,
             "requests {} batches {} handed over {} attempts {} untold {} used {}",
             core.requests_in_flight(),
@@ -174,7 +189,7 @@ impl Scene {
             core.attempts_sent(),
             core.untold(),
             core.used()
-        )
+        )?)
     }
 
     fn tell_asked(&self, came: &mut String) -> Result<(), StepFault> {
@@ -191,24 +206,21 @@ impl Scene {
 
     fn tell_may(&self, words: &mut Words<'_>, came: &mut String) -> Result<(), StepFault> {
         let item = item_of(self.alloc, self.now, words)?;
-        write!(came, "{}", self.core.may_append(&item))?;
-        Ok(())
+        put(came, &self.core.may_append(&item))
     }
 
     fn tell_ids(&self, partition: u32, came: &mut String) -> Result<(), StepFault> {
         if partition as usize >= self.core.partitions() {
             return Err(StepFault::CannotBe("no such partition"));
         }
-        write!(came, "{:?}", self.core.ids(partition))?;
-        Ok(())
+        put_debug(came, &self.core.ids(partition))
     }
 
     fn tell_audit(&self, partition: u32, came: &mut String) -> Result<(), StepFault> {
         if partition as usize >= self.core.partitions() {
             return Err(StepFault::CannotBe("no such partition"));
         }
-        write!(came, "{:?}", self.core.audit(partition))?;
-        Ok(())
+        put_debug(came, &self.core.audit(partition))
     }
 }
 

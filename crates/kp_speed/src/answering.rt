@@ -98,17 +98,28 @@ fn offer(log: &mut PartitionLog, frame: &[u8]) -> Result<(), AllocError> {
     }
 }
 
+/// The batches of so many requests, each offered to a log as its request is written.
+fn store(
+    alloc: Global,
+    log: &mut PartitionLog,
+    records: &[Record],
+    requests: u32,
+) -> Result<(), AllocError> {
+    for number in 0..requests {
+        offer(log, &frame_of(alloc, records, number)?)?;
+    }
+    Ok(())
+}
+
 /// The length of a log to which the batches of so many requests were offered, each as its request is written. It is not
 /// dropped, even at the end.
 pub(crate) fn stores(alloc: Global, requests: u32) -> Result<u64, AllocError> {
     let records = records_of(alloc)?;
     let mut log = PartitionLog::new(alloc);
-    for number in 0..requests {
-        offer(&mut log, &frame_of(alloc, &records, number)?)?;
-    }
+    let stored = store(alloc, &mut log, &records, requests);
     let length = log.len();
     mem::forget(log);
-    Ok(length)
+    stored.map(|()| length)
 }
 
 fn answer(broker: &mut Broker, frame: &[u8]) -> Result<(), AllocError> {
@@ -118,15 +129,26 @@ fn answer(broker: &mut Broker, frame: &[u8]) -> Result<(), AllocError> {
     }
 }
 
+/// So many requests, each answered as it is written.
+fn answer_all(
+    alloc: Global,
+    broker: &mut Broker,
+    records: &[Record],
+    requests: u32,
+) -> Result<(), AllocError> {
+    for number in 0..requests {
+        answer(broker, &frame_of(alloc, records, number)?)?;
+    }
+    Ok(())
+}
+
 /// The length of the log of a broker that answers so many requests, each as it is written. The broker is not dropped,
 /// even at the end.
 pub(crate) fn answers(alloc: Global, requests: u32) -> Result<u64, AllocError> {
     let records = records_of(alloc)?;
     let mut broker = Broker::new(alloc, "t", 1, 9092)?;
-    for number in 0..requests {
-        answer(&mut broker, &frame_of(alloc, &records, number)?)?;
-    }
+    let answered = answer_all(alloc, &mut broker, &records, requests);
     let length = broker.log(0).map_or(0, |log| log.len());
     mem::forget(broker);
-    Ok(length)
+    answered.map(|()| length)
 }

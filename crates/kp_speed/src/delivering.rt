@@ -77,14 +77,12 @@ fn core_of(alloc: Global, partitions: u32, senders: u32) -> Result<Core, AllocEr
     Core::new(alloc, CONFIG, names, partitions, senders, 1000, 2, false)
 }
 
-/// The content of the answer to the request with this correlation id, for the first so many partitions: each batch
-/// stands in its partition's log from this offset on.
-fn answer_of(
+/// The answers for the first so many partitions: each batch stands in its partition's log from this offset on.
+fn entries_of(
     alloc: Global,
-    correlation: u32,
     partitions: u32,
     offset: u32,
-) -> Result<Vec<u8>, AllocError> {
+) -> Result<Vec<PartitionProduceResponse>, AllocError> {
     let mut entries = Vec::with_capacity(alloc, partitions as usize)?;
     for partition in 0..partitions {
         entries.push(PartitionProduceResponse {
@@ -94,15 +92,36 @@ fn answer_of(
             log_append_time_ms: -1,
         })?;
     }
+    Ok(entries)
+}
+
+/// The topic, with these answers.
+fn topics_of(
+    alloc: Global,
+    partitions: u32,
+    offset: u32,
+) -> Result<Vec<TopicProduceResponse>, AllocError> {
     let mut topics = Vec::with_capacity(alloc, 1)?;
     topics.push(TopicProduceResponse {
         topic: Text::from_str(alloc, "t")?,
-        partitions: Seq::new(entries),
+        partitions: Seq::new(entries_of(alloc, partitions, offset)?),
     })?;
+    Ok(topics)
+}
+
+/// The content of the answer to the request with this correlation id, for the first so many partitions: each batch
+/// stands in its partition's log from this offset on.
+fn answer_of(
+    alloc: Global,
+    correlation: u32,
+    partitions: u32,
+    offset: u32,
+) -> Result<Vec<u8>, AllocError> {
+    let correlation = i32::try_from(correlation).map_err(|_| AllocError)?;
     let response = Response {
-        correlation: i32::try_from(correlation).map_err(|_| AllocError)?,
+        correlation,
         body: ResponseBody::Produce(ProduceResponse {
-            topics: Seq::new(topics),
+            topics: Seq::new(topics_of(alloc, partitions, offset)?),
             throttle_time_ms: 0,
         }),
     };
@@ -212,19 +231,24 @@ fn deliver_round(
     Ok(sum.wrapping_add(fetch_all(core, plan)))
 }
 
+/// All items go through the core. The answer is the number of bytes that go out and the sum of the offsets that are told.
+fn deliver(alloc: Global, core: &mut Core, plan: Plan) -> Result<u64, AllocError> {
+    if plan.course == Course::Queued {
+        append_all(alloc, core, plan, 0, plan.items)?;
+    }
+    let mut sum = 0u64;
+    for first in (0..plan.items).step_by(plan.round() as usize) {
+        sum = sum.wrapping_add(deliver_round(alloc, core, plan, first)?);
+    }
+    sum = sum.wrapping_add(fetch_all(core, plan));
+    Ok(sum.wrapping_add(core.untold()))
+}
+
 /// So many items go through a core, none of which is left in it. The answer is the number of bytes that go out and the
 /// sum of the offsets that are told.
 pub(crate) fn delivers(alloc: Global, plan: Plan) -> Result<u64, AllocError> {
     let mut core = core_of(alloc, plan.partitions, plan.senders)?;
-    if plan.course == Course::Queued {
-        append_all(alloc, &mut core, plan, 0, plan.items)?;
-    }
-    let mut sum = 0u64;
-    for first in (0..plan.items).step_by(plan.round() as usize) {
-        sum = sum.wrapping_add(deliver_round(alloc, &mut core, plan, first)?);
-    }
-    sum = sum.wrapping_add(fetch_all(&mut core, plan));
-    Ok(sum.wrapping_add(core.untold()))
+    deliver(alloc, &mut core, plan)
 }
 
 /// How many of so many ticks tell nothing, where nothing was appended.
@@ -292,21 +316,31 @@ impl Among {
 /// with its connection. The answer is the number of bytes that go out.
 pub(crate) fn asks_again(alloc: Global, among: Among, times: u32) -> Result<u64, AllocError> {
     let mut core = filled_core(alloc, among)?;
-    let mut sum = 0u64;
-    for time in 0..times {
-        sum = sum.wrapping_add(ask_again(&mut core, u64::from(time))?);
-    }
-    Ok(sum)
+    ask_all(&mut core, times)
 }
 
 /// A core of which a few partitions, spread over all, have an item.
 fn filled_core(alloc: Global, among: Among) -> Result<Core, AllocError> {
     let mut core = core_of(alloc, among.partitions(), 1)?;
-    let step = among.partitions() / BUSY;
-    for busy in 0..BUSY {
-        append(&mut core, item_of(alloc, 0, busy.wrapping_mul(step), busy)?)?;
-    }
+    fill(alloc, &mut core, among.partitions() / BUSY)?;
     Ok(core)
+}
+
+/// Appends an item for a few partitions, with so many from each to the next.
+fn fill(alloc: Global, core: &mut Core, step: u32) -> Result<(), AllocError> {
+    for busy in 0..BUSY {
+        append(core, item_of(alloc, 0, busy.wrapping_mul(step), busy)?)?;
+    }
+    Ok(())
+}
+
+/// So many requests go out, and each is lost. The answer is the number of bytes that go out.
+fn ask_all(core: &mut Core, times: u32) -> Result<u64, AllocError> {
+    let mut sum = 0u64;
+    for time in 0..times {
+        sum = sum.wrapping_add(ask_again(core, u64::from(time))?);
+    }
+    Ok(sum)
 }
 
 /// A request goes out and is lost, so long after the backoff of the one before it that it is ready. How many bytes it has.

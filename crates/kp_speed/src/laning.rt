@@ -86,28 +86,44 @@ pub(crate) fn loses(alloc: Global, times: u32) -> Result<u64, AllocError> {
     Ok(sum)
 }
 
+/// Sends so many records. The answer is the sum of their numbers.
+fn send_all(alloc: Global, sender: &mut Sender, times: u32) -> Result<u64, AllocError> {
+    let mut sum = 0u64;
+    for _ in 0..times {
+        sum = sum.wrapping_add(send(alloc, sender)?);
+    }
+    Ok(sum)
+}
+
 /// So many records sent, of which none is taken, and none dropped, even at the end. The answer is the sum of their
 /// numbers.
 pub(crate) fn sends(alloc: Global, times: u32) -> Result<u64, AllocError> {
     let (mut sender, intake) = lane_of(alloc, MOST)?;
-    let mut sum = 0u64;
-    for _ in 0..times {
-        sum = sum.wrapping_add(send(alloc, &mut sender)?);
-    }
+    let sum = send_all(alloc, &mut sender, times);
     mem::forget(sender);
     mem::forget(intake);
+    sum
+}
+
+/// So many records made, sent, taken and dropped, one after the other.
+fn pass_each(
+    alloc: Global,
+    sender: &mut Sender,
+    intake: &mut Intake,
+    times: u32,
+) -> Result<u64, AllocError> {
+    let mut sum = 0u64;
+    for _ in 0..times {
+        let _number = send(alloc, sender)?;
+        sum = sum.wrapping_add(take(intake).ok_or(AllocError)?);
+    }
     Ok(sum)
 }
 
 /// So many records made, sent, taken and dropped, one after the other. The answer is the sum of their numbers.
 pub(crate) fn passes(alloc: Global, times: u32) -> Result<u64, AllocError> {
     let (mut sender, mut intake) = lane_of(alloc, CAPACITY)?;
-    let mut sum = 0u64;
-    for _ in 0..times {
-        let _number = send(alloc, &mut sender)?;
-        sum = sum.wrapping_add(take(&mut intake).ok_or(AllocError)?);
-    }
-    Ok(sum)
+    pass_each(alloc, &mut sender, &mut intake, times)
 }
 
 /// So many records made and sent, and then taken and dropped.
@@ -127,15 +143,25 @@ fn pass_round(
     Ok(sum)
 }
 
-/// So many records made, sent, taken and dropped, in rounds. The answer is the sum of their numbers.
-pub(crate) fn passes_by_rounds(alloc: Global, times: u32) -> Result<u64, AllocError> {
-    let (mut sender, mut intake) = lane_of(alloc, CAPACITY)?;
+/// So many records made, sent, taken and dropped, in rounds.
+fn pass_rounds(
+    alloc: Global,
+    sender: &mut Sender,
+    intake: &mut Intake,
+    times: u32,
+) -> Result<u64, AllocError> {
     let mut sum = 0u64;
     for first in (0..times).step_by(ROUND as usize) {
         let round = times.saturating_sub(first).min(ROUND);
-        sum = sum.wrapping_add(pass_round(alloc, &mut sender, &mut intake, round)?);
+        sum = sum.wrapping_add(pass_round(alloc, sender, intake, round)?);
     }
     Ok(sum)
+}
+
+/// So many records made, sent, taken and dropped, in rounds. The answer is the sum of their numbers.
+pub(crate) fn passes_by_rounds(alloc: Global, times: u32) -> Result<u64, AllocError> {
+    let (mut sender, mut intake) = lane_of(alloc, CAPACITY)?;
+    pass_rounds(alloc, &mut sender, &mut intake, times)
 }
 
 fn push(alloc: Global, ring: &mut Producer<Item>, number: u32) -> Result<(), AllocError> {
@@ -151,16 +177,26 @@ fn pop(ring: &mut Consumer<Item>) -> Result<u64, AllocError> {
     }
 }
 
+/// So many items made, put into a ring, taken out and dropped, one after the other.
+fn ring_each(
+    alloc: Global,
+    front: &mut Producer<Item>,
+    back: &mut Consumer<Item>,
+    times: u32,
+) -> Result<u64, AllocError> {
+    let mut sum = 0u64;
+    for number in 0..times {
+        push(alloc, front, number)?;
+        sum = sum.wrapping_add(pop(back)?);
+    }
+    Ok(sum)
+}
+
 /// So many items made, put into a ring, taken out and dropped, one after the other. The answer is the sum of their
 /// numbers.
 pub(crate) fn rings(alloc: Global, times: u32) -> Result<u64, AllocError> {
     let (mut front, mut back) = RingBuffer::new(alloc, CAPACITY)?;
-    let mut sum = 0u64;
-    for number in 0..times {
-        push(alloc, &mut front, number)?;
-        sum = sum.wrapping_add(pop(&mut back)?);
-    }
-    Ok(sum)
+    ring_each(alloc, &mut front, &mut back, times)
 }
 
 /// So many items made and put into a ring, and then taken out and dropped.
@@ -181,13 +217,34 @@ fn ring_round(
     Ok(sum)
 }
 
-/// So many items made, put into a ring, taken out and dropped, in rounds. The answer is the sum of their numbers.
-pub(crate) fn rings_by_rounds(alloc: Global, times: u32) -> Result<u64, AllocError> {
-    let (mut front, mut back) = RingBuffer::new(alloc, CAPACITY)?;
+/// So many items made, put into a ring, taken out and dropped, in rounds.
+fn ring_rounds(
+    alloc: Global,
+    front: &mut Producer<Item>,
+    back: &mut Consumer<Item>,
+    times: u32,
+) -> Result<u64, AllocError> {
     let mut sum = 0u64;
     for first in (0..times).step_by(ROUND as usize) {
         let round = times.saturating_sub(first).min(ROUND);
-        sum = sum.wrapping_add(ring_round(alloc, &mut front, &mut back, first, round)?);
+        sum = sum.wrapping_add(ring_round(alloc, front, back, first, round)?);
+    }
+    Ok(sum)
+}
+
+/// So many items made, put into a ring, taken out and dropped, in rounds. The answer is the sum of their numbers.
+pub(crate) fn rings_by_rounds(alloc: Global, times: u32) -> Result<u64, AllocError> {
+    let (mut front, mut back) = RingBuffer::new(alloc, CAPACITY)?;
+    ring_rounds(alloc, &mut front, &mut back, times)
+}
+
+/// So many reports handed over and received, one after the other.
+fn hear_each(sender: &mut Sender, intake: &mut Intake, times: u32) -> Result<u64, AllocError> {
+    let mut sum = 0u64;
+    for number in 0..times {
+        report(intake, u64::from(number))?;
+        let heard = sender.poll_report().ok_or(AllocError)?;
+        sum = sum.wrapping_add(heard.number);
     }
     Ok(sum)
 }
@@ -195,18 +252,11 @@ pub(crate) fn rings_by_rounds(alloc: Global, times: u32) -> Result<u64, AllocErr
 /// So many reports handed over and received, one after the other. The answer is the sum of their numbers.
 pub(crate) fn hears(alloc: Global, times: u32) -> Result<u64, AllocError> {
     let (mut sender, mut intake) = lane_of(alloc, CAPACITY)?;
-    let mut sum = 0u64;
-    for number in 0..times {
-        report(&mut intake, u64::from(number))?;
-        let heard = sender.poll_report().ok_or(AllocError)?;
-        sum = sum.wrapping_add(heard.number);
-    }
-    Ok(sum)
+    hear_each(&mut sender, &mut intake, times)
 }
 
-/// How many of so many takes find nothing, where nothing was sent.
-pub(crate) fn takes_in_vain(alloc: Global, times: u32) -> Result<u64, AllocError> {
-    let (_sender, mut intake) = lane_of(alloc, CAPACITY)?;
+/// How many of so many takes find nothing.
+fn take_in_vain(intake: &mut Intake, times: u32) -> Result<u64, AllocError> {
     let mut sum = 0u64;
     for _ in 0..times {
         if intake.senders() == 0 {
@@ -215,4 +265,10 @@ pub(crate) fn takes_in_vain(alloc: Global, times: u32) -> Result<u64, AllocError
         sum = sum.wrapping_add(u64::from(intake.take(0).is_none()));
     }
     Ok(sum)
+}
+
+/// How many of so many takes find nothing, where nothing was sent.
+pub(crate) fn takes_in_vain(alloc: Global, times: u32) -> Result<u64, AllocError> {
+    let (_sender, mut intake) = lane_of(alloc, CAPACITY)?;
+    take_in_vain(&mut intake, times)
 }

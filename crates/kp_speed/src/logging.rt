@@ -59,13 +59,24 @@ fn offer(log: &mut PartitionLog, bytes: &[u8]) -> Result<(), AllocError> {
     }
 }
 
-/// A log to which so many batches were offered, each written as it is offered.
+/// Offers so many batches to a log, each written as it is offered.
+fn offer_all(
+    alloc: Global,
+    log: &mut PartitionLog,
+    records: &[Record],
+    batches: u32,
+) -> Result<(), AllocError> {
+    for number in 0..batches {
+        offer(log, &batch_bytes(alloc, records, number)?)?;
+    }
+    Ok(())
+}
+
+/// A log to which so many batches were offered.
 fn log_of(alloc: Global, batches: u32) -> Result<PartitionLog, AllocError> {
     let records = records_of(alloc)?;
     let mut log = PartitionLog::new(alloc);
-    for number in 0..batches {
-        offer(&mut log, &batch_bytes(alloc, &records, number)?)?;
-    }
+    offer_all(alloc, &mut log, &records, batches)?;
     Ok(log)
 }
 
@@ -93,21 +104,39 @@ pub(crate) fn looks(alloc: Global, batches: u32) -> Result<u64, AllocError> {
     Ok(sum)
 }
 
-/// The number of records of as many batches, each written, read, and kept in one list that has just their room.
+/// Adds the records of a batch to a list.
+fn list_all(list: &mut Vec<Stored>, records: Vec<Record>) -> Result<(), AllocError> {
+    for body in records {
+        list.push(Stored {
+            producer_id: PRODUCER_ID,
+            body,
+        })?;
+    }
+    Ok(())
+}
+
+/// So many batches, each written, read, and kept in the list.
+fn list_batches(
+    alloc: Global,
+    list: &mut Vec<Stored>,
+    records: &[Record],
+    batches: u32,
+) -> Result<(), AllocError> {
+    for number in 0..batches {
+        if let Ok(batch) = read_batch(alloc, &batch_bytes(alloc, records, number)?) {
+            list_all(list, batch.records.into_vec())?;
+        }
+    }
+    Ok(())
+}
+
+/// The number of records of as many batches, each written, read, and kept in one list that has just their room. It is not
+/// dropped, even at the end.
 pub(crate) fn lists(alloc: Global, batches: u32) -> Result<u64, AllocError> {
     let records = records_of(alloc)?;
     let mut list = Vec::with_capacity(alloc, batches as usize * RECORDS as usize)?;
-    for number in 0..batches {
-        if let Ok(batch) = read_batch(alloc, &batch_bytes(alloc, &records, number)?) {
-            for body in batch.records.into_vec() {
-                list.push(Stored {
-                    producer_id: PRODUCER_ID,
-                    body,
-                })?;
-            }
-        }
-    }
+    let listed = list_batches(alloc, &mut list, &records, batches);
     let length = list.len() as u64;
     mem::forget(list);
-    Ok(length)
+    listed.map(|()| length)
 }

@@ -42,6 +42,7 @@ use answering::{answers, asks, stores};
 use delivering::{
     Among, Course, Plan, asks_again, asks_in_vain, asks_when, delivers, ticks, ticks_again,
 };
+use futures::task::Context;
 use futures::test::MockTask;
 use laning::{
     hears, loses, passes, passes_by_rounds, records, rings, rings_by_rounds, sends, takes_in_vain,
@@ -55,14 +56,48 @@ use std::random::RandomSource;
 use turning::{Lines, holds, turns, waits};
 use work::{checksums, reads, reads_and_drops, writes};
 
-fn goes_through(
-    alloc: Global,
-    senders: u32,
-    partitions: u32,
-    items: u32,
-    course: Course,
-) -> Result<u64, AllocError> {
-    delivers(
+/// What a work on batches, messages or streams came to; None where it is no work.
+fn answer(alloc: Global, work: &str, times: u32) -> Option<Result<u64, AllocError>> {
+    Some(match work {
+        "crc32c" => checksums(alloc, times),
+        "write" => writes(alloc, times),
+        "read" => reads(alloc, times),
+        "drop" => reads_and_drops(alloc, times),
+        "request" => requests(alloc, times),
+        "response" => responses(alloc, times),
+        "byte" => cuts_bytes(alloc, times),
+        "whole" => cuts_whole(alloc, times),
+        "waiting" => takes_waiting(alloc, times),
+        _ => return queued(alloc, work, times),
+    })
+}
+
+/// The same of a work on items that wait, or another one.
+fn queued(alloc: Global, work: &str, times: u32) -> Option<Result<u64, AllocError>> {
+    Some(match work {
+        "make" => makes(alloc, 1, times),
+        "makes" => makes(alloc, 64, times),
+        "queue" => queues(alloc, 1, times, Way::Taken),
+        "queues" => queues(alloc, 64, times, Way::Taken),
+        "expire" => queues(alloc, 1, times, Way::Expired),
+        "expires" => queues(alloc, 64, times, Way::Expired),
+        _ => return delivered(alloc, work, times),
+    })
+}
+
+/// The same of items that go through a core, or another work.
+fn delivered(alloc: Global, work: &str, items: u32) -> Option<Result<u64, AllocError>> {
+    let (senders, partitions, course) = match work {
+        "deliver" => (1, 1, Course::ByRounds),
+        "delivers" => (64, 64, Course::ByRounds),
+        "keep" => (1, 1, Course::Queued),
+        "keeps" => (64, 64, Course::Queued),
+        "leave" => (1, 1, Course::Unfetched),
+        "leaves" => (64, 64, Course::Unfetched),
+        "years" => (4, 1, Course::ByRounds),
+        _ => return looked_at(alloc, work, items),
+    };
+    Some(delivers(
         alloc,
         Plan {
             senders,
@@ -70,101 +105,98 @@ fn goes_through(
             items,
             course,
         },
-    )
+    ))
+}
+
+/// The same of a core that is asked again and again, or another work.
+fn looked_at(alloc: Global, work: &str, times: u32) -> Option<Result<u64, AllocError>> {
+    Some(match work {
+        "tick" => ticks(alloc, times),
+        "vain" => asks_in_vain(alloc, times),
+        "due" => asks_when(alloc, times),
+        "few" => asks_again(alloc, Among::Few, times),
+        "many" => asks_again(alloc, Among::Many, times),
+        "heed" => ticks_again(alloc, Among::Few, times),
+        "heeds" => ticks_again(alloc, Among::Many, times),
+        _ => return passed(alloc, work, times),
+    })
+}
+
+/// The same of records and items that go through lanes and rings, or another work.
+fn passed(alloc: Global, work: &str, times: u32) -> Option<Result<u64, AllocError>> {
+    Some(match work {
+        "record" => records(alloc, times),
+        "lose" => loses(alloc, times),
+        "send" => sends(alloc, times),
+        "lane" => passes(alloc, times),
+        "lanes" => passes_by_rounds(alloc, times),
+        "ring" => rings(alloc, times),
+        "rings" => rings_by_rounds(alloc, times),
+        "hear" => hears(alloc, times),
+        "idle" => takes_in_vain(alloc, times),
+        _ => return stored(alloc, work, times),
+    })
+}
+
+/// The same of a log or a broker, or of records that are held in batches.
+fn stored(alloc: Global, work: &str, times: u32) -> Option<Result<u64, AllocError>> {
+    Some(match work {
+        "spell" => spells(alloc, times),
+        "offer" => offers(alloc, times),
+        "look" => looks(alloc, times),
+        "list" => lists(alloc, times),
+        "ask" => asks(alloc, times),
+        "store" => stores(alloc, times),
+        "answer" => answers(alloc, times),
+        "hold" => holds(alloc, times),
+        _ => return None,
+    })
+}
+
+/// What the work of an engine came to, which is polled in this task; None where it is no work.
+fn polled(
+    alloc: Global,
+    cx: &mut Context<'_>,
+    work: &str,
+    times: u32,
+) -> Option<Result<u64, AllocError>> {
+    Some(match work {
+        "turn" => turns(alloc, cx, Lines::Single, 1, times),
+        "node" => turns(alloc, cx, Lines::Several(1), 1, times),
+        "nodes" => turns(alloc, cx, Lines::Several(10), 1, times),
+        "spread" => turns(alloc, cx, Lines::Several(1), 1024, times),
+        "spreads" => turns(alloc, cx, Lines::Several(10), 1024, times),
+        "rest" => waits(alloc, cx, Lines::Single, 1, 1, times),
+        "rests" => waits(alloc, cx, Lines::Single, 64, 1024, times),
+        "line" => waits(alloc, cx, Lines::Several(1), 64, 1024, times),
+        "lines" => waits(alloc, cx, Lines::Several(10), 64, 1024, times),
+        _ => return None,
+    })
+}
+
+/// The work that a line names, and how many times it is to be done.
+fn work_of(line: &str) -> Option<(&str, u32)> {
+    let (work, times) = line.split_once(' ')?;
+    Some((work, times.parse().ok()?))
 }
 
 /// What a line's work came to; None where the line names no work.
-fn answer(alloc: Global, line: &str) -> Result<Option<u64>, AllocError> {
-    let Some((work, times)) = line.split_once(' ') else {
-        return Ok(None);
-    };
-    let Ok(times) = times.parse::<u32>() else {
-        return Ok(None);
-    };
-    match work {
-        "crc32c" => checksums(alloc, times).map(Some),
-        "write" => writes(alloc, times).map(Some),
-        "read" => reads(alloc, times).map(Some),
-        "drop" => reads_and_drops(alloc, times).map(Some),
-        "request" => requests(alloc, times).map(Some),
-        "response" => responses(alloc, times).map(Some),
-        "byte" => cuts_bytes(alloc, times).map(Some),
-        "whole" => cuts_whole(alloc, times).map(Some),
-        "waiting" => takes_waiting(alloc, times).map(Some),
-        "make" => makes(alloc, 1, times).map(Some),
-        "makes" => makes(alloc, 64, times).map(Some),
-        "queue" => queues(alloc, 1, times, Way::Taken).map(Some),
-        "queues" => queues(alloc, 64, times, Way::Taken).map(Some),
-        "expire" => queues(alloc, 1, times, Way::Expired).map(Some),
-        "expires" => queues(alloc, 64, times, Way::Expired).map(Some),
-        "deliver" => goes_through(alloc, 1, 1, times, Course::ByRounds).map(Some),
-        "delivers" => goes_through(alloc, 64, 64, times, Course::ByRounds).map(Some),
-        "keep" => goes_through(alloc, 1, 1, times, Course::Queued).map(Some),
-        "keeps" => goes_through(alloc, 64, 64, times, Course::Queued).map(Some),
-        "leave" => goes_through(alloc, 1, 1, times, Course::Unfetched).map(Some),
-        "leaves" => goes_through(alloc, 64, 64, times, Course::Unfetched).map(Some),
-        "years" => goes_through(alloc, 4, 1, times, Course::ByRounds).map(Some),
-        "tick" => ticks(alloc, times).map(Some),
-        "vain" => asks_in_vain(alloc, times).map(Some),
-        "due" => asks_when(alloc, times).map(Some),
-        "few" => asks_again(alloc, Among::Few, times).map(Some),
-        "many" => asks_again(alloc, Among::Many, times).map(Some),
-        "heed" => ticks_again(alloc, Among::Few, times).map(Some),
-        "heeds" => ticks_again(alloc, Among::Many, times).map(Some),
-        "record" => records(alloc, times).map(Some),
-        "lose" => loses(alloc, times).map(Some),
-        "send" => sends(alloc, times).map(Some),
-        "lane" => passes(alloc, times).map(Some),
-        "lanes" => passes_by_rounds(alloc, times).map(Some),
-        "ring" => rings(alloc, times).map(Some),
-        "rings" => rings_by_rounds(alloc, times).map(Some),
-        "hear" => hears(alloc, times).map(Some),
-        "idle" => takes_in_vain(alloc, times).map(Some),
-        "spell" => spells(alloc, times).map(Some),
-        "offer" => offers(alloc, times).map(Some),
-        "look" => looks(alloc, times).map(Some),
-        "list" => lists(alloc, times).map(Some),
-        "ask" => asks(alloc, times).map(Some),
-        "store" => stores(alloc, times).map(Some),
-        "answer" => answers(alloc, times).map(Some),
-        "hold" => holds(alloc, times).map(Some),
-        _ => Ok(None),
-    }
-}
-
-/// What the work of an engine that this line names came to; None where it names none.
-fn polled<R: RandomSource + AllocGlobal>(rt: &R, line: &str) -> io::Result<Option<u64>> {
-    let Some((work, times)) = line.split_once(' ') else {
-        return Ok(None);
-    };
-    let Ok(times) = times.parse::<u32>() else {
+fn sum_of<R: RandomSource + AllocGlobal>(rt: &R, line: &str) -> io::Result<Option<u64>> {
+    let Some((work, times)) = work_of(line) else {
         return Ok(None);
     };
     let alloc = rt.alloc();
-    let task = MockTask::new(rt)?;
-    let sum = match work {
-        "turn" => task.enter(|cx| turns(alloc, cx, Lines::Single, 1, times)),
-        "node" => task.enter(|cx| turns(alloc, cx, Lines::Several(1), 1, times)),
-        "nodes" => task.enter(|cx| turns(alloc, cx, Lines::Several(10), 1, times)),
-        "spread" => task.enter(|cx| turns(alloc, cx, Lines::Several(1), 1024, times)),
-        "spreads" => task.enter(|cx| turns(alloc, cx, Lines::Several(10), 1024, times)),
-        "rest" => task.enter(|cx| waits(alloc, cx, Lines::Single, 1, 1, times)),
-        "rests" => task.enter(|cx| waits(alloc, cx, Lines::Single, 64, 1024, times)),
-        "line" => task.enter(|cx| waits(alloc, cx, Lines::Several(1), 64, 1024, times)),
-        "lines" => task.enter(|cx| waits(alloc, cx, Lines::Several(10), 64, 1024, times)),
-        _ => return Ok(None),
+    let sum = match answer(alloc, work, times) {
+        None => MockTask::new(rt)?.enter(|cx| polled(alloc, cx, work, times)),
+        sum => sum,
     };
-    Ok(Some(sum?))
+    Ok(sum.transpose()?)
 }
 
 fn main(rt: HostRuntime) -> io::Result<()> {
     for line in rt.lines(rt.alloc()) {
         let line = line?;
-        let sum = match answer(rt.alloc(), line.as_str())? {
-            Some(sum) => Some(sum),
-            None => polled(&rt, line.as_str())?,
-        };
-        match sum {
+        match sum_of(&rt, line.as_str())? {
             Some(sum) => println!(rt; "{line} {sum}")?,
             None => println!(rt; "{line} is no work")?,
         }

@@ -34,7 +34,8 @@ fn topic(alloc: Global) -> Result<Text, AllocError> {
     Text::from_str(alloc, "t")
 }
 
-fn request_of(alloc: Global) -> Result<Request, AllocError> {
+/// A batch for each partition.
+fn batches_of(alloc: Global) -> Result<Vec<PartitionProduceData>, AllocError> {
     let mut partitions = Vec::new(alloc);
     for partition in 0..PARTITIONS {
         let mut bytes = Vec::new(alloc);
@@ -44,10 +45,14 @@ fn request_of(alloc: Global) -> Result<Request, AllocError> {
             records: Blob::new(bytes),
         })?;
     }
+    Ok(partitions)
+}
+
+fn request_of(alloc: Global) -> Result<Request, AllocError> {
     let mut topics = Vec::new(alloc);
     topics.push(TopicProduceData {
         topic: topic(alloc)?,
-        partitions: Seq::new(partitions),
+        partitions: Seq::new(batches_of(alloc)?),
     })?;
     Ok(Request {
         correlation: 2,
@@ -61,7 +66,8 @@ fn request_of(alloc: Global) -> Result<Request, AllocError> {
     })
 }
 
-fn response_of(alloc: Global) -> Result<Response, AllocError> {
+/// An answer for each partition.
+fn answers_of(alloc: Global) -> Result<Vec<PartitionProduceResponse>, AllocError> {
     let mut partitions = Vec::new(alloc);
     for partition in 0..PARTITIONS {
         partitions.push(PartitionProduceResponse {
@@ -71,10 +77,14 @@ fn response_of(alloc: Global) -> Result<Response, AllocError> {
             log_append_time_ms: -1,
         })?;
     }
+    Ok(partitions)
+}
+
+fn response_of(alloc: Global) -> Result<Response, AllocError> {
     let mut topics = Vec::new(alloc);
     topics.push(TopicProduceResponse {
         topic: topic(alloc)?,
-        partitions: Seq::new(partitions),
+        partitions: Seq::new(answers_of(alloc)?),
     })?;
     Ok(Response {
         correlation: 2,
@@ -85,26 +95,36 @@ fn response_of(alloc: Global) -> Result<Response, AllocError> {
     })
 }
 
-/// The bytes of so many requests.
-pub(crate) fn requests(alloc: Global, times: u32) -> Result<u64, AllocError> {
-    let request = request_of(alloc)?;
+/// The bytes of a request, written so many times.
+fn write_all(alloc: Global, request: &Request, times: u32) -> Result<u64, AllocError> {
     let mut sum = 0u64;
     for _ in 0..times {
-        sum = sum.wrapping_add(memory(write_request(alloc, &request))?.len() as u64);
+        sum = sum.wrapping_add(memory(write_request(alloc, request))?.len() as u64);
     }
     Ok(sum)
 }
 
-/// How many of so many responses are read.
-pub(crate) fn responses(alloc: Global, times: u32) -> Result<u64, AllocError> {
-    let frame = memory(write_response(alloc, &response_of(alloc)?))?;
-    let content = frame.get(4..).unwrap_or(&[]);
+/// The bytes of so many requests.
+pub(crate) fn requests(alloc: Global, times: u32) -> Result<u64, AllocError> {
+    let request = request_of(alloc)?;
+    write_all(alloc, &request, times)
+}
+
+/// How often a response with this content is read, so many times.
+fn read_all(alloc: Global, content: &[u8], times: u32) -> Result<u64, AllocError> {
     let mut sum = 0u64;
     for _ in 0..times {
         memory(read_response(alloc, Api::Produce, content))?;
         sum = sum.wrapping_add(1);
     }
     Ok(sum)
+}
+
+/// How many of so many responses are read.
+pub(crate) fn responses(alloc: Global, times: u32) -> Result<u64, AllocError> {
+    let response = response_of(alloc)?;
+    let frame = memory(write_response(alloc, &response))?;
+    read_all(alloc, frame.get(4..).unwrap_or(&[]), times)
 }
 
 /// The stream of frames.
@@ -155,20 +175,31 @@ pub(crate) fn cuts_whole(alloc: Global, times: u32) -> Result<u64, AllocError> {
     Ok(sum)
 }
 
-/// Takes so many small frames, all of which wait at first; behind each a byte is fed.
-pub(crate) fn takes_waiting(alloc: Global, times: u32) -> Result<u64, AllocError> {
+/// So many small frames.
+fn small_frames(alloc: Global, times: u32) -> Result<Vec<u8>, AllocError> {
     let mut bytes = Vec::new(alloc);
     for _ in 0..times {
         bytes.extend_from_slice(&SMALL_FRAME)?;
     }
-    let mut splitter = Splitter::new(alloc);
-    memory(splitter.feed(&bytes))?;
+    Ok(bytes)
+}
+
+/// Takes a frame that waits, for each of these bytes, which is fed behind it.
+fn take_each(splitter: &mut Splitter, bytes: &[u8]) -> Result<u64, AllocError> {
     let mut sum = 0u64;
-    for byte in bytes.iter().take(times as usize) {
+    for byte in bytes {
         if let Some(frame) = memory(splitter.next_frame())? {
             sum = sum.wrapping_add(frame.len() as u64);
         }
         memory(splitter.feed(&[*byte]))?;
     }
     Ok(sum)
+}
+
+/// Takes so many small frames, all of which wait at first; behind each a byte is fed.
+pub(crate) fn takes_waiting(alloc: Global, times: u32) -> Result<u64, AllocError> {
+    let bytes = small_frames(alloc, times)?;
+    let mut splitter = Splitter::new(alloc);
+    memory(splitter.feed(&bytes))?;
+    take_each(&mut splitter, bytes.get(..times as usize).unwrap_or(&[]))
 }

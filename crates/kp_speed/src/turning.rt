@@ -48,6 +48,12 @@ struct Still {
     asked: Log<u64, ()>,
 }
 
+impl Still {
+    fn new() -> Still {
+        Still { asked: Log::new() }
+    }
+}
+
 impl Clock for Still {
     ghost moments = { λ c. map (λ x. x.0) c.asked.items };
 
@@ -189,39 +195,61 @@ fn single(
     alloc: Global,
     core: Core,
     intake: Intake,
-    clock: Still,
-    far: Far,
+    partitions: u32,
 ) -> Result<Engine<Far, Still>, AllocError>
     requires { MayTurn core intake }
 {
-    match Engine::new(alloc, core, intake, far, clock, false) {
-        Ok(engine) => Ok(engine),
-        Err(_) => Err(AllocError),
+    let far = Far::new(alloc, partitions)?;
+    Engine::new(alloc, core, intake, far, Still::new(), false).map_err(|_| AllocError)
+}
+
+/// Connects an engine to so many nodes.
+fn connect(
+    alloc: Global,
+    engine: &mut ClusterEngine<Far, Still>,
+    nodes: u32,
+    partitions: u32,
+) -> Result<(), AllocError> {
+    for node in 0..nodes {
+        let far = Far::new(alloc, partitions)?;
+        if engine.connect(node, far, None).is_err() {
+            return Err(AllocError);
+        }
     }
+    Ok(())
 }
 
 fn several(
     alloc: Global,
     core: Core,
     intake: Intake,
-    clock: Still,
     nodes: u32,
     partitions: u32,
 ) -> Result<ClusterEngine<Far, Still>, AllocError>
     requires { MayTurn core intake }
 {
-    let Ok(mut engine) = ClusterEngine::new(alloc, core, intake, clock) else {
+    let Ok(mut engine) = ClusterEngine::new(alloc, core, intake, Still::new()) else {
         return Err(AllocError);
     };
-    for node in 0..nodes {
-        if engine
-            .connect(node, Far::new(alloc, partitions)?, None)
-            .is_err()
-        {
-            return Err(AllocError);
+    connect(alloc, &mut engine, nodes, partitions)?;
+    Ok(engine)
+}
+
+fn engine_of(
+    alloc: Global,
+    core: Core,
+    intake: Intake,
+    lines: Lines,
+    partitions: u32,
+) -> Result<Turned, AllocError>
+    requires { MayTurn core intake }
+{
+    match lines {
+        Lines::Single => single(alloc, core, intake, partitions).map(Turned::Single),
+        Lines::Several(nodes) => {
+            several(alloc, core, intake, nodes, partitions).map(Turned::Several)
         }
     }
-    Ok(engine)
 }
 
 fn producer_of(
@@ -231,22 +259,11 @@ fn producer_of(
     partitions: u32,
 ) -> Result<Producer, AllocError> {
     let (senders, closer, core, intake) = ends_of(alloc, senders, partitions)?;
-    let clock = Still { asked: Log::new() };
+    let engine = engine_of(alloc, core, intake, lines, partitions)?;
     Ok(Producer {
         senders,
         closer,
-        engine: match lines {
-            Lines::Single => Turned::Single(single(
-                alloc,
-                core,
-                intake,
-                clock,
-                Far::new(alloc, partitions)?,
-            )?),
-            Lines::Several(nodes) => Turned::Several(several(
-                alloc, core, intake, clock, nodes, partitions,
-            )?),
-        },
+        engine,
     })
 }
 
@@ -306,6 +323,30 @@ impl Producer {
             _ => Err(AllocError),
         }
     }
+
+    /// So many records are sent in rounds, and the engine is polled until it is done. The answer is the sum of their offsets.
+    fn turn_to_the_end(
+        &mut self,
+        alloc: Global,
+        cx: &mut Context<'_>,
+        records: u32,
+    ) -> Result<u64, AllocError> {
+        let mut sum = 0u64;
+        for first in (0..records).step_by(ROUND as usize) {
+            let round = records.saturating_sub(first).min(ROUND);
+            sum = sum.wrapping_add(self.turn(alloc, cx, round)?);
+        }
+        Ok(sum.wrapping_add(self.end(alloc, cx)?))
+    }
+
+    /// How many of so many polls wait.
+    fn wait(&mut self, cx: &mut Context<'_>, polls: u32) -> u64 {
+        let mut sum = 0u64;
+        for _ in 0..polls {
+            sum = sum.wrapping_add(u64::from(self.engine.poll(cx).is_pending()));
+        }
+        sum
+    }
 }
 
 /// So many records go from one sender to the broker, in full batches, until their reports are fetched. The answer is the sum
@@ -318,14 +359,9 @@ pub(crate) fn turns(
     records: u32,
 ) -> Result<u64, AllocError> {
     let mut producer = producer_of(alloc, lines, 1, partitions)?;
-    let mut sum = 0u64;
-    for first in (0..records).step_by(ROUND as usize) {
-        let round = records.saturating_sub(first).min(ROUND);
-        sum = sum.wrapping_add(producer.turn(alloc, cx, round)?);
-    }
-    sum = sum.wrapping_add(producer.end(alloc, cx)?);
+    let sum = producer.turn_to_the_end(alloc, cx, records);
     mem::forget(producer);
-    Ok(sum)
+    sum
 }
 
 /// So many records made, and dropped in batches. The answer is how many there were.
@@ -342,7 +378,8 @@ pub(crate) fn holds(alloc: Global, records: u32) -> Result<u64, AllocError> {
     Ok(sum)
 }
 
-/// How many of so many polls wait, of an engine with so many senders and partitions to which nothing was sent.
+/// How many of so many polls wait, of an engine with so many senders and partitions to which nothing was sent. Nothing of it is
+/// dropped, even at the end.
 pub(crate) fn waits(
     alloc: Global,
     cx: &mut Context<'_>,
@@ -352,9 +389,7 @@ pub(crate) fn waits(
     polls: u32,
 ) -> Result<u64, AllocError> {
     let mut producer = producer_of(alloc, lines, senders, partitions)?;
-    let mut sum = 0u64;
-    for _ in 0..polls {
-        sum = sum.wrapping_add(u64::from(producer.engine.poll(cx).is_pending()));
-    }
-    Ok(sum)
+    let waiting = producer.wait(cx, polls);
+    mem::forget(producer);
+    Ok(waiting)
 }
