@@ -6,25 +6,24 @@ from __future__ import annotations
 import ctypes
 import logging
 import os
-import struct
 import time
 import weakref
 from functools import partial
-from typing import Any, Callable, Iterable, NamedTuple, Sequence
+from typing import Callable, Iterable, NamedTuple, Protocol, TypeVar
 
-from ._futures import AnyFuture, Many
-from ._given import as_addresses, as_blob, as_config, as_headers, as_partition, as_timestamp
-from ._library import INT32, INT64, UINT64, Action, Handle, State, Status, Ticket, kp, words_of
-from ._open import RUN, One, Open, Telling
+from ._futures import AnyFuture, Many, Pending, keeping
+from ._given import as_addresses, as_blob, as_config, as_headers, as_partition, as_timestamp, moment, spell, spell_sent
+from ._library import INT32, INT64, UINT64, Action, Handle, State, Status, Ticket, kp, native, words_of
+from ._open import One, Open, Telling
 from ._queue import SIZE, Queue
 from ._values import ADVICE, BufferFull, Closed, Forked, NotReady, OpenFailed, Outcome
 from ._values import ProducerError, Record, RecordRefused, RecordTooLarge, Report, Settings, Spent, Statistics
 
 logger = logging.getLogger("lembicsov")
 
-REPORTS = 1024  # How many reports a call fetches, at most.
 PIECE = 1 << 18  # How many bytes a call takes.
 VALUES, VALUES_SIZE = 1024, 1 << 20  # How many values a call sends, and how many bytes of them.
+LENGTH = 8  # How many bytes a length has.
 CHARGE = SIZE + 128  # What a value in the queue takes of buffer_memory, at most.
 ANY = INT32(-1)  # The partition of a record that names none.
 NEVER = 2**64 - 1
@@ -33,11 +32,23 @@ SHORT, LONG = 0.001, 3600.0  # How many seconds to wait where memory was refused
 OnReport = Callable[[Report, Record], object]
 
 
+class Plain(Protocol):
+    """A connection over a socket alone."""
+
+    node: int
+    descriptor: int  # The socket's.
+    out: bytes  # What was taken and not written.
+
+
+P = TypeVar("P", bound=Plain)
+
+
 class Told(NamedTuple):
-    """What is to be told: reports, and flushes that are done with them."""
+    """What is to be told: reports, and flushes that are done with them; and how many reports have come, kept ones too."""
 
     reports: list[Telling]
     flushes: list[AnyFuture]
+    come: int
 
 
 def clock() -> int:
@@ -55,6 +66,7 @@ class Core:
         self.room = bytearray(PIECE)  # For what is taken, and what is read.
         self.queue = Queue()
         self.is_attended = False  # Somebody calls `hand_over` soon: what is sent may be queued.
+        self.keeps = on_report is None  # Reports may be kept, and nobody is told.
         self._on_report = on_report
         self._is_opening = True
         self._is_short = False  # Memory was refused, and the call is to be made again.
@@ -62,7 +74,6 @@ class Core:
         self._ticked = 0  # When the last tick was.
         self._turn = 0  # The partition of the next values that are accepted together and name none.
         self._is_used = False  # A record was accepted.
-        self._open = Open()
         self._flushes: list[tuple[dict[int, int], AnyFuture]] = []  # With the counts of when they were asked for.
         self._behind: list[Callable[[], object]] = []  # What is called once the queue is empty.
         self._left: list[Telling] = []  # Who is to be told of values that were in the queue and are never sent.
@@ -72,12 +83,12 @@ class Core:
         self._is_closing = False
         # What the library writes to.
         self._producer, self._action, self._ticket, self._state = Handle(), Action(), Ticket(), State()
+        self._open = Open(self._producer)
         self._size, self._accepted, self._port = ctypes.c_size_t(), ctypes.c_size_t(), ctypes.c_uint16()
         self._handle, self._ticket_at = ctypes.byref(self._producer), ctypes.byref(self._ticket)
         self._size_at, self._accepted_at = ctypes.byref(self._size), ctypes.byref(self._accepted)
         self._taken, self._room_at = memoryview(self.room), (ctypes.c_char * PIECE).from_buffer(self.room)
-        runs = bytearray(RUN.size * REPORTS)
-        self._runs, self._runs_at = memoryview(runs), (ctypes.c_char * len(runs)).from_buffer(runs)
+        self._at, self._room_place = ctypes.addressof(self._producer), ctypes.addressof(self._room_at)
         names = topic.encode(), client_id.encode(), as_addresses(bootstrap)
         slices = [argument for name in names for argument in (name, len(name))]
         seed = int.from_bytes(os.urandom(8), "little")
@@ -101,6 +112,11 @@ class Core:
     @property
     def open_records(self) -> int:
         return len(self.queue.records) + self._open.records
+
+    @property
+    def is_flushing(self) -> bool:
+        """Whether a flush is to be told that it is done."""
+        return bool(self._flushes)
 
     def _see(self) -> State:
         kp.kp_producer_state(self._handle, self._state)
@@ -132,11 +148,27 @@ class Core:
     def take(self, node: int) -> memoryview:
         """What is to be written next, as long as the room is not used again; empty where there is nothing."""
         status = kp.kp_producer_take(self._handle, node, clock(), self._room_at, PIECE, self._size_at)
+        self._note_taken(status)
+        return self._taken[: self._size.value]
+
+    def _note_taken(self, status: int) -> None:
         if status == Status.OUT_OF_MEMORY:
             self._is_short = True
         elif status != Status.OK and status != Status.NO_CONNECTION:
             raise ProducerError(words_of(status))
-        return self._taken[: self._size.value]
+
+    def write_out(self, connections: list[P]) -> list[tuple[P, Exception | None]]:
+        """Takes all that is to be written, and writes it: the connections whose `out` is not empty, or was not before, and those that
+        have failed, with their faults. Only where there is `native`."""
+        status, changed = native.write_out(self._at, clock(), self._room_place, PIECE, connections)
+        self._note_taken(status)
+        told: list[tuple[P, Exception | None]] = changed
+        return told
+
+    def read_in(self, connection: Plain) -> bool:
+        """Reads and hears what has come: whether the connection has ended. Only where there is `native`."""
+        has_ended: bool = native.read_in(self._at, clock(), self._room_place, PIECE, connection)
+        return has_ended
 
     def feed(self, node: int, piece: bytes | None, size: int) -> None:
         """Hears what was read: a piece, or what is in the room. Where it is refused, an action closes the connection."""
@@ -170,14 +202,14 @@ class Core:
     def send(self, record: One) -> int:
         """Has a record accepted: the status of that."""
         status = self.hand_over()
-        if status == Status.OK and not self._queues(record):
+        if status == Status.OK and not (self.is_attended and self._queues(record)):
             status = self._send(record)
         return status
 
     def _queues(self, record: One) -> bool:
         """Begins to queue values with this one, as many as there surely is room for, where that may be: whether it has."""
         is_open = not (self._is_closing or self._is_spent)
-        may_queue = self.is_attended and self._is_used and is_open and self._config.max_request_size >= CHARGE
+        may_queue = self._is_used and is_open and self._config.max_request_size >= CHARGE
         if not may_queue or not isinstance(record.sent, bytes):
             return False
         self.queue.open((self._config.buffer_memory - self._see().buffer_used) // CHARGE)
@@ -185,12 +217,12 @@ class Core:
 
     def hand_over(self) -> int:
         """Has all in the queue accepted, for one partition: the status of the first that is refused."""
-        self._mend()
+        if self._noting is not None:
+            self._mend()
         queue = self.queue.close()
         if queue:
             ones = list(queue)
-            values: list[Any] = [record.sent for record in ones]
-            status, _ = self._send_values(values, b"".join(values), self._turn, self.queue.stamp, ones)
+            status, _ = self._send_values(*spell_sent(ones), self._turn, self.queue.stamp, ones)
             if status == Status.OK:
                 self._end_turn()
             elif status == Status.SPENT:
@@ -199,7 +231,8 @@ class Core:
             else:
                 self._is_short = self._is_short or status == Status.OUT_OF_MEMORY
                 return status
-        self._go_on_behind()
+        if self._behind:
+            self._go_on_behind()
         return Status.OK
 
     def _leave_unsent(self, queue: list[One]) -> None:
@@ -226,36 +259,39 @@ class Core:
         status = self.hand_over()
         if status != Status.OK:
             return status
-        values: Sequence[bytes] = many.values[many.at : many.at + VALUES]
-        text = b"".join(values)
+        values = many.values[many.at : many.at + VALUES]
+        text, lengths = spell(values)
         while len(values) > 1 and len(text) > VALUES_SIZE:
             values = values[: len(values) // 2]
-            text = b"".join(values)
+            text, lengths = spell(values)
         place = self._turn if many.partition < 0 else many.partition
-        status, accepted = self._send_values(values, text, place, many.timestamp, many)
+        status, accepted = self._send_values(text, lengths, place, many.timestamp, many)
         many.at += accepted
         if status == Status.OK and many.partition < 0:
             self._end_turn()
         return status
 
     def _send(self, record: One) -> int:
+        status: int
         sent = record.sent
+        if native is not None and type(sent) is bytes and type(record) is Pending:
+            status = self._open.accept_value(record, moment(), clock())  # type: ignore[attr-defined]
+            self._is_used = self._is_used or status == Status.OK
+            return status
         value, key, partition, headers, timestamp = sent if isinstance(sent, Record) else (sent, None, None, (), None)
         key_blob, value_blob, asked = as_blob(key), as_blob(value), ANY if partition is None else INT32(as_partition(partition))
         words = *key_blob, *value_blob, *as_headers(headers), INT64(as_timestamp(timestamp)), UINT64(clock())
         self._ticket.number, self._noting = NEVER, (-1, 0, [record])
-        status: int = kp.kp_producer_send(self._handle, asked, *words, self._ticket_at)
+        status = kp.kp_producer_send(self._handle, asked, *words, self._ticket_at)
         self._is_used = self._note() > 0 or self._is_used
         self._noting = None
         return status
 
-    def _send_values(self, values: Sequence[bytes], text: bytes, place: int, stamp: int, whose: list[One] | Many) -> tuple[int, int]:
-        """Has values accepted, which the text is of: the status of the first that is refused, and how many were before it."""
-        count = len(values)
-        lengths = struct.pack(f"{count}Q", *map(len, values))
+    def _send_values(self, text: bytes, lengths: bytes, place: int, stamp: int, whose: list[One] | Many) -> tuple[int, int]:
+        """Has values accepted, as they are spelled: the status of the first that is refused, and how many were before it."""
         self._accepted.value, self._noting = 0, (place, self._open.count(place), whose)
         status = kp.kp_producer_send_batch(
-            self._handle, place, text, len(text), lengths, count, stamp, clock(), self._accepted_at,
+            self._handle, place, text, len(text), lengths, len(lengths) // LENGTH, stamp, clock(), self._accepted_at,
         )
         accepted = self._note()
         self._noting = None
@@ -281,10 +317,9 @@ class Core:
     def _mend(self) -> None:
         """Notes what a call has left that was broken off: what a signal's handler raises, as KeyboardInterrupt is, may come between
         any two steps of the main thread."""
-        if self._noting is not None:
-            self._note()
-            self._open.recount()
-            self._noting = None
+        self._note()
+        self._open.recount()
+        self._noting = None
 
     def refusal(self, status: int) -> tuple[Exception, bool]:
         """What a send is told that is refused, and whether it may be accepted in a while."""
@@ -334,16 +369,20 @@ class Core:
     def fetch(self) -> Told:
         """What has come to be told, by `settle`, once the core's owner holds no lock."""
         telling, self._left = self._left, []
-        told = REPORTS
-        while told == REPORTS:
-            before = self._open.records
-            count = kp.kp_producer_report_runs(self._handle, self._runs_at, REPORTS)
-            telling += self._open.take(self._runs[: RUN.size * count], keeps=self._on_report is None)
-            told = before - self._open.records
-        done = [future for counts, future in self._flushes if self._open.is_past(counts)]
-        if done:
+        come = len(telling) + self._open.records
+        with keeping:
+            telling += self._open.fetch(self.keeps)
+        come -= self._open.records
+        done: list[AnyFuture] = []
+        if self._flushes:
+            done = [future for counts, future in self._flushes if self._open.is_past(counts)]
             self._flushes = [flush for flush in self._flushes if flush[1] not in done]
-        return Told(telling, done)
+        return Told(telling, done, come)
+
+    def fetch_kept(self) -> None:
+        """Has those futures keep their reports that may. What else has come `fetch` tells of. Only where there is `native`."""
+        with keeping:
+            self._open.fetch_runs(self.keeps)
 
     def settle(self, told: Told) -> None:
         for owner, number, report in told.reports:

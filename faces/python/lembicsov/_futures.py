@@ -9,9 +9,10 @@ import time
 from bisect import bisect
 from concurrent.futures import Future, TimeoutError
 from concurrent.futures._base import FINISHED, PENDING
-from typing import Any, Iterable, Iterator, Sequence, Tuple, Union, overload
+from typing import Any, Callable, Iterable, Iterator, Protocol, Sequence, Tuple, Union, overload
 
 from ._given import as_bytes, as_partition, as_timestamp
+from ._library import native
 from ._values import NOT_DELIVERED, Bytes, NotDelivered, Outcome, Record, RecordTooLarge, Report, SomeNotDelivered
 from ._waiting import hold_back, let_go
 
@@ -60,36 +61,41 @@ def tell(future: AnyFuture, report: Report, sent: Sent) -> None:
         future.set_exception(fault(report, record_of(sent)))
 
 
+class Server(Protocol):
+    """Who may be served by those that wait, in the place of a thread."""
+
+    def serve(self, future: Any, until: float) -> bool: ...
+
+
 class Watched:
     """An attribute of a future that is made, with the others of this kind, once it is looked at."""
 
     def __set_name__(self, kind: type, name: str) -> None:
         self._name = name
 
-    def __get__(self, future: Pending | None, kind: type) -> Any:
+    def __get__(self, future: Awaited | None, kind: type) -> Any:
         if future is None:
             return self
         future.watch()
         return future.__dict__[self._name]
 
 
-class Pending(Future):  # type: ignore[type-arg]
+class Awaited(Future):  # type: ignore[type-arg]
     """What comes of what was accepted, which nobody can call back; of a record that is its report.
 
     Most are done before anybody waits for them. So what it takes to wait is made only where somebody begins to, under `keeping`:
     for those that wait for the result alone these are locks, for any other all that a future has. Before that a report is kept by two
-    assignments (`_open.keep`, `_keep`), and is made from them where it is asked for.
+    assignments (`_open.keep`, `keep`), and is made from them where it is asked for.
     """
 
-    # What each has is faster in slots than in a dictionary: what was sent, until it is told, and behind a report that was kept its
-    # offset; and the partition of that report.
-    __slots__ = "sent", "_partition"
-    sent: Any
-    _partition: int
+    __slots__ = ()
+    sent: Any  # What was sent, until it is told, and behind a report that was kept its offset.
+    _partition: int  # That of the report that was kept.
     _stage: str = PENDING  # The state, where no report was kept.
     _exception: BaseException | None = None
     _given: Any = None  # The result, where no report was kept.
     _held_back: list[threading.Lock] | None = None  # Those that wait for the result alone.
+    server: Callable[[], Server | None] | None = None  # Who may be served in place of waiting.
     _condition: Any = Watched()
     _waiters: Any = Watched()
     _done_callbacks: Any = Watched()
@@ -105,10 +111,14 @@ class Pending(Future):  # type: ignore[type-arg]
     def _wait(self, timeout: float | None) -> None:
         """Waits until it is done, where all who wait do so for the result alone."""
         with keeping:
-            if self._held_back is None:
-                self._held_back = []
             if self._partition == ALONE:
                 self._partition = AWAITED
+        server = self.server() if self.server is not None else None
+        if server is not None and server.serve(self, time.monotonic() + (threading.TIMEOUT_MAX if timeout is None else timeout)):
+            return
+        with keeping:
+            if self._held_back is None:
+                self._held_back = []
             if self._partition != AWAITED:
                 return
             turn = hold_back(self._held_back)
@@ -146,6 +156,10 @@ class Pending(Future):  # type: ignore[type-arg]
             if self._held_back:  # (nobody begins to wait for the result alone any more)
                 let_go(self._held_back)
 
+    def is_awaited(self) -> bool:
+        """Whether it is not done, and those who wait do so for the result alone."""
+        return self._partition == AWAITED
+
     def cancel(self) -> bool:
         return False
 
@@ -171,26 +185,41 @@ class Pending(Future):  # type: ignore[type-arg]
     def record(self, number: int) -> Record:
         return record_of(self.sent)
 
+    def keep(self, number: int, partition: int, offset: int, count: int) -> int:
+        """Keeps the report of what was delivered, where all who wait do so for the result alone: whether it has, as 1 or 0. The caller
+        has `keeping`."""
+        if self._partition == WATCHED:
+            return 0
+        self.sent, self._partition = offset, partition
+        if self._held_back:
+            let_go(self._held_back)
+        return 1
+
     def tell(self, number: int, report: Report) -> None:
-        if not (report.outcome is DELIVERED and self._keep(report)):
-            sent, self.sent = self.sent, b""
-            tell(self, report, sent)
-
-    def _keep(self, report: Report) -> bool:
-        """Keeps the report of what was delivered, where at most one waits, for the result alone: whether it has."""
-        with keeping:
-            if self._partition == WATCHED:
-                return False
-            self.sent, self._partition = report.offset, report.partition
-        self._wake()
-        return True
+        if report.outcome is DELIVERED and report.offset is not None:
+            with keeping:
+                if self.keep(number, report.partition, report.offset, 1):
+                    return
+        sent, self.sent = self.sent, b""
+        tell(self, report, sent)
 
 
-def pending(sent: Any = b"") -> Pending:
+class Pending(Awaited):
+    """With what each has, which is faster in slots than in a dictionary."""
+
+    __slots__ = "sent", "_partition"
+
+
+def pending(sent: Any) -> Pending:
     """A future of what was sent, for which nobody waits yet."""
     future: Pending = Pending()
     future.sent, future._partition = sent, ALONE
     return future
+
+
+if native is not None:
+    Pending = native.futures(Awaited, Report, DELIVERED)  # type: ignore[misc]
+    pending = native.pending
 
 
 class Single:
@@ -204,6 +233,9 @@ class Single:
 
     def record(self, number: int) -> Record:
         return record_of(self.sent)
+
+    def keep(self, number: int, partition: int, offset: int, count: int) -> int:
+        return 0  # Futures of asyncio are told by their loop.
 
     def tell(self, number: int, report: Report) -> None:
         tell(self._future, report, self.sent)

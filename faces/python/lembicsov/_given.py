@@ -4,10 +4,11 @@ from __future__ import annotations
 
 import ctypes
 import operator
+import struct
 import time
-from typing import Any, Iterable, Tuple, cast
+from typing import Any, Iterable, cast
 
-from ._library import DEFAULTS, FALSE, SIZE, TRUE, Config, Span, Status, words_of
+from ._library import DEFAULTS, FALSE, SIZE, TRUE, Config, Span, Status, native, words_of
 from ._values import Bytes, Headers, RecordRefused, Settings
 
 NO_BLOB = FALSE, b"", SIZE(0)
@@ -16,6 +17,20 @@ NO_HEADERS = ctypes.byref(Span()), SIZE(0), b"", SIZE(0)
 
 def as_bytes(value: Bytes) -> bytes:
     return value if isinstance(value, bytes) else bytes(memoryview(value))
+
+
+def spell(values: list[Any]) -> tuple[bytes, bytes]:
+    """Values one after the other, and their lengths."""
+    return b"".join(values), struct.pack(f"{len(values)}Q", *map(len, values))
+
+
+def spell_sent(records: list[Any]) -> tuple[bytes, bytes]:
+    """The same of the values that records have."""
+    return spell([record.sent for record in records])
+
+
+if native is not None:
+    spell = spell_sent = native.spell
 
 
 def as_blob(value: Bytes | None) -> tuple[Any, bytes, Any]:

@@ -5,24 +5,27 @@ from __future__ import annotations
 import contextlib
 import errno
 import logging
-import selectors
+import select
 import socket
 import threading
 import time
+import weakref
 from ssl import SSLContext, SSLSocket, SSLWantReadError, SSLWantWriteError
-from typing import Any, Callable, TypeVar
+from typing import Any, Callable, Tuple, TypeVar
 
 from ._core import SHORT, Core, Told, tell_unclosed
 from ._futures import Pending, pending
-from ._library import Action, Status
+from ._library import Action, Status, native
 from ._values import ProducerError, Statistics
 from ._waiting import hold_back, let_go
 
 logger = logging.getLogger("lembicsov")
 
-READ, WRITE = selectors.EVENT_READ, selectors.EVENT_WRITE
+READ, WRITE = select.EPOLLIN, select.EPOLLOUT
+FIRST = getattr(select, "EPOLLEXCLUSIVE", 0)  # Of those that wait for a socket the first is woken, of those that wait now.
 WAITS = BlockingIOError, InterruptedError, SSLWantReadError, SSLWantWriteError
 Sending = TypeVar("Sending")
+Event = Tuple[int, int]  # A descriptor, and what has come of it.
 MOMENT = 0.001  # For how many seconds the thread leaves what is not urgent.
 NAP = 1.0  # How many seconds the thread sleeps at most: nearly nothing is due before it wakes by itself.
 
@@ -36,12 +39,50 @@ class Connection:
         self.addresses: list[Any] = []  # Those that were not tried, as getaddrinfo has them.
         self.socket: socket.socket | None = None
         self.events = 0  # What the socket is watched for.
+        self.descriptor = -1  # The socket's.
         self.is_open = False
-        self.is_torn = False  # Something was taken that is neither written nor in `out` yet.
         self.out = b""  # What was taken and not written.
 
     def look_up(self, flags: int = 0) -> None:
         self.addresses = list(socket.getaddrinfo(self.host, self.port, type=socket.SOCK_STREAM, flags=flags))
+
+
+class Waiting:
+    """Waits for sockets, and for being woken."""
+
+    def __init__(self, how: int = 0) -> None:
+        self.sockets = select.epoll()
+        self._waker, self._woken = socket.socketpair()
+        self._waker.setblocking(False)
+        self._woken.setblocking(False)
+        self.sockets.register(self._woken, READ | how)
+        self._call = self._woken.fileno(), READ  # What comes of it where it was woken.
+
+    def wait(self, timeout: float) -> list[Event]:
+        """What has come of sockets within so many seconds, and nothing where it was woken."""
+        ready: list[Event] = self.sockets.poll(max(0.0, timeout))
+        if self._call in ready:
+            ready.remove(self._call)
+            with contextlib.suppress(BlockingIOError):  # Another that waits by it has heard it.
+                self._woken.recv(1024)
+        return ready
+
+    def wake(self) -> None:
+        with contextlib.suppress(OSError):  # It was woken so often, or is closed.
+            self._waker.send(b"\0")
+
+    def close(self) -> None:
+        self.sockets.close()
+        self._waker.close()
+        self._woken.close()
+
+
+def waiting_first() -> Waiting | None:
+    """One that is woken in place of another; none where the system can't."""
+    try:
+        return Waiting(FIRST) if FIRST else None
+    except OSError:
+        return None
 
 
 class Host:
@@ -51,21 +92,27 @@ class Host:
         self.core = core
         self.thread = threading.Thread(target=self._run, name=f"lembicsov {core.topic}", daemon=True)
         self._ssl, self._connect_timeout = ssl, connect_timeout
+        self._is_native = native is not None and ssl is None  # What TLS has to do is in Python.
         self._lock = threading.RLock()  # It is taken once at a time: `_check` tells who would take it twice.
         self._held_back: list[threading.Lock] = []  # Those that were refused for a while.
         self._closing: list[threading.Lock] = []  # Those that wait for the end.
         self._connections: dict[int, Connection] = {}
+        self._open: list[Connection] = []
+        self._torn: Connection | None = None  # Something was taken that is neither written nor in `out` yet, or it is not lost yet.
         self._looked_up: list[Connection] = []
         self._is_closing = self._is_ending = self._has_ended = False
         self._is_over = False  # All that there was is told, too.
         self._is_asleep = False  # The thread waits, and nobody has woken it.
         self._is_helped = False  # Another has written for it meanwhile.
         self._until = 0.0  # When it wakes by itself.
-        self._selector = selectors.DefaultSelector()
-        self._waker, self._woken = socket.socketpair()
-        self._waker.setblocking(False)
-        self._woken.setblocking(False)
-        self._selector.register(self._woken, READ)
+        self._waiting = Waiting()  # The thread.
+        self._watched: dict[int, Connection] = {}  # By descriptor.
+        # Who waits for the only report that is to come reads it in the thread's place, so that the two need not change places.
+        self._standing_in = waiting_first() if self._is_native else None
+        self._waiters = [self._waiting, *([self._standing_in] if self._standing_in else [])]
+        self._awaited: Pending | None = None  # Whose report it is.
+        self._was_helped_out = False  # Somebody stood in, and may have left something.
+        self.itself = weakref.ref(self)
 
     # ---- for other threads
 
@@ -105,9 +152,41 @@ class Host:
         with self._lock:
             return self.core.queue.withdraw(record)
 
+    def serve(self, future: Pending, until: float) -> bool:
+        """Waits, until this moment at most, for the report of a future that is the only one that is open, in the place of the thread,
+        which sleeps on: whether it did. What else there is to do than to read and to note that report is left to the thread."""
+        if self._standing_in is None or self.core.is_forked or self._lock._is_owned():  # type: ignore[attr-defined]
+            return False
+        with self._lock:
+            if self._awaited is not None or self.core.open_records != 1 or not (self._is_asleep and self.core.keeps):
+                return False
+            self._awaited, self._was_helped_out = future, True
+        try:
+            while future.is_awaited() and (left := until - time.monotonic()) > 0:
+                ready = self._standing_in.wait(min(left, NAP))
+                with self._lock:
+                    self._stand_in(ready)
+        except BaseException:
+            self._waiting.wake()  # What a signal's handler has broken off is the thread's to mend.
+            raise
+        finally:
+            self._awaited = None
+        return True
+
+    def _stand_in(self, ready: list[Event]) -> None:
+        """Hears what has come, and has those keep their reports that may."""
+        for descriptor, events in ready:
+            self._hear(descriptor, events)
+        self.core.fetch_kept()
+        if self.core.open_records > 0 or self.core.is_flushing or self._is_closing:
+            self._wake()
+        elif ready:
+            self._is_helped = False
+            let_go(self._held_back)
+
     def flush(self) -> Pending:
         self._check()
-        flushed = pending()
+        flushed = pending(b"")
         with self._lock:
             if not self._has_ended:
                 self.core.flush(flushed)
@@ -152,16 +231,13 @@ class Host:
             return
         tell_unclosed(self.core)
         self._is_ending = True
-        try:
-            self._waker.send(b"\0")  # With no lock, since whoever collects the garbage may have it.
-        except OSError:
-            pass  # It is woken already, or has ended.
+        self._waiting.wake()  # With no lock, since whoever collects the garbage may have it.
         if threading.current_thread() is not self.thread:
             self.thread.join(1)
 
     def _wake(self) -> None:
         if self._is_asleep:
-            self._waker.send(b"\0")
+            self._waiting.wake()
             self._is_asleep, self.core.is_attended = False, True
 
     def _send_off(self) -> None:
@@ -209,48 +285,59 @@ class Host:
             told = self.core.end()
             self._has_ended, self._is_asleep = True, False
             let_go(self._held_back)
-        self.core.settle(told)
-        self._selector.close()
-        self._waker.close()
-        self._woken.close()
+        self._settle(told)
+        for those in self._waiters:
+            those.close()
 
     def _serve(self) -> None:
-        ready: list[tuple[selectors.SelectorKey, int]] = []
+        ready: list[Event] = []
         has_ended = False
         while not has_ended:
             with self._lock:
                 told = self._come_by(ready)
                 has_ended = not self._is_asleep
-            self.core.settle(told)
+            self._settle(told)
             if not has_ended:
-                ready = self._selector.select(max(0.0, self._until - time.monotonic()))
+                ready = self._waiting.wait(self._until - time.monotonic())
 
-    def _come_by(self, ready: list[tuple[selectors.SelectorKey, int]]) -> Told:
+    def _settle(self, told: Told) -> None:
+        self.core.settle(told)
+        awaited = self._awaited
+        if awaited is not None and not awaited.is_awaited() and self._standing_in is not None:
+            self._awaited = None
+            self._standing_in.wake()
+
+    def _come_by(self, ready: list[Event]) -> Told:
         """Does all that there is to do now, and is asleep where more may come."""
-        self._is_asleep = self._is_helped = self.core.is_attended = False
-        self.core.hand_over()
-        for key, events in ready:
-            self._hear(key.data, events)
-        told, now = self._fetch(), time.monotonic()
-        if told.reports and self.core.open_records == 0 and now < self._until and not self._is_closing:
+        core = self.core
+        self._is_asleep = self._is_helped = core.is_attended = False
+        if self._torn is not None:
+            self._mend()
+        if self._was_helped_out:
+            self._was_helped_out = self._awaited is not None
+            ready = [*ready, *((it.descriptor, READ) for it in self._open)]
+        for descriptor, events in ready:
+            self._hear(descriptor, events)
+        told = self._fetch()
+        core.hand_over()
+        if told.come > 0 and core.open_records == 0 and not self._is_closing and (now := time.monotonic()) < self._until:
             # All is told, and whoever waits for that goes on at once. What else there may be to do is done in a moment.
             self._until = min(self._until, now + MOMENT)
             self._is_asleep = True
             return told
-        if self.core.tick():
+        if core.tick():
             let_go(self._held_back)
         self._act()
         more = self._fetch()
-        is_done = self._is_closing and self.core.open_records == 0
-        has_ended = self._is_ending or is_done or self.core.failure is not None
+        is_done = self._is_closing and core.open_records == 0
+        has_ended = self._is_ending or is_done or core.failure is not None
         self._until = time.monotonic() + self._wait()
         self._is_asleep = not has_ended
-        return Told(told.reports + more.reports, told.flushes + more.flushes)
+        return Told(told.reports + more.reports, told.flushes + more.flushes, told.come + more.come)
 
     def _fetch(self) -> Told:
-        before = self.core.open_records
         told = self.core.fetch()
-        if self.core.open_records < before:
+        if told.come > 0:
             let_go(self._held_back)
         return told
 
@@ -273,14 +360,25 @@ class Host:
         self._write_all()
 
     def _write_all(self) -> None:
-        for connection in list(self._connections.values()):
-            if connection.is_torn:
-                self._lose(connection, "a call was broken off that wrote to it")
-            elif connection.is_open:
-                connection.is_torn = True
-                if out := connection.out or self.core.take(connection.node):
-                    self._guard(self._write, connection, out)
-                connection.is_torn = False
+        if self._torn is not None:
+            self._mend()
+        if self._is_native:
+            for connection, fault in self.core.write_out(self._open):
+                if fault is None:
+                    self._await(connection, READ | WRITE if connection.out else READ)
+                else:
+                    self._lose(connection, fault)
+            return
+        for connection in list(self._open):
+            self._torn = connection
+            if out := connection.out or self.core.take(connection.node):
+                self._guard(self._write, connection, out)
+            self._torn = None
+
+    def _mend(self) -> None:
+        """Loses the connection to which a call wrote that was broken off, or which that was to lose."""
+        assert self._torn is not None
+        self._lose(self._torn, "a call was broken off")
 
     def _wait(self) -> float:
         """For how many seconds there is nothing to do, if no socket is ready before."""
@@ -290,16 +388,14 @@ class Host:
                 wait = min(wait, max(0.0, connection.until - time.monotonic()))
         return wait
 
-    def _hear(self, connection: Connection | None, events: int) -> None:
-        """A socket is ready."""
-        if connection is None:
-            self._woken.recv(1024)
-        elif not self._is_current(connection):
-            pass  # It was lost since.
-        elif not connection.is_open:
-            self._guard(self._go_on, connection)
-        elif events & READ:
-            self._guard(self._read, connection)
+    def _hear(self, descriptor: int, events: int) -> None:
+        """A socket is ready. One that is watched no more was lost since."""
+        if descriptor in self._watched:
+            connection = self._watched[descriptor]
+            if not connection.is_open:
+                self._guard(self._go_on, connection)
+            elif events & ~WRITE:
+                self._guard(self._read, connection)
 
     # ---- a connection
 
@@ -313,27 +409,42 @@ class Host:
             self._lose(connection, error)
 
     def _lose(self, connection: Connection, why: object) -> None:
+        self._torn = connection
+        if connection in self._open:
+            self._open.remove(connection)
         logger.info("no connection to %s:%d: %s", connection.host, connection.port, why)
         self._hang_up(connection)
         self.core.lost(connection.node)
-        del self._connections[connection.node]
+        self._connections.pop(connection.node, None)
+        self._torn = None
 
     def _hang_up(self, connection: Connection) -> None:
         if connection.socket is not None:
-            with contextlib.suppress(KeyError, ValueError):  # It was closed before, by a call that was broken off.
-                self._selector.unregister(connection.socket)
+            self._watched.pop(connection.descriptor, None)
+            for those in self._waiters:
+                with contextlib.suppress(OSError, ValueError):  # It has none, or was closed before, by a call that was broken off.
+                    those.sockets.unregister(connection.socket)
             connection.socket.close()
             connection.socket = None
 
     def _watch(self, connection: Connection, end: socket.socket) -> None:
         """The connection has this socket from now on."""
-        connection.socket, connection.events = end, WRITE
-        self._selector.register(end, WRITE, connection)
+        connection.socket, connection.events, connection.descriptor = end, WRITE, end.fileno()
+        self._watched[connection.descriptor] = connection
+        self._waiting.sockets.register(end, WRITE)
 
     def _await(self, connection: Connection, events: int) -> None:
-        if connection.events != events and connection.socket is not None:
-            connection.events = events
-            self._selector.modify(connection.socket, events, connection)
+        end = connection.socket
+        if connection.events == events or end is None:
+            return
+        connection.events = events
+        if self._standing_in is None or not connection.is_open:
+            self._waiting.sockets.modify(end, events)
+        else:
+            self._torn = connection
+            self._waiting.sockets.unregister(end)
+            self._waiting.sockets.register(end, events | FIRST)
+            self._torn = None
 
     def _connect(self, node: int) -> None:
         connection = Connection(node, *self.core.address(node), time.monotonic() + self._connect_timeout)
@@ -373,7 +484,7 @@ class Host:
                 self._hang_up(connection)
                 return self._dial(connection, OSError(status, "it is not reached"))
             if self._ssl is not None:
-                self._selector.unregister(end)
+                self._waiting.sockets.unregister(end)
                 connection.socket = None  # Where the next line fails it has closed the socket.
                 end = self._ssl.wrap_socket(end, server_hostname=connection.host, do_handshake_on_connect=False)
                 self._watch(connection, end)
@@ -385,6 +496,9 @@ class Host:
             except SSLWantWriteError:
                 return self._await(connection, WRITE)
         connection.is_open = True
+        self._open.append(connection)
+        if self._standing_in is not None:
+            self._standing_in.sockets.register(end, READ | FIRST)  # Before the thread's, which `_await` makes anew.
         self._await(connection, READ)
         logger.info("connected to %s:%d", connection.host, connection.port)
         if not self.core.connected(connection.node):
@@ -393,6 +507,10 @@ class Host:
     def _read(self, connection: Connection) -> None:
         end, room = connection.socket, self.core.room
         assert end is not None
+        if self._is_native:
+            if self.core.read_in(connection):
+                raise ConnectionError("the broker has ended it")
+            return
         size = len(room)
         while size == len(room) or isinstance(end, SSLSocket):  # Of TLS there may be more than the socket tells.
             try:

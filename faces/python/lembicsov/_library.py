@@ -4,6 +4,7 @@ from __future__ import annotations
 
 import ctypes
 import os
+from contextlib import suppress
 from ctypes import POINTER, c_bool, c_char_p, c_int32, c_int64, c_size_t, c_uint8, c_uint16, c_uint32, c_uint64, c_void_p
 from pathlib import Path
 from typing import Any, Callable
@@ -120,6 +121,16 @@ def load() -> ctypes.PyDLL:
 
 
 kp = load()
+
+# What `_native.c` calls.
+NATIVE = "kp_producer_send", "kp_producer_take", "kp_producer_feed", "kp_producer_report_runs"
+
+native: Any = None  # What `_native.c` has, where it was built.
+with suppress(ImportError):
+    from . import _native
+
+    _native.use(*(ctypes.cast(getattr(kp, call), c_void_p).value for call in NATIVE))
+    native = _native
 
 
 def _words(call: Callable[..., int], number: int) -> str:

@@ -2,14 +2,17 @@
 
 from __future__ import annotations
 
+import ctypes
 import struct
 from collections import defaultdict
 from typing import Any, Iterable, List, Optional, Sequence, Tuple, Union
 
-from ._futures import ALONE, Many, Part, Pending, Single, delivered, keeping
+from ._futures import ALONE, Many, Part, Pending, Single, delivered
+from ._library import kp, native
 from ._values import ADVICE, Outcome, Report
 
 RUN = struct.Struct("=QqQII")  # kp_report_run: the number and the detail of the first, how many, the partition and the outcome.
+REPORTS = 1024  # How many reports a call fetches, at most.
 OUTCOMES = tuple(Outcome)
 TOLD = 1024  # So many places of records that were told of a line has at least, and more than others, before it lets go of them.
 
@@ -21,12 +24,12 @@ Telling = Tuple[Owner, int, Report]  # An owner is to be told of the record with
 class Line:
     """A partition's records in the order of their numbers: who owns each, and nobody once it has its report."""
 
-    __slots__ = ("owners", "_first", "_told")
+    owners: List[Optional[Owner]]
+    _first: int  # The number of the first.
+    _told: int  # So many in front have their report, and then comes one that has not.
 
     def __init__(self) -> None:
-        self.owners: List[Optional[Owner]] = []
-        self._first = 0  # The number of the first.
-        self._told = 0  # So many in front have their report, and then comes one that has not.
+        self.owners, self._first, self._told = [], 0, 0
 
     @property
     def count(self) -> int:
@@ -56,11 +59,20 @@ class Line:
 
 
 class Open:
-    """By partition and number, who owns each record that was accepted and has no report."""
+    """By partition and number, who owns each record that a producer has accepted and that has no report."""
 
-    def __init__(self) -> None:
-        self.records = 0  # How many there are.
-        self._lines: defaultdict[int, Line] = defaultdict(Line)
+    records: int  # How many there are.
+    left: list[Tuple[int, int, int, int, int]]  # Runs that were fetched: partition, outcome, number and detail of the first, how many.
+    _lines: defaultdict[int, Line]
+    _producer: int  # Where the library's producer lies, and the room for runs of reports.
+    _runs_place: int
+
+    def __init__(self, producer: Any) -> None:
+        self.records, self.left, self._lines = 0, [], defaultdict(Line)
+        runs = bytearray(RUN.size * REPORTS)
+        self._runs, self._runs_at = memoryview(runs), (ctypes.c_char * len(runs)).from_buffer(runs)
+        self._handle = ctypes.byref(producer)
+        self._producer, self._runs_place = ctypes.addressof(producer), ctypes.addressof(self._runs_at)
 
     def put(self, partition: int, whose: Sequence[One] | Many, count: int) -> None:
         """So many of the next records of the partition are those of the first owners, or of many values."""
@@ -84,25 +96,55 @@ class Open:
         """Whether none is open that was accepted before these counts."""
         return all(line.oldest >= counts.get(partition, 0) for partition, line in self._lines.items())
 
-    def take(self, runs: memoryview, keeps: bool) -> list[Telling]:
-        """Takes out the records that these runs of reports are of. Owners keep their reports, where they may; the others are to be
-        told."""
-        left: list[Telling] = []
-        with keeping:
-            for number, detail, count, partition, code in RUN.iter_unpack(runs):
-                self.records -= count
-                left += self._take_run(partition, OUTCOMES[code], number, detail, count, keeps)
-        return left
+    def fetch_runs(self, keeps: bool) -> None:
+        """Fetches the reports that there are, as runs that are left. (`native` takes those out whose owners all keep their reports.)"""
+        told = REPORTS
+        while told == REPORTS:
+            count, told = kp.kp_producer_report_runs(self._handle, self._runs_at, REPORTS), 0
+            for number, detail, many, partition, code in RUN.iter_unpack(self._runs[: RUN.size * count]):
+                told += many
+                self.left.append((partition, code, number, detail, many))
 
-    def _take_run(self, partition: int, outcome: Outcome, number: int, detail: int, count: int, keeps: bool) -> list[Telling]:
+    def fetch(self, keeps: bool) -> list[Telling]:
+        """Fetches the reports that there are, and takes out the records that they are of. Owners keep their reports, where they may;
+        the others are to be told. The caller has `keeping`."""
+        self.fetch_runs(keeps)
+        telling: list[Telling] = []
+        if self.left:
+            left, self.left = self.left, []
+            for run in left:
+                telling += self._take_run(*run, keeps)
+        return telling
+
+    def _take_run(self, partition: int, code: int, number: int, detail: int, count: int, keeps: bool) -> list[Telling]:
         """Takes out so many records of a partition from this number on. The detail is that of the first."""
-        owners = self._lines[partition].take(number, count)
+        self.records -= count
+        owners, outcome = self._lines[partition].take(number, count), OUTCOMES[code]
         if outcome is not Outcome.DELIVERED:
             report = Report(partition, None, outcome, ADVICE[outcome], detail)
             return [(owner, number + k, report) for k, owner in enumerate(owners)]
-        if keeps:
-            return keep(owners, number, partition, detail)
-        return told(owners, number, partition, detail, range(count))
+        tell = self._keep if keeps else told
+        return tell(owners, number, partition, detail, range(count))
+
+    @staticmethod
+    def _keep(owners: list[Any], number: int, partition: int, offset: int, places: Sequence[int]) -> list[Telling]:
+        """Has those owners at these places keep the reports of records that were delivered to offsets that go up by one. What is to
+        be told of the others."""
+        left: List[int] = []
+        begin = 0
+        while begin < len(places) and type(owners[places[begin]]) is Part:  # (which has all behind it, up to its end)
+            place = places[begin]
+            count = min(owners[place].end - number, len(owners)) - place
+            left += range(place + owners[place].keep(number + place, partition, offset + place, count), place + count)
+            begin += count
+        for place in places[begin:]:
+            owner = owners[place]
+            if type(owner) is Pending and owner._partition == ALONE:
+                owner.sent = offset + place
+                owner._partition = partition
+            elif not owner.keep(number + place, partition, offset + place, 1):
+                left.append(place)
+        return told(owners, number, partition, offset, left)
 
 
 def told(owners: list[Owner], number: int, partition: int, offset: int, places: Iterable[int]) -> list[Telling]:
@@ -110,19 +152,5 @@ def told(owners: list[Owner], number: int, partition: int, offset: int, places: 
     return [(owners[place], number + place, delivered(partition, offset + place)) for place in places]
 
 
-def keep(owners: list[Any], number: int, partition: int, offset: int) -> list[Telling]:
-    """Has owners keep the reports of records that were delivered to offsets that go up by one. What is to be told of the others. The
-    caller has `keeping`."""
-    places: List[int] = []
-    begin, end = 0, len(owners)
-    while begin < end and type(owners[begin]) is Part:
-        stop = min(owners[begin].end - number, end)
-        places += range(begin + owners[begin].keep(number + begin, partition, offset + begin, stop - begin), stop)
-        begin = stop
-    for at, owner in enumerate(owners[begin:], offset + begin):
-        if type(owner) is Pending and owner._partition == ALONE:
-            owner.sent = at
-            owner._partition = partition
-        elif not (type(owner) is Part and owner.keep(number + at - offset, partition, at, 1)):
-            places.append(at - offset)
-    return told(owners, number, partition, offset, places)
+if native is not None:
+    Line, Open = native.lines_and_all(Line, Open)  # type: ignore[misc]

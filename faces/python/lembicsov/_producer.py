@@ -9,8 +9,9 @@ from ssl import SSLContext
 from typing import TYPE_CHECKING, Iterable, Sequence
 
 from ._core import Core, OnReport
-from ._futures import Many, pending
+from ._futures import Many, Pending, pending
 from ._host import Host
+from ._library import native
 from ._values import Bytes, Headers, ProducerError, Record, Report, Settings, Statistics
 
 if TYPE_CHECKING:
@@ -32,7 +33,8 @@ class Producer:
         self._core = Core(bootstrap, topic, client_id, on_report, settings)
         self._host = Host(self._core, ssl, connect_timeout)
         self._max_block = max_block
-        self._put = self._core.queue.put
+        if native is not None:
+            self._queued = self._core.queue.put_value  # type: ignore[assignment, attr-defined]
         self._unclosed = weakref.finalize(self, self._host.abandon)
         self._host.thread.start()
 
@@ -46,14 +48,16 @@ class Producer:
         millisecond go to one. The timestamp is in milliseconds since 1970, or now. A record that is not accepted, after `max_block`
         seconds at most, is told by an exception at once.
         """
-        report = pending(value)
         if key is None and partition is None and timestamp is None and not headers and type(value) is bytes:
-            is_queued = self._put(report, value)
-            if is_queued or (is_queued is None and not self._host.withdraw(report)):
+            report = self._queued(value)
+            if report is not None:
                 return report
+            report = pending(value)
         else:
-            report.sent = Record(value, key, partition, headers, timestamp)
+            report = pending(Record(value, key, partition, headers, timestamp))
         self._core.check()
+        if native is not None:
+            report.server = self._host.itself
         self._host.accept(self._core.send, report, self._max_block)
         return report
 
@@ -63,7 +67,7 @@ class Producer:
         """Sends values without keys by a few calls: the future's result is the sequence of their reports, or its exception
         `SomeNotDelivered`, also where not all are accepted. Without a partition some go to one, and others to the next."""
         self._core.check()
-        many = Many(pending(), values, partition, timestamp)
+        many = Many(pending(b""), values, partition, timestamp)
         while many.at < len(many.values):
             try:
                 self._host.accept(self._core.send_next, many, self._max_block)
@@ -91,6 +95,12 @@ class Producer:
         """What is to be seen of it."""
         self._core.check()
         return self._host.statistics()
+
+    def _queued(self, value: bytes) -> Pending | None:
+        """The future of a value alone that is put into the queue, where that may be."""
+        report = pending(value)
+        is_queued = self._core.queue.put(report, value)
+        return report if is_queued or (is_queued is None and not self._host.withdraw(report)) else None
 
     def _check(self) -> None:
         self._core.check()
