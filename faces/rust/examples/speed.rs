@@ -1,6 +1,6 @@
-//! speed BOOTSTRAP TOPIC [COUNT [SIZE [THREADS [LINGER_MS]]]]: publishes so many records of so many bytes in so many threads, once record by
-//! record and once in batches, and prints how many a second; then one record at a time, and prints how long they take from `send`
-//! to the report.
+//! speed BOOTSTRAP TOPIC [COUNT [SIZE [THREADS [LINGER_MS]]]]: publishes so many records of so many bytes in so many threads, once
+//! record by record and once in batches, and prints how many a second; then one record at a time, and prints how long they take
+//! from `send` to the report.
 
 use lembicsov::{Producer, Record};
 use std::env;
@@ -49,7 +49,10 @@ impl Words {
         let begun = Instant::now();
         let delivered = thread::scope(|scope| {
             for _ in 0..self.threads {
-                scope.spawn(|| send(&producer, each));
+                scope.spawn(|| {
+                    send(&producer, each);
+                    producer.flush(Duration::from_secs(10)).unwrap(); // The last ones don't linger.
+                });
             }
             producer.reports().take(each * self.threads).filter(|it| it.outcome.is_delivered()).count()
         });

@@ -94,12 +94,13 @@ impl Span {
     }
 }
 
-/// `kp_report`.
+/// `kp_report_run`.
 #[derive(Clone, Copy, Debug, Default)]
 #[repr(C)]
-pub(crate) struct Report {
+pub(crate) struct Run {
     pub(crate) number: u64,
     pub(crate) detail: i64,
+    pub(crate) count: u64,
     pub(crate) partition: u32,
     pub(crate) outcome: u32,
 }
@@ -152,7 +153,7 @@ unsafe extern "C" {
         producer: &mut Handle, partition: i32, values: *const u8, values_len: usize, lengths: *const u64, lengths_len: usize,
         timestamp_ms: i64, now: u64, accepted: &mut usize,
     ) -> i32;
-    fn kp_producer_reports(producer: &mut Handle, room: *mut Report, room_len: usize) -> usize;
+    fn kp_producer_report_runs(producer: &mut Handle, room: *mut Run, room_len: usize) -> usize;
     safe fn kp_producer_flush(producer: &mut Handle) -> i32;
     safe fn kp_producer_close(producer: &mut Handle) -> i32;
     safe fn kp_producer_end(producer: &mut Handle) -> i32;
@@ -293,8 +294,9 @@ impl Core {
         (accepted, sent)
     }
 
-    pub(crate) fn reports(&mut self, room: &mut [Report]) -> usize {
-        unsafe { kp_producer_reports(&mut self.handle, room.as_mut_ptr(), room.len()) }
+    /// How many runs were fetched. They are of as many reports as there are and the room has places.
+    pub(crate) fn runs(&mut self, room: &mut [Run]) -> usize {
+        unsafe { kp_producer_report_runs(&mut self.handle, room.as_mut_ptr(), room.len()) }
     }
 
     pub(crate) fn flush(&mut self) {

@@ -1,5 +1,6 @@
 //! The host: the producer's own thread, which serves where nobody else does, and makes the callbacks.
 
+use crate::report::Run;
 use crate::serving::{Ending, Seat};
 use crate::shared::{Held, Shared};
 use crate::Report;
@@ -13,7 +14,7 @@ pub(crate) struct Host {
     shared: Arc<Shared>,
     on_report: Option<OnReport>,
     /// Those that the callback is given.
-    reports: VecDeque<Report>,
+    reports: VecDeque<Run>,
 }
 
 impl Host {
@@ -26,25 +27,24 @@ impl Host {
         let shared = Arc::clone(&self.shared);
         mem::forget(shared.enter()); // For good: the callback may drop a handle when it is dropped.
         let ending = Ending(&shared);
-        let mut seen = None;
-        while let Some(inner) = self.call_back(&shared) {
-            let is_quiet = seen.replace(inner.moves) == Some(inner.moves);
-            if inner.seat == Seat::Vacant && (is_quiet || inner.needs_host()) {
-                drop(shared.serve(inner, u64::MAX, |it| {
+        let (mut held, mut seen) = (shared.lock(), None);
+        while let Some(inner) = self.call_back(&shared, held) {
+            let is_quiet = seen.replace(inner.moves) == Some(inner.moves) && !inner.is_left_to_sender();
+            held = if inner.seat == Seat::Vacant && (is_quiet || inner.needs_host()) {
+                seen = None; // Behind this, those that wait have a moment to take the seat.
+                shared.serve(inner, u64::MAX, |it| {
                     !it.warnings.is_empty() || if it.has_callback { !it.told.is_empty() } else { it.waiting > 0 }
-                }));
-                seen = None; // Those that wait have a moment to take the seat.
+                })
             } else {
-                shared.stand_by(inner, is_quiet);
-            }
+                shared.stand_by(inner, is_quiet)
+            };
         }
         mem::forget(ending);
     }
 
     /// Makes the callbacks that there are to be made, with no lock held. It gives none where nothing more is to be done.
-    fn call_back<'a>(&mut self, shared: &'a Shared) -> Option<Held<'a>> {
+    fn call_back<'a>(&mut self, shared: &'a Shared, mut inner: Held<'a>) -> Option<Held<'a>> {
         loop {
-            let mut inner = shared.lock();
             let warnings = mem::take(&mut inner.warnings);
             if inner.has_callback {
                 mem::swap(&mut self.reports, &mut inner.told);
@@ -57,15 +57,16 @@ impl Host {
                 shared.warn(&warning);
             }
             if let Some(on_report) = &mut self.on_report {
-                self.reports.drain(..).for_each(on_report);
+                self.reports.drain(..).flatten().for_each(on_report);
             }
             // Where a callback has forked, this is the child's only thread, and the sockets are its parent's.
             if shared.is_forked() {
                 return None;
             }
-            let mut inner = shared.lock();
+            inner = shared.lock();
             inner.is_telling &= !inner.told.is_empty();
             shared.stir(inner);
+            inner = shared.lock();
         }
     }
 }

@@ -1,5 +1,6 @@
 //! The handle.
 
+use crate::report::Run;
 use crate::shared::{millis, Inner, Shared};
 use crate::{BatchError, Builder, Record, Report, SendError, Ticket, WaitError};
 use std::collections::VecDeque;
@@ -73,7 +74,7 @@ impl Producer {
 
     /// The reports that come, the oldest first, of which each is given once, to whoever fetches it. The iterator ends when the
     /// producer has, and at once where [`Builder::on_report`] has a callback. It takes as many as there are, and what it has not
-    /// given it puts back when it is dropped. Reports that nobody fetches stay, at 32 bytes each.
+    /// given it puts back when it is dropped. Reports that nobody fetches stay, at 40 bytes for those of a batch.
     pub fn reports(&self) -> Reports<'_> {
         Reports { shared: self.shared(), timeout_ms: u64::MAX, fetched: VecDeque::new() }
     }
@@ -168,7 +169,7 @@ impl Drop for Owner {
 pub struct Reports<'a> {
     shared: &'a Shared,
     timeout_ms: u64,
-    fetched: VecDeque<Report>,
+    fetched: VecDeque<Run>,
 }
 
 impl Reports<'_> {
@@ -187,7 +188,12 @@ impl Iterator for Reports<'_> {
         if self.fetched.is_empty() {
             self.fetched = self.shared.fetch(self.timeout_ms);
         }
-        self.fetched.pop_front()
+        let run = self.fetched.front_mut()?;
+        let report = run.next();
+        if run.is_over() {
+            self.fetched.pop_front();
+        }
+        report
     }
 }
 

@@ -78,8 +78,16 @@ impl fmt::Display for Outcome {
     }
 }
 
-impl From<ffi::Report> for Report {
-    fn from(told: ffi::Report) -> Report {
+/// Reports that go on with each other, as those of a batch do.
+#[derive(Debug)]
+pub(crate) struct Run {
+    /// The one that is given next, where any is left.
+    next: Report,
+    left: u64,
+}
+
+impl From<&ffi::Run> for Run {
+    fn from(told: &ffi::Run) -> Run {
         let outcome = match told.outcome {
             0 => Outcome::Delivered { offset: told.detail },
             1 => Outcome::DeliveredNoOffset,
@@ -89,7 +97,30 @@ impl From<ffi::Report> for Report {
             6 => Outcome::Ended,
             _ => Outcome::Unknown,
         };
-        Report { ticket: Ticket { number: told.number, partition: told.partition }, outcome }
+        let next = Report { ticket: Ticket { number: told.number, partition: told.partition }, outcome };
+        Run { next, left: told.count }
+    }
+}
+
+impl Run {
+    /// Whether each was given.
+    pub(crate) fn is_over(&self) -> bool {
+        self.left == 0
+    }
+}
+
+impl Iterator for Run {
+    type Item = Report;
+
+    fn next(&mut self) -> Option<Report> {
+        self.left = self.left.checked_sub(1)?;
+        let told = self.next;
+        // Behind the last one there may be no number.
+        self.next.ticket.number = told.ticket.number.wrapping_add(1);
+        if let Outcome::Delivered { offset } = &mut self.next.outcome {
+            *offset = offset.wrapping_add(1);
+        }
+        Some(told)
     }
 }
 

@@ -4,8 +4,9 @@ use crate::bell::Bell;
 use crate::connect::{Connector, Stream};
 use crate::ffi::{self, status, Action, Core, Polled};
 use crate::line::{Line, Open};
+use crate::report::Run;
 use crate::shared::{millis, Inner};
-use crate::{ErrorCode, Report};
+use crate::ErrorCode;
 use std::io::{self, ErrorKind};
 use std::iter;
 use std::mem;
@@ -39,7 +40,7 @@ pub(crate) struct Service {
     attempts: u64,
     makes: Sender<Made>,
     made: Receiver<Made>,
-    reports: Vec<ffi::Report>,
+    runs: Vec<ffi::Run>,
     warnings: Vec<String>,
     phase: u32,
     refused: i32,
@@ -76,7 +77,7 @@ impl Service {
             attempts: 0,
             makes,
             made,
-            reports: vec![ffi::Report::default(); REPORTS],
+            runs: vec![ffi::Run::default(); REPORTS],
             warnings: Vec::new(),
             phase: 0,
             refused: 0,
@@ -176,7 +177,7 @@ impl Service {
     /// Makes the library's calls: it hears what came, and tells what is to be done.
     pub(crate) fn call(&mut self, inner: &mut Inner) -> Called {
         let was_rung = mem::take(&mut inner.is_rung);
-        inner.was_helped = false;
+        (inner.turned_at, inner.was_helped) = (inner.core.now(), false);
         self.tell_lines(&mut inner.core);
         inner.core.tick();
         if inner.gives_up {
@@ -283,9 +284,10 @@ impl Service {
     fn fetch(&mut self, inner: &mut Inner) -> bool {
         let before = inner.told.len();
         loop {
-            let count = inner.core.reports(&mut self.reports);
-            inner.told.extend(self.reports[..count].iter().map(|it| Report::from(*it)));
-            if count < REPORTS {
+            let count = inner.core.runs(&mut self.runs);
+            let runs = &self.runs[..count];
+            inner.told.extend(runs.iter().map(Run::from));
+            if runs.iter().map(|it| it.count).sum::<u64>() < REPORTS as u64 {
                 break;
             }
         }

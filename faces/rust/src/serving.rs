@@ -7,22 +7,32 @@
 //! is to go out now, where the thread that has the seat sleeps, or nobody has it: full batches, and of records that don't linger
 //! the first since a turn was made. For those that follow it rings, so that they go out many at a time.
 //!
+//! Of records that linger, a thread that sends many serves too, between one and the next: whenever so much was accepted that a
+//! batch may be full, it makes a turn where the seat is vacant, without waiting in `poll`. So what it accepts, what is written of
+//! it and what is heard stay in the caches of one processor, and it does not run ahead as far as there is room. The others leave
+//! the seat to it, until for a [`MOMENT`] no sender has come so far: who has the seat leaves it as soon as `poll` ends, and who
+//! waits looks once in a moment.
+//!
 //! # Locks
 //!
 //! - The *service* ([`Shared::service`]) guards the sockets, and the bytes that were read and not heard, or taken and not written.
-//!   It is held in a turn by the thread that has the seat, and by a sender that takes and writes.
+//!   It is held in a turn by the thread that has the seat, and by a sender without the seat that takes and writes.
 //! - The *producer's lock* ([`Shared::lock`]) guards the library's producer, the reports that nobody has fetched, the seat, and all
 //!   else by which threads tell each other something. It is held for some calls of the library.
 //!
-//! **Order.** Who holds the service may take the producer's lock, and never the other way round. A sender only tries the service,
-//! and rings where somebody has it.
+//! **Order.** Who holds the service may take the producer's lock, and never the other way round. A sender without the seat only
+//! tries the service, and rings where somebody has it.
 //!
 //! **Blocking.** Nobody holds the producer's lock while it waits, or while streams, connectors or callbacks run: these are the
 //! caller's, and may call the producer. In `poll`, in a callback and while a connection is made, no lock is held. Streams are read,
 //! written and dropped by a thread that holds the service; they do not block, since their sockets are set so.
 //!
 //! **Sockets** come and go only in a turn, so that in `poll` each of the list is there, but for the moment in which a panic ends
-//! all. A sender does no more than write: the answer ends the `poll` that has begun before, since each open socket is in its list.
+//! all. A sender without the seat does no more than write: the answer ends the `poll` that has begun before, since each open socket
+//! is in its list.
+//!
+//! **The clock** is asked with each hold of the producer's lock, but for a record that is accepted while the host stands by for a
+//! moment (`is_timed`): the host has asked when that began, and asks when it ends. It takes longer than the lock.
 //!
 //! # Why no wake-up is lost
 //!
@@ -47,10 +57,15 @@
 //! - *The seat is left* (`vacate`), *and a thread begins to wait* ([`Shared::wait_until`]). Where the first comes first, the seat
 //!   is vacant, and the thread takes it. Where the second does, the thread is among `waiting`, all of which are woken: one that has
 //!   still to wait takes the seat.
+//! - *A sender serves, and a thread waits* (`stand_aside`). It sleeps for a moment, and looks, and is not among `waiting`: nobody
+//!   need wake it, and it seldom has the sender wait for the lock. When no sender has come for a moment it waits as others do. A
+//!   sender that itself begins to wait says that it sends no more.
+//! - *The seat is left to a sender, without a turn.* What `poll` has told of the sockets the next one tells too. What the bell has
+//!   told it does not: where it was rung, there is a turn first.
 //! - *The seat is left, and the host stands by* ([`Shared::stand_by`]). While the seat is vacant the host waits for a [`MOMENT`] at
-//!   most, and takes it where nobody else did for so long, or something is rung for or due. Without a limit it waits only while
-//!   another thread has the seat, and says so by `is_host_asleep`, by which who leaves wakes it. So a thread that waits again and
-//!   again wakes nobody, and what nobody waits for is left alone for two moments at most.
+//!   most, and takes it where nobody else did for so long, and no sender came, or something is rung for or due. Without a limit it
+//!   waits only while another thread has the seat, and says so by `is_host_asleep`, by which who leaves wakes it. So a thread that
+//!   waits again and again wakes nobody, and what nobody waits for is left alone for two moments at most.
 //! - *There is news* (reports, room, another phase), *and a thread waits for it*. It comes by the thread's own turn, or by
 //!   another's, whose thread wakes all of `waiting` before it sleeps or when it leaves (`is_new`). What comes by no turn
 //!   (`put_back`, `close`, the end of a `flush`) wakes these, and who serves ([`Shared::stir`]).
@@ -78,13 +93,15 @@ use std::cell::Cell;
 use std::mem;
 use std::ptr;
 use std::sync::{MutexGuard, PoisonError, TryLockError};
-use std::time::Duration;
+use std::thread;
+use std::time::{Duration, Instant};
 
 /// For how long, in milliseconds, who serves rests where what it was woken for can't be sent yet: so long senders need not wake it.
 const REST_MS: u64 = 1;
 
-/// How long the seat may be vacant until the host looks.
-const MOMENT: Duration = Duration::from_millis(1);
+/// How long, in milliseconds, the seat may be vacant until the host looks, and is left to a sender that came.
+pub(crate) const MOMENT_MS: u64 = 1;
+const MOMENT: Duration = Duration::from_millis(MOMENT_MS);
 
 /// Who serves.
 #[derive(Clone, Copy, Debug, PartialEq, Eq)]
@@ -100,6 +117,11 @@ pub(crate) enum Seat {
 thread_local! {
     /// The producer in whose callback, or with whose sockets, this thread is.
     static WITHIN: Cell<*const Shared> = const { Cell::new(ptr::null()) };
+}
+
+/// A number of this thread, which no other one has that lives.
+pub(crate) fn this_thread() -> usize {
+    WITHIN.with(|it| ptr::from_ref(it).addr())
 }
 
 /// This thread is within a producer, until this is dropped: then it is within this one again.
@@ -143,6 +165,18 @@ struct Turn {
     is_busy: bool,
     /// A socket takes no more for now.
     wants_to_write: bool,
+}
+
+impl Turn {
+    /// Whether there is something for who serves next.
+    fn is_left(&self) -> bool {
+        self.is_busy || self.wants_to_write
+    }
+
+    /// Whether the seat is for a sender.
+    fn leaves_to_sender(&self, inner: &Inner) -> bool {
+        !self.is_left() && inner.is_left_to_sender()
+    }
 }
 
 impl Shared {
@@ -243,12 +277,17 @@ impl Shared {
 
     /// Waits until this is so, or nothing more comes, or this moment, and serves meanwhile where nobody does.
     pub(crate) fn wait_until<'a>(&'a self, mut inner: Held<'a>, until: u64, is_so: impl Fn(&mut Inner) -> bool) -> Held<'a> {
+        if inner.sender.is_some_and(|(thread, _)| thread == this_thread()) {
+            inner.sender = None;
+        }
         while !inner.has_ended() && !is_so(&mut inner) && inner.core.now() < until {
-            if inner.seat == Seat::Vacant && !inner.has_callback {
-                inner = self.serve(inner, until, &is_so);
+            inner = if inner.is_left_to_sender() && !inner.is_rung {
+                self.stand_aside(inner, until)
+            } else if inner.seat == Seat::Vacant && !inner.has_callback {
+                self.serve(inner, until, &is_so)
             } else {
-                inner = self.pause(inner, until);
-            }
+                self.pause(inner, until)
+            };
         }
         inner
     }
@@ -259,19 +298,31 @@ impl Shared {
         let left = Duration::from_millis(until.saturating_sub(inner.core.now()));
         let (mut inner, _) = self.progress.wait_timeout(inner, left).unwrap_or_else(PoisonError::into_inner);
         inner.waiting -= 1;
-        inner.core.set_now(self.now());
+        self.tell_time(&mut inner, Instant::now());
         inner
     }
 
+    /// Looks away for a moment, in which a sender serves.
+    fn stand_aside<'a>(&'a self, inner: Held<'a>, until: u64) -> Held<'a> {
+        let left = Duration::from_millis(until.saturating_sub(inner.core.now()));
+        drop(inner);
+        thread::sleep(left.min(MOMENT));
+        self.lock()
+    }
+
     /// The host waits: for a moment, or until the thread that has the seat leaves it.
-    pub(crate) fn stand_by(&self, mut inner: Held<'_>, is_long: bool) {
+    pub(crate) fn stand_by<'a>(&'a self, mut inner: Held<'a>, is_long: bool) -> Held<'a> {
         if is_long {
             inner.is_host_asleep = true;
-            let waited = self.vacancy.wait(inner);
-            waited.unwrap_or_else(PoisonError::into_inner).is_host_asleep = false;
+            inner = self.vacancy.wait(inner).unwrap_or_else(PoisonError::into_inner);
+            inner.is_host_asleep = false;
         } else {
-            drop(self.vacancy.wait_timeout(inner, MOMENT));
+            inner.is_timed = true;
+            (inner, _) = self.vacancy.wait_timeout(inner, MOMENT).unwrap_or_else(PoisonError::into_inner);
+            inner.is_timed = false;
         }
+        self.tell_time(&mut inner, Instant::now());
+        inner
     }
 
     // ---- serving
@@ -281,22 +332,44 @@ impl Shared {
     }
 
     /// Takes the seat, which is vacant, and serves until this is so, or nothing more comes, or this moment.
-    pub(crate) fn serve<'a>(&'a self, mut inner: Held<'a>, until: u64, is_so: impl Fn(&mut Inner) -> bool) -> Held<'a> {
+    pub(crate) fn serve<'a>(&'a self, inner: Held<'a>, until: u64, is_so: impl Fn(&mut Inner) -> bool) -> Held<'a> {
+        let (turn, inner) = self.sit(inner, until, is_so);
+        self.vacate(inner, turn.is_left())
+    }
+
+    /// A sender takes the seat, which is vacant, between one record and the next, and makes turns while there is something to do at
+    /// once.
+    pub(crate) fn serve_between(&self, inner: Held<'_>) {
+        let (mut turn, mut inner) = self.sit(inner, 0, |_| true);
+        while turn.is_busy {
+            (turn, inner) = self.sit(inner, 0, |_| true);
+        }
+        drop(self.vacate(inner, turn.is_left()));
+    }
+
+    /// Has the seat until this is so, or nothing more comes, or this moment: what the last turn has come to.
+    fn sit<'a>(&'a self, mut inner: Held<'a>, until: u64, is_so: impl Fn(&mut Inner) -> bool) -> (Turn, Held<'a>) {
         inner.seat = Seat::Awake;
         inner.moves += 1;
         let ending = Ending(self);
         let (mut turn, mut polled) = (Turn::default(), Vec::new());
         loop {
             self.sleep(inner, &turn, until, &mut polled);
+            inner = self.lock();
+            let is_rung = inner.seat == Seat::Awake || polled[0].may_be_read();
+            if !is_rung && turn.leaves_to_sender(&inner) {
+                break;
+            }
+            drop(inner);
             (turn, inner) = self.turn(&mut polled);
-            let is_done = inner.is_over || is_so(&mut inner) || until <= inner.core.now();
+            let is_done = is_so(&mut inner) || until <= inner.core.now() || turn.leaves_to_sender(&inner);
             // What others have rung for meanwhile is sent first, as far as it can be.
-            if is_done && (!inner.is_rung || turn.called.was_in_vain || inner.is_over) {
+            if inner.is_over || (is_done && (!inner.is_rung || turn.called.was_in_vain)) {
                 break;
             }
         }
         mem::forget(ending);
-        self.vacate(inner, turn.is_busy || turn.wants_to_write)
+        (turn, inner)
     }
 
     /// Waits in `poll` until there is something to do, or this moment.
@@ -307,7 +380,7 @@ impl Shared {
             left = 0;
         } else if was_in_vain {
             left = left.min(REST_MS);
-        } else {
+        } else if left > 0 {
             inner.seat = Seat::Asleep;
         }
         let is_waited_for = mem::take(&mut inner.is_new) && inner.waiting > 0;

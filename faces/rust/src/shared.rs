@@ -2,9 +2,10 @@
 
 use crate::bell::Bell;
 use crate::ffi::{self, Core};
+use crate::report::Run;
 use crate::service::Service;
-use crate::serving::Seat;
-use crate::{ErrorCode, Report, SendErrorKind, WaitError};
+use crate::serving::{this_thread, Seat, MOMENT_MS};
+use crate::{ErrorCode, SendErrorKind, WaitError};
 use std::collections::VecDeque;
 use std::fmt;
 use std::mem;
@@ -25,12 +26,14 @@ fn timestamp_now() -> i64 {
 /// What is under the producer's lock.
 pub(crate) struct Inner {
     pub(crate) core: Core,
+    /// When the library is told another time, of which it knows whole milliseconds.
+    ticks_at: Instant,
     /// The timestamp of what is accepted at this moment, so that the system's clock is asked for it once a millisecond.
     stamp: (u64, i64),
     /// Reports go to a callback, by the host.
     pub(crate) has_callback: bool,
     /// Reports that nobody has fetched, or that the callback was not given.
-    pub(crate) told: VecDeque<Report>,
+    pub(crate) told: VecDeque<Run>,
     /// Reports are on their way to the callback.
     pub(crate) is_telling: bool,
     /// What the host is to tell by the other callback.
@@ -45,10 +48,16 @@ pub(crate) struct Inner {
     pub(crate) wakes_at: u64,
     /// About how many bytes were accepted since somebody looked.
     pub(crate) unseen: u64,
+    /// The thread that has last sent so much that there may have been a full batch, and when.
+    pub(crate) sender: Option<(usize, u64)>,
+    /// When a turn was made.
+    pub(crate) turned_at: u64,
     /// A sender has written since a turn was made.
     pub(crate) was_helped: bool,
     /// The host waits without a limit until the seat is left.
     pub(crate) is_host_asleep: bool,
+    /// The host waits for a moment, and then tells the time.
+    pub(crate) is_timed: bool,
 
     /// How often there was news: reports, another phase, a close.
     pub(crate) news: u64,
@@ -70,9 +79,10 @@ pub(crate) struct Inner {
 }
 
 impl Inner {
-    fn new(core: Core, has_callback: bool) -> Inner {
+    fn new(core: Core, has_callback: bool, began: Instant) -> Inner {
         Inner {
             core,
+            ticks_at: began,
             stamp: (u64::MAX, 0),
             has_callback,
             told: VecDeque::new(),
@@ -83,8 +93,11 @@ impl Inner {
             is_rung: true, // The host begins at once.
             wakes_at: 0,
             unseen: 0,
+            sender: None,
+            turned_at: 0,
             was_helped: false,
             is_host_asleep: false,
+            is_timed: false,
             news: 0,
             is_new: false,
             waiting: 0,
@@ -113,6 +126,16 @@ impl Inner {
     /// Whether the host is to take the seat, where it is vacant, without leaving others a moment for it.
     pub(crate) fn needs_host(&self) -> bool {
         self.has_callback || (self.is_rung && self.waiting == 0) || self.wakes_at <= self.core.now()
+    }
+
+    /// Whether another thread sends so much that it serves.
+    pub(crate) fn is_left_to_sender(&self) -> bool {
+        self.sender.is_some_and(|(thread, at)| thread != this_thread() && self.core.now() <= at + MOMENT_MS)
+    }
+
+    /// Whether an answer may have come, or no turn was made in this millisecond.
+    fn may_hear(&mut self) -> bool {
+        self.core.state().requests_in_flight > 0 || self.turned_at < self.core.now()
     }
 
     /// Whether nothing more is accepted, so that all is done once there are no records without a report.
@@ -176,14 +199,15 @@ static LIVING: Mutex<Vec<Weak<Shared>>> = Mutex::new(Vec::new());
 
 impl Shared {
     pub(crate) fn new(core: Core, service: Service, bell: Arc<Bell>, settings: Settings) -> Arc<Shared> {
+        let began = Instant::now();
         let shared = Arc::new(Shared {
             service: Mutex::new(service),
-            inner: Mutex::new(Inner::new(core, settings.has_callback)),
+            inner: Mutex::new(Inner::new(core, settings.has_callback, began)),
             bell,
             progress: Condvar::new(),
             vacancy: Condvar::new(),
             settings,
-            began: Instant::now(),
+            began,
             forks: ffi::forks(),
         });
         let mut living = LIVING.lock().unwrap_or_else(PoisonError::into_inner);
@@ -198,10 +222,28 @@ impl Shared {
     }
 
     pub(crate) fn lock(&self) -> Held<'_> {
-        let now = self.now();
+        let now = Instant::now();
         let mut inner = self.inner.lock().unwrap_or_else(PoisonError::into_inner);
-        inner.core.set_now(now);
+        self.tell_time(&mut inner, now);
         inner
+    }
+
+    /// As `lock`, for a record: at a time that may be a moment ago.
+    fn lock_soon(&self) -> Held<'_> {
+        let mut inner = self.inner.lock().unwrap_or_else(PoisonError::into_inner);
+        if !inner.is_timed {
+            self.tell_time(&mut inner, Instant::now());
+        }
+        inner
+    }
+
+    /// Tells the library the time, where another millisecond has begun.
+    pub(crate) fn tell_time(&self, inner: &mut Inner, now: Instant) {
+        if now >= inner.ticks_at {
+            let millis = millis(now - self.began);
+            inner.core.set_now(millis);
+            inner.ticks_at = self.began + Duration::from_millis(millis + 1);
+        }
     }
 
     /// Whether this is another process than that which has built the producer. In it no lock is to be taken: who held it is gone.
@@ -227,7 +269,7 @@ impl Shared {
         }
         let (mut timestamp_ms, mut until) = (None, None);
         loop {
-            let mut inner = self.lock();
+            let mut inner = self.lock_soon();
             let timestamp_ms = *timestamp_ms.get_or_insert_with(|| inner.timestamp());
             let kind = match call(&mut inner.core, timestamp_ms) {
                 Ok(accepted) => {
@@ -256,25 +298,40 @@ impl Shared {
     }
 
     /// Has what was accepted looked at, where there may be a full batch, or it lingers for less long than who serves sleeps.
+    #[inline]
     fn look_at(&self, mut inner: Held<'_>, bytes: u64) {
         inner.unseen += bytes;
         let is_full = inner.unseen >= self.settings.batch_size;
         let is_due = inner.core.now().saturating_add(self.settings.linger_ms) < inner.wakes_at;
-        if !is_full && !is_due {
+        if is_full || is_due {
+            self.look_now(inner, is_full);
+        }
+    }
+
+    fn look_now(&self, mut inner: Held<'_>, is_full: bool) {
+        if self.settings.linger_ms == 0 {
+            // The first alone is written here. Who serves has the others, many at a time; and it rests where they can't be sent yet,
+            // so that not each of them is looked at in vain.
+            if mem::replace(&mut inner.was_helped, true) {
+                self.ring(inner);
+            } else if self.look(inner) {
+                self.ring(self.lock());
+            }
             return;
         }
-        // Of records that go out at once the first alone is written here. Who serves has the others, many at a time; and it rests where
-        // they can't be sent yet, so that not each of them is looked at in vain.
-        let lingers = self.settings.linger_ms > 0;
-        if !lingers && mem::replace(&mut inner.was_helped, true) {
-            self.ring(inner);
-        } else if self.look(inner) && !lingers {
-            self.ring(self.lock());
+        let serves = is_full && !inner.has_callback && !self.is_within();
+        if serves {
+            inner.sender = Some((this_thread(), inner.core.now()));
+        }
+        if serves && inner.seat == Seat::Vacant && inner.may_hear() {
+            self.serve_between(inner);
+        } else {
+            self.look(inner);
         }
     }
 
     /// All reports that nobody has fetched, which are waited for; none where the time is over, or none comes any more.
-    pub(crate) fn fetch(&self, timeout_ms: u64) -> VecDeque<Report> {
+    pub(crate) fn fetch(&self, timeout_ms: u64) -> VecDeque<Run> {
         if self.is_forked() || self.settings.has_callback {
             return VecDeque::new();
         }
@@ -283,7 +340,7 @@ impl Shared {
     }
 
     /// Puts reports back that were fetched, in front of those that came since.
-    pub(crate) fn put_back(&self, mut reports: VecDeque<Report>) {
+    pub(crate) fn put_back(&self, mut reports: VecDeque<Run>) {
         if !reports.is_empty() && !self.is_forked() {
             let mut inner = self.lock();
             reports.append(&mut inner.told);

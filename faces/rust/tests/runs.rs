@@ -3,7 +3,7 @@
 mod common;
 
 use common::{check, quiet_port, record, records_in, run, send_all, warnings, Broker, Masked, Relay, COUNT, LONG, TOPIC};
-use lembicsov::{Connect, ErrorCode, Outcome, Producer, Record, Report, SendErrorKind, Tcp, WaitError};
+use lembicsov::{Connect, ErrorCode, Outcome, Producer, Record, Report, SendErrorKind, Tcp, Ticket, WaitError};
 use std::collections::HashMap;
 use std::fs;
 use std::io;
@@ -420,6 +420,19 @@ fn close_gives_up_in_an_outage() {
     let given_up = reports.iter().filter(|it| matches!(it.outcome, Outcome::Unknown | Outcome::Ended)).count();
     assert_eq!((delivered, given_up), (sent.len(), more.len()));
     assert_eq!(producer.send(Record::new("a")).unwrap_err().kind, SendErrorKind::Closed);
+}
+
+#[test]
+fn reports_of_a_batch_are_given_in_pieces() {
+    let broker = Broker::start(1, 1, "");
+    let producer = broker.builder().linger(LONG).delivery_timeout(2 * LONG).build().unwrap();
+    let tickets: Vec<_> = (0..10).map(|_| producer.send(Record::new("a")).unwrap()).collect();
+    producer.flush(LONG).unwrap();
+    let pieces = (0..9).flat_map(|it| producer.reports().take(it % 3).collect::<Vec<_>>());
+    let told: Vec<_> = pieces.chain(producer.reports().timeout(Duration::ZERO)).collect();
+    let delivered = |ticket: &Ticket| Report { ticket: *ticket, outcome: Outcome::Delivered { offset: ticket.number as i64 } };
+    assert_eq!(told, tickets.iter().map(delivered).collect::<Vec<_>>());
+    producer.close(LONG).unwrap();
 }
 
 #[test]

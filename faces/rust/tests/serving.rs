@@ -359,13 +359,17 @@ fn ends_when_lit(connector: impl Connect, is_lit: &AtomicBool) {
     thread::sleep(SECOND / 20);
     is_lit.store(true, Ordering::SeqCst);
     let sending = spawn(1, &producer, |_, producer| producer.send(Record::new("b")).is_ok());
-    let unwound = sending.into_iter().filter_map(|it| it.join().err()).count();
+    let sent: Vec<_> = sending.into_iter().map(JoinHandle::join).collect();
+    let unwound = sent.iter().filter(|it| it.is_err()).count();
+    // What another connection reads or writes may have met it before.
+    let accepted = sent.iter().filter(|it| !matches!(it, Ok(false))).count();
     let counts: Vec<_> = waiting.into_iter().map(JoinHandle::join).collect();
     assert!(unwound + counts.iter().filter(|it| it.is_err()).count() <= 1, "one thread alone has met it");
     assert!(counts.into_iter().flatten().sum::<usize>() <= 1);
     assert_eq!(producer.send(Record::new("c")).unwrap_err().kind, SendErrorKind::Closed);
-    assert_eq!(producer.open_records(), 1);
-    assert!(producer.flush(LONG).is_err() && producer.close(LONG).is_err());
+    assert_eq!(producer.open_records(), accepted as u64);
+    assert_eq!(producer.flush(LONG).is_err(), accepted > 0);
+    assert_eq!(producer.close(LONG).is_err(), accepted > 0);
 }
 
 #[test]
@@ -404,4 +408,133 @@ fn a_stream_may_send() {
     assert!(begun.elapsed() < LONG / 2, "a call in a stream waits");
     producer.close(LONG).unwrap();
     assert_eq!(producer.reports().filter(|it| it.outcome.is_delivered()).count(), 1 + MOST + count.load(Ordering::SeqCst));
+}
+
+// ---- senders that serve
+
+/// The name of threads that send, by which it is seen that these have read.
+const SENDER: &str = "sender";
+
+fn is_sender() -> bool {
+    thread::current().name() == Some(SENDER)
+}
+
+/// A producer whose batches are small and linger, and which has connections. In it each sender soon serves.
+fn lingering(broker: &Broker, connector: impl Connect) -> (Producer, Sent) {
+    let producer = broker.builder().linger(SECOND / 100).batch_size(2000).build_over(connector).unwrap();
+    let (record, value) = record(0, 0);
+    let sent = vec![(producer.send(record).unwrap(), value)];
+    producer.flush(LONG).unwrap();
+    (producer, sent)
+}
+
+/// Sends from so many threads, until this is so.
+fn send_until(threads: usize, producer: &Producer, is_so: impl Fn() -> bool) -> Sent {
+    let send = |thread| {
+        let producer = producer.clone();
+        let records = (0..5000).map(move |it| record(thread, it));
+        let send = move || records.map(|(it, value)| (producer.send(it).unwrap(), value)).collect();
+        thread::Builder::new().name(SENDER.into()).spawn(send).unwrap()
+    };
+    let (mut sent, until) = (Sent::new(), Instant::now() + LONG);
+    while !is_so() && Instant::now() < until {
+        sent.extend(join((0..threads).map(send).collect()));
+    }
+    assert!(is_so());
+    sent
+}
+
+/// What counts how often senders have called it.
+fn counter() -> (impl Hook, Arc<AtomicUsize>) {
+    let count = Arc::new(AtomicUsize::new(0));
+    let counts = Arc::clone(&count);
+    let add = move || {
+        counts.fetch_add(usize::from(is_sender()), Ordering::SeqCst);
+    };
+    (add, count)
+}
+
+#[test]
+fn many_senders_serve_where_nobody_waits() {
+    let broker = Broker::start(3, 3, "");
+    let (add, count) = counter();
+    let (producer, mut sent) = lingering(&broker, Hooked(add, || ()));
+    sent.extend(send_until(4, &producer, || count.load(Ordering::SeqCst) > 100));
+    assert!(comes(|| producer.open_records() == 0), "the host serves behind the last of them");
+    producer.close(LONG).unwrap();
+    check(&sent, &producer.reports().collect::<Vec<_>>(), &broker.end());
+}
+
+#[test]
+fn a_sender_serves_while_others_wait() {
+    let broker = Broker::start(3, 1, "");
+    let (add, count) = counter();
+    let (producer, mut sent) = lingering(&broker, Hooked(add, || ()));
+    let waiting = spawn(2, &producer, |_, producer| producer.reports().collect::<Vec<_>>());
+    for round in 1..=10 {
+        sent.extend(send_until(1, &producer, || count.load(Ordering::SeqCst) > 20 * round));
+        assert!(comes(|| producer.open_records() == 0), "who waits serves behind it");
+    }
+    producer.close(LONG).unwrap();
+    check(&sent, &join(waiting), &broker.end());
+}
+
+#[test]
+fn senders_flush_while_others_send() {
+    let broker = Broker::start(3, 1, "");
+    let (producer, mut sent) = lingering(&broker, Tcp);
+    let send = |thread, producer: Producer| {
+        let send = |number| {
+            let (record, value) = record(thread, number);
+            let ticket = producer.send(record).unwrap();
+            if number % (500 + thread) == 0 {
+                producer.flush(LONG).unwrap();
+            }
+            (ticket, value)
+        };
+        (0..20_000).map(send).collect::<Sent>()
+    };
+    sent.extend(join(spawn(4, &producer, send)));
+    producer.close(LONG).unwrap();
+    check(&sent, &producer.reports().collect::<Vec<_>>(), &broker.end());
+}
+
+#[test]
+fn a_read_that_panics_in_a_sender_ends_the_producer() {
+    let broker = Broker::start(1, 1, "");
+    let (go_off, is_lit) = bomb();
+    let go_off_in_sender = move || {
+        if is_sender() {
+            go_off();
+        }
+    };
+    let (producer, _) = lingering(&broker, Hooked(go_off_in_sender, || ()));
+    let waiting = spawn(2, &producer, |_, producer| producer.reports().count());
+    is_lit.store(true, Ordering::SeqCst);
+    let own = producer.clone();
+    let send = move || while own.send(Record::new(vec![b'x'; 100])).is_ok() {};
+    assert!(thread::Builder::new().name(SENDER.into()).spawn(send).unwrap().join().is_err());
+    assert!(waiting.into_iter().all(|it| it.join().is_ok()));
+    assert_eq!(producer.send(Record::new("c")).unwrap_err().kind, SendErrorKind::Closed);
+    assert!(producer.flush(LONG).is_err() && producer.close(LONG).is_err());
+}
+
+#[test]
+fn a_stream_may_send_while_a_sender_reads_it() {
+    const MOST: usize = 100;
+    let broker = Broker::start(1, 1, "");
+    let own: Arc<OnceLock<Producer>> = Arc::default();
+    let count = Arc::new(AtomicUsize::new(0));
+    let (borrowed, counted) = (Arc::clone(&own), Arc::clone(&count));
+    let send = move || {
+        let Some(producer) = borrowed.get().filter(|_| is_sender() && counted.load(Ordering::SeqCst) < MOST) else { return };
+        producer.send(Record::new(vec![b'n'; 3000])).unwrap();
+        counted.fetch_add(1, Ordering::SeqCst);
+    };
+    let (producer, first) = lingering(&broker, Hooked(send, || ()));
+    own.set(producer.clone()).unwrap();
+    let sent = send_until(1, &producer, || count.load(Ordering::SeqCst) == MOST);
+    producer.close(LONG).unwrap();
+    let count = first.len() + sent.len() + MOST;
+    assert_eq!(producer.reports().filter(|it| it.outcome.is_delivered()).count(), count);
 }
