@@ -1,4 +1,4 @@
-//! Each 97th allocation of the library is refused: it takes these functions of the program where that has them.
+//! One in 97 allocations of the library is refused: it takes these functions of the program where that has them.
 
 mod common;
 
@@ -26,7 +26,10 @@ pub struct Tried {
 
 impl Tried {
     fn of(allocate: impl Fn() -> *mut c_void) -> Tried {
-        let is_refused = COUNT.fetch_add(1, Ordering::Relaxed) % EACH == EACH - 1;
+        let count = COUNT.fetch_add(1, Ordering::Relaxed);
+        let (round, place) = (count / EACH, count % EACH);
+        // Were these evenly spaced, what is tried again would meet the refusal at the same place again and again.
+        let is_refused = place == (41 * round * round + EACH - 1) % EACH;
         REFUSED.fetch_add(usize::from(is_refused), Ordering::Relaxed);
         let at = if is_refused { std::ptr::null_mut() } else { allocate() };
         match at.is_null() {
