@@ -119,6 +119,13 @@ pub(crate) struct State {
     pub(crate) is_flushed: bool,
 }
 
+impl State {
+    /// Whether all that is open is one record, which is on its way.
+    pub(crate) fn is_only_one(&self) -> bool {
+        self.untold == 1 && self.requests_in_flight == 1
+    }
+}
+
 /// `KP_FAILED`.
 pub(crate) const FAILED: u32 = 2;
 
@@ -369,13 +376,18 @@ impl Polled {
     pub(crate) fn may_be_read(&self) -> bool {
         self.revents & !POLLOUT != 0
     }
+
+    pub(crate) fn is_ready(&self) -> bool {
+        self.revents != 0
+    }
 }
 
-/// Waits until one of them is ready, for so many milliseconds at most. Where it fails, none is told as ready.
-pub(crate) fn wait_for(polled: &mut [Polled], timeout_ms: u64) {
+/// Waits until one of them is ready, for so many milliseconds at most, and tells how many are. Where it fails, none is told as ready.
+pub(crate) fn wait_for(polled: &mut [Polled], timeout_ms: u64) -> usize {
     let timeout = c_int::try_from(timeout_ms).unwrap_or(c_int::MAX);
     // SAFETY: the slice is of so many elements of C's layout.
-    unsafe { poll(polled.as_mut_ptr(), polled.len() as c_ulong, timeout) };
+    let count = unsafe { poll(polled.as_mut_ptr(), polled.len() as c_ulong, timeout) };
+    usize::try_from(count).unwrap_or(0)
 }
 
 /// Has the system look, from time to time, whether a peer that says nothing is still there.

@@ -31,6 +31,10 @@
 //! all. A sender without the seat does no more than write: the answer ends the `poll` that has begun before, since each open socket
 //! is in its list.
 //!
+//! **Awake.** In `poll` a thread sleeps, but for who waits for the answer to the only record: it looks for a [`GLANCE`] first
+//! (`wait_for_one`), ever more seldom where that is in vain. The seat seems asleep meanwhile: the bell ends such a look as it ends
+//! `poll`.
+//!
 //! **The clock** is asked with each hold of the producer's lock, but for a record that is accepted while the host stands by for a
 //! moment (`is_timed`): the host has asked when that began, and asks when it ends. It takes longer than the lock.
 //!
@@ -92,6 +96,7 @@ use crate::shared::{Held, Inner, Shared};
 use std::cell::Cell;
 use std::mem;
 use std::ptr;
+use std::sync::atomic::{AtomicU32, Ordering};
 use std::sync::{MutexGuard, PoisonError, TryLockError};
 use std::thread;
 use std::time::{Duration, Instant};
@@ -102,6 +107,9 @@ const REST_MS: u64 = 1;
 /// How long, in milliseconds, the seat may be vacant until the host looks, and is left to a sender that came.
 pub(crate) const MOMENT_MS: u64 = 1;
 const MOMENT: Duration = Duration::from_millis(MOMENT_MS);
+
+/// For how long who waits for the answer to the only record stays awake, at most.
+const GLANCE: Duration = Duration::from_micros(60);
 
 /// Who serves.
 #[derive(Clone, Copy, Debug, PartialEq, Eq)]
@@ -176,6 +184,33 @@ impl Turn {
     /// Whether the seat is for a sender.
     fn leaves_to_sender(&self, inner: &Inner) -> bool {
         !self.is_left() && inner.is_left_to_sender()
+    }
+}
+
+/// How often who waits for the answer to the only record looks for it awake: ever more seldom, where it does not come so soon. Who
+/// has the seat alone uses it.
+#[derive(Debug, Default)]
+pub(crate) struct Glances {
+    /// So many of those that wait go to sleep at once, behind one that has looked in vain.
+    pause: AtomicU32,
+    /// How many of these there are still.
+    left: AtomicU32,
+}
+
+impl Glances {
+    const MOST: u32 = 1023;
+
+    fn is_one_due(&self) -> bool {
+        let left = self.left.load(Ordering::Relaxed);
+        self.left.store(left.saturating_sub(1), Ordering::Relaxed);
+        left == 0
+    }
+
+    fn note(&self, has_come: bool) {
+        let pause = self.pause.load(Ordering::Relaxed);
+        let pause = if has_come { pause / 2 } else { (2 * pause + 1).min(Self::MOST) };
+        self.pause.store(pause, Ordering::Relaxed);
+        self.left.store(if has_come { 0 } else { pause }, Ordering::Relaxed);
     }
 }
 
@@ -385,6 +420,7 @@ impl Shared {
         }
         let is_waited_for = mem::take(&mut inner.is_new) && inner.waiting > 0;
         let has_warnings = !inner.warnings.is_empty();
+        let is_only_one = left > 0 && inner.core.state().is_only_one();
         drop(inner);
         if is_waited_for {
             self.progress.notify_all();
@@ -395,10 +431,29 @@ impl Shared {
         if polled.is_empty() {
             self.service().list(polled);
         }
-        ffi::wait_for(polled, left);
+        if is_only_one {
+            self.wait_for_one(polled, left);
+        } else {
+            ffi::wait_for(polled, left);
+        }
         if polled[0].may_be_read() {
             self.bell.quiet();
         }
+    }
+
+    /// Waits for the answer to the only record: awake for a [`GLANCE`], since going to sleep and being woken would take about as
+    /// long as an answer that comes so soon.
+    fn wait_for_one(&self, polled: &mut [Polled], left: u64) {
+        if self.glances.is_one_due() {
+            let began = Instant::now();
+            while ffi::wait_for(polled, 0) == 0 && began.elapsed() < GLANCE {}
+            let has_come = polled.iter().any(Polled::is_ready);
+            self.glances.note(has_come);
+            if has_come {
+                return;
+            }
+        }
+        ffi::wait_for(polled, left);
     }
 
     /// Reads, makes the library's calls and writes, and lists what is to be waited for.

@@ -4,7 +4,7 @@ use crate::bell::Bell;
 use crate::ffi::{self, Core};
 use crate::report::Run;
 use crate::service::Service;
-use crate::serving::{this_thread, Seat, MOMENT_MS};
+use crate::serving::{this_thread, Glances, Seat, MOMENT_MS};
 use crate::{ErrorCode, SendErrorKind, WaitError};
 use std::collections::VecDeque;
 use std::fmt;
@@ -184,6 +184,7 @@ pub(crate) struct Shared {
     /// The seat is vacant, or there is something for the host alone.
     pub(crate) vacancy: Condvar,
     pub(crate) settings: Settings,
+    pub(crate) glances: Glances,
     began: Instant,
     forks: u32,
 }
@@ -207,6 +208,7 @@ impl Shared {
             progress: Condvar::new(),
             vacancy: Condvar::new(),
             settings,
+            glances: Glances::default(),
             began,
             forks: ffi::forks(),
         });
