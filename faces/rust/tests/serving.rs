@@ -164,23 +164,25 @@ fn two_threads_flush_while_others_send() {
     check(&sent, &producer.reports().collect::<Vec<_>>(), &broker.end());
 }
 
+/// Sends so many records of a thread, with a flush behind one of about so many, at others in each thread.
+fn send_and_flush(thread: usize, producer: &Producer, count: usize, each: usize) -> Sent {
+    let send = |number| {
+        let (record, value) = record(thread, number);
+        let ticket = producer.send(record).unwrap();
+        if number % (each + thread) == 0 {
+            producer.flush(LONG).unwrap();
+        }
+        (ticket, value)
+    };
+    (0..count).map(send).collect()
+}
+
 #[test]
 fn a_full_buffer_is_flushed_beside_other_flushes() {
     let broker = Broker::start(2, 1, "");
     let producer = broker.builder().linger(LONG).delivery_timeout(2 * LONG).buffer_memory(3000).build().unwrap();
     let begun = Instant::now();
-    let send = |thread, producer: Producer| {
-        let send = |number| {
-            let (record, value) = record(thread, number);
-            let ticket = producer.send(record).unwrap();
-            if number % (7 + thread) == 0 {
-                producer.flush(LONG).unwrap();
-            }
-            (ticket, value)
-        };
-        (0..1000).map(send).collect::<Sent>()
-    };
-    let sent = join(spawn(4, &producer, send));
+    let sent = join(spawn(4, &producer, |thread, producer| send_and_flush(thread, &producer, 1000, 7)));
     producer.close(LONG).unwrap();
     assert!(begun.elapsed() < LONG / 2, "a send has waited for records that linger");
     check(&sent, &producer.reports().collect::<Vec<_>>(), &broker.end());
@@ -483,18 +485,7 @@ fn a_sender_serves_while_others_wait() {
 fn senders_flush_while_others_send() {
     let broker = Broker::start(3, 1, "");
     let (producer, mut sent) = lingering(&broker, Tcp);
-    let send = |thread, producer: Producer| {
-        let send = |number| {
-            let (record, value) = record(thread, number);
-            let ticket = producer.send(record).unwrap();
-            if number % (500 + thread) == 0 {
-                producer.flush(LONG).unwrap();
-            }
-            (ticket, value)
-        };
-        (0..20_000).map(send).collect::<Sent>()
-    };
-    sent.extend(join(spawn(4, &producer, send)));
+    sent.extend(join(spawn(4, &producer, |thread, producer| send_and_flush(thread, &producer, 20_000, 500))));
     producer.close(LONG).unwrap();
     check(&sent, &producer.reports().collect::<Vec<_>>(), &broker.end());
 }
