@@ -3,10 +3,13 @@ machine, and processors."""
 import contextlib
 import hashlib
 import os
+import re
 import subprocess
 
 # What a crate is made of.
 PARTS = ("src", "specs", "proofs")
+# The most memory that the check of a crate takes, in bytes.
+MEMORY = 5_000_000_000
 
 
 def kit():
@@ -97,6 +100,13 @@ def jobs():
     """How many processors may be used: as RT_JOBS says, or all."""
     number = os.environ.get("RT_JOBS", "")
     return int(number) if number.isdigit() and int(number) else len(os.sched_getaffinity(0))
+
+
+def lanes():
+    """How many crates are proved side by side, by one job each: one a processor, as many as memory holds."""
+    free = re.search(r"MemAvailable:\s+(\d+)", text_of("/proc/meminfo"))
+    most = max(int(free[1]) * 1024 // MEMORY, 1) if free else 1
+    return min(jobs(), most)
 
 
 def spread(processors, count):

@@ -81,6 +81,11 @@ impl Connections {
         })
     }
 
+    /// This is the near end from now on; the one before is dropped.
+    fn set_near(&mut self, near: Near) {
+        self.near = near;
+    }
+
     /// The near end's stream, of which nothing else is left.
     fn take_stream(&mut self) -> Result<Memory, StepFault> {
         match mem::replace(&mut self.near, Near::Gone) {
@@ -99,30 +104,34 @@ impl Connections {
 
     /// A stream that gives the bytes of the words.
     fn open(&mut self, words: &mut Words<'_>) -> Result<(), StepFault> {
-        self.near = Near::script(Script::new(self.alloc, words.rest_bytes()?));
+        self.set_near(Near::script(Script::new(self.alloc, words.rest_bytes()?)));
         Ok(())
     }
 
     /// A stream that gives a long frame.
     fn open_long(&mut self, words: &mut Words<'_>) -> Result<(), StepFault> {
-        self.near = Near::script(Script::new(self.alloc, long_frame(self.alloc, words)?));
+        let frame = long_frame(self.alloc, words)?;
+        self.set_near(Near::script(Script::new(self.alloc, frame)));
         Ok(())
     }
 
     fn reads(&mut self, words: &mut Words<'_>) -> Result<(), StepFault> {
         let steps = steps_of(self.alloc, words)?;
-        self.near = Near::script(self.take_script()?.reading(steps));
+        let script = self.take_script()?.reading(steps);
+        self.set_near(Near::script(script));
         Ok(())
     }
 
     fn writes(&mut self, words: &mut Words<'_>) -> Result<(), StepFault> {
         let steps = steps_of(self.alloc, words)?;
-        self.near = Near::script(self.take_script()?.writing(steps));
+        let script = self.take_script()?.writing(steps);
+        self.set_near(Near::script(script));
         Ok(())
     }
 
     fn ends_after(&mut self, count: usize) -> Result<(), StepFault> {
-        self.near = Near::script(self.take_script()?.ending_after(count));
+        let script = self.take_script()?.ending_after(count);
+        self.set_near(Near::script(script));
         Ok(())
     }
 
@@ -132,25 +141,27 @@ impl Connections {
             return Err("a stream without room".into());
         }
         let (near, far) = duplex(self.alloc, room)?;
-        self.near = Near::Stream(Memory::Duplex(Plain { inner: near }));
+        self.set_near(Near::Stream(Memory::Duplex(Plain { inner: near })));
         self.far = Some(far);
         Ok(())
     }
 
     fn wire(&mut self) -> Result<(), StepFault> {
-        self.near = Near::Wire(Wire::new(self.alloc, self.take_stream()?));
+        let stream = self.take_stream()?;
+        self.set_near(Near::Wire(Wire::new(self.alloc, stream)));
         Ok(())
     }
 
     fn into_stream(&mut self) -> Result<(), StepFault> {
-        self.near = Near::Stream(self.take_stream()?);
+        let stream = self.take_stream()?;
+        self.set_near(Near::Stream(stream));
         Ok(())
     }
 
     fn handshake(&mut self, words: &mut Words<'_>) -> Result<(), StepFault> {
         let names = names_of(self.alloc, words)?;
         let handshake = Handshake::new(self.alloc, self.take_stream()?, names);
-        self.near = Near::Handshake(Shaking { handshake });
+        self.set_near(Near::Handshake(Shaking { handshake }));
         Ok(())
     }
 
@@ -160,7 +171,7 @@ impl Connections {
         if matches!(polled, Poll::Ready(Err(HandshakeFault::OutOfMemory))) {
             return Err(StepFault::OutOfMemory);
         }
-        self.near = near;
+        self.set_near(near);
         Ok(put_polled(came, &polled)?)
     }
 
@@ -196,7 +207,7 @@ impl Connections {
 
 impl Player for Connections {
     fn begin(&mut self) {
-        self.near = Near::Gone;
+        self.set_near(Near::Gone);
         self.far = None;
         // (a new poll forgets what was woken)
         self.task.enter(|_cx| ());
@@ -224,7 +235,7 @@ impl Player for Connections {
                 play_far(&self.task, &mut self.far, step, words, came)
             }
             "drop_near" => {
-                self.near = Near::Gone;
+                self.set_near(Near::Gone);
                 Ok(())
             }
             _ => self.play_near(step, words, came),

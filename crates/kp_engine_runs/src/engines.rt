@@ -118,8 +118,14 @@ impl<'a, R: RandomSource + AllocGlobal> Engines<'a, R> {
 
     fn open(&mut self, words: &mut Words<'_>) -> Played {
         self.setting = Setting::read(words)?;
-        self.scene = Some(Scene::open(self.rt, self.setting)?);
+        let scene = Scene::open(self.rt, self.setting)?;
+        self.set_scene(Some(scene));
         Ok(())
+    }
+
+    /// This is the engine from now on; the one before is dropped.
+    fn set_scene(&mut self, scene: Option<Scene>) {
+        self.scene = scene;
     }
 
     fn scene(&mut self) -> Result<&mut Scene, StepFault> {
@@ -161,7 +167,7 @@ impl<'a, R: RandomSource + AllocGlobal> Engines<'a, R> {
 impl<R: RandomSource + AllocGlobal> Player for Engines<'_, R> {
     fn begin(&mut self) {
         self.setting = Setting::new();
-        self.scene = None;
+        self.set_scene(None);
         self.core.clear();
     }
 

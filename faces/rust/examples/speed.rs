@@ -1,8 +1,8 @@
-//! speed BOOTSTRAP TOPIC [COUNT [SIZE [THREADS [LINGER_MS]]]]: publishes so many records of so many bytes in so many threads, once
-//! record by record and once in batches, and prints how many a second; then one record at a time, and prints how long they take
-//! from `send` to the report.
+//! speed BOOTSTRAP TOPIC [COUNT [SIZE [THREADS [LINGER_MS]]]]: publishes so many records of so many bytes in so many threads, record
+//! by record, which own their values and which are lent them, and in batches, and prints how many a second; then one record at a time,
+//! and prints how long they take from `send` to the report.
 
-use lembicsov::{Producer, Record};
+use lembicsov::{Producer, Record, RecordRef};
 use std::env;
 use std::error::Error;
 use std::str::FromStr;
@@ -83,6 +83,12 @@ fn main() -> Result<(), Box<dyn Error>> {
     words.rate("record by record", |producer, count| {
         for _ in 0..count {
             producer.send(Record::new(vec![b'x'; words.size])).unwrap();
+        }
+    })?;
+    words.rate("record by record, lent", |producer, count| {
+        let value = vec![b'x'; words.size];
+        for _ in 0..count {
+            producer.send_ref(RecordRef::new(&value)).unwrap();
         }
     })?;
     words.rate("in batches", |producer, count| {

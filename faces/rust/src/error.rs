@@ -95,6 +95,8 @@ impl fmt::Display for SendError {
     }
 }
 
+impl Error for SendErrorKind {}
+
 impl Error for SendError {}
 
 impl fmt::Display for BatchError {

@@ -1,6 +1,7 @@
 //! The C library's calls, and those of the system that std has no words for: all of the crate's unsafe code.
 
-use crate::{Record, Ticket};
+use crate::record::Headers;
+use crate::{RecordRef, Ticket};
 use std::ffi::{c_int, c_short, c_ulong, c_void};
 use std::io;
 use std::mem;
@@ -189,6 +190,7 @@ pub(crate) struct Core {
 unsafe impl Send for Core {}
 
 /// Whether a call was done, or else its status.
+#[inline]
 fn done(number: i32) -> Result<(), i32> {
     match number {
         status::OK => Ok(()),
@@ -197,6 +199,7 @@ fn done(number: i32) -> Result<(), i32> {
 }
 
 /// The library's number of a partition.
+#[inline]
 fn number_of(partition: Option<u32>) -> Result<i32, i32> {
     partition.map_or(Ok(-1), |it| i32::try_from(it).map_err(|_| status::NO_PARTITION))
 }
@@ -221,6 +224,7 @@ impl Core {
         self.now = self.now.max(now);
     }
 
+    #[inline]
     pub(crate) fn now(&self) -> u64 {
         self.now
     }
@@ -271,10 +275,11 @@ impl Core {
         kp_producer_next_due(&mut self.handle, self.now)
     }
 
+    #[inline]
     #[rustfmt::skip]
-    pub(crate) fn send(&mut self, record: &Record, spans: &[Span], headers: &[u8], timestamp_ms: i64) -> Result<Ticket, i32> {
+    pub(crate) fn send(&mut self, record: &RecordRef<'_>, (spans, headers): &Headers, timestamp_ms: i64) -> Result<Ticket, i32> {
         let partition = number_of(record.partition)?;
-        let (key, value) = (record.key.as_deref().unwrap_or_default(), record.value.as_deref().unwrap_or_default());
+        let (key, value) = (record.key.unwrap_or_default(), record.value.unwrap_or_default());
         let mut ticket = Ticket { number: 0, partition: 0 };
         done(unsafe {
             kp_producer_send(
@@ -409,6 +414,7 @@ extern "C" fn count_fork() {
 }
 
 /// How many forks are between this process and the first of its line that has called `watch`.
+#[inline]
 pub(crate) fn forks() -> u32 {
     FORKS.load(Ordering::Relaxed)
 }

@@ -27,5 +27,5 @@ pub use builder::Builder;
 pub use connect::{Connect, Tcp};
 pub use error::{BatchError, SendError, SendErrorKind, WaitError};
 pub use producer::{Producer, Reports};
-pub use record::Record;
+pub use record::{Record, RecordRef};
 pub use report::{ErrorCode, Outcome, Report, Ticket};

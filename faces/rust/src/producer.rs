@@ -1,8 +1,10 @@
 //! The handle.
 
+use crate::ffi::Core;
+use crate::record::Headers;
 use crate::report::Run;
 use crate::shared::{millis, Inner, Shared};
-use crate::{BatchError, Builder, Record, Report, SendError, Ticket, WaitError};
+use crate::{BatchError, Builder, Record, RecordRef, Report, SendError, SendErrorKind, Ticket, WaitError};
 use std::collections::VecDeque;
 use std::mem;
 use std::sync::{Arc, Mutex, PoisonError};
@@ -35,6 +37,7 @@ impl Producer {
         Producer { owner: Arc::new(Owner { shared, host: Mutex::new(Some(host)) }) }
     }
 
+    #[inline]
     fn shared(&self) -> &Shared {
         &self.owner.shared
     }
@@ -45,12 +48,27 @@ impl Producer {
     /// # Errors
     ///
     /// The record is not sent, and comes back, with the reason.
+    #[inline]
     pub fn send(&self, record: Record) -> Result<Ticket, SendError> {
-        let (spans, headers) = record.spelled_headers();
-        let sent = self
-            .shared()
-            .accept(record.size(), |core, now| core.send(&record, &spans, &headers, record.timestamp_ms.unwrap_or(now)));
-        sent.map_err(|kind| SendError { record, kind })
+        let headers = record.spelled_headers();
+        self.accept(&record.lend(), &headers).map_err(|kind| SendError { record, kind })
+    }
+
+    /// Accepts a record as [`send`](Producer::send) does, whose bytes stay the caller's, so that none are moved to memory of its own
+    /// before.
+    ///
+    /// # Errors
+    ///
+    /// The record is not sent, for this reason.
+    #[inline]
+    pub fn send_ref(&self, record: RecordRef<'_>) -> Result<Ticket, SendErrorKind> {
+        self.accept(&record, &record.spelled_headers())
+    }
+
+    #[inline]
+    fn accept(&self, record: &RecordRef<'_>, headers: &Headers) -> Result<Ticket, SendErrorKind> {
+        let call = |core: &mut Core, now| core.send(record, headers, record.timestamp_ms.unwrap_or(now));
+        self.shared().accept(record.size(), call)
     }
 
     /// Accepts values for a partition, or for each in turn, as records without keys and headers: as `send` of each, at less cost. Their

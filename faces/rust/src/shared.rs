@@ -110,6 +110,7 @@ impl Inner {
     }
 
     /// The timestamp of what is accepted now.
+    #[inline]
     fn timestamp(&mut self) -> i64 {
         let now = self.core.now();
         if self.stamp.0 != now {
@@ -231,6 +232,7 @@ impl Shared {
     }
 
     /// As `lock`, for a record: at a time that may be a moment ago.
+    #[inline]
     fn lock_soon(&self) -> Held<'_> {
         let mut inner = self.inner.lock().unwrap_or_else(PoisonError::into_inner);
         if !inner.is_timed {
@@ -249,6 +251,7 @@ impl Shared {
     }
 
     /// Whether this is another process than that which has built the producer. In it no lock is to be taken: who held it is gone.
+    #[inline]
     pub(crate) fn is_forked(&self) -> bool {
         self.forks != ffi::forks()
     }
@@ -263,40 +266,47 @@ impl Shared {
 
     /// Makes a call that accepts about so many bytes, with the timestamp of the first time, and again for `max_block` where it is
     /// refused for a while.
+    #[inline]
     pub(crate) fn accept<T>(
         &self, bytes: usize, mut call: impl FnMut(&mut Core, i64) -> Result<T, i32>,
     ) -> Result<T, SendErrorKind> {
         if self.is_forked() {
             return Err(SendErrorKind::Forked);
         }
-        let (mut timestamp_ms, mut until) = (None, None);
+        let mut inner = self.lock_soon();
+        let (timestamp_ms, mut until) = (inner.timestamp(), None);
         loop {
-            let mut inner = self.lock_soon();
-            let timestamp_ms = *timestamp_ms.get_or_insert_with(|| inner.timestamp());
-            let kind = match call(&mut inner.core, timestamp_ms) {
+            match call(&mut inner.core, timestamp_ms) {
                 Ok(accepted) => {
                     self.look_at(inner, bytes as u64);
                     return Ok(accepted);
                 }
-                Err(number) => kind_of(number, &mut inner.core),
-            };
-            // Records that linger would keep a buffer full until they have lingered. Who waits for a flush would wait for another one.
-            if kind == SendErrorKind::BufferFull && self.settings.linger_ms > 0 && inner.flushing == 0 {
-                inner.core.flush();
+                Err(number) => inner = self.hold_back(inner, number, &mut until)?,
             }
-            let news = inner.news;
-            self.look(inner);
-
-            let until = *until.get_or_insert_with(|| self.until(self.settings.max_block_ms));
-            let mut inner = self.lock();
-            let now = inner.core.now();
-            if until <= now || !kind.is_passing() {
-                return Err(kind);
-            }
-            let again = if kind == SendErrorKind::OutOfMemory { until.min(now + 1) } else { until };
-            inner.held_back += 1;
-            self.wait_until(inner, again, |it| it.news != news).held_back -= 1;
         }
+    }
+
+    /// Waits until what was refused, with this number, may be accepted, for `max_block` from the first time on, whose end is noted.
+    #[cold]
+    fn hold_back<'a>(&'a self, mut inner: Held<'a>, number: i32, until: &mut Option<u64>) -> Result<Held<'a>, SendErrorKind> {
+        let kind = kind_of(number, &mut inner.core);
+        // Records that linger would keep a buffer full until they have lingered. Who waits for a flush would wait for another one.
+        if kind == SendErrorKind::BufferFull && self.settings.linger_ms > 0 && inner.flushing == 0 {
+            inner.core.flush();
+        }
+        let news = inner.news;
+        self.look(inner);
+
+        let until = *until.get_or_insert_with(|| self.until(self.settings.max_block_ms));
+        let mut inner = self.lock();
+        let now = inner.core.now();
+        if until <= now || !kind.is_passing() {
+            return Err(kind);
+        }
+        let again = if kind == SendErrorKind::OutOfMemory { until.min(now + 1) } else { until };
+        inner.held_back += 1;
+        self.wait_until(inner, again, |it| it.news != news).held_back -= 1;
+        Ok(self.lock_soon())
     }
 
     /// Has what was accepted looked at, where there may be a full batch, or it lingers for less long than who serves sleeps.
@@ -310,6 +320,7 @@ impl Shared {
         }
     }
 
+    #[inline(never)]
     fn look_now(&self, mut inner: Held<'_>, is_full: bool) {
         if self.settings.linger_ms == 0 {
             // The first alone is written here. Who serves has the others, many at a time; and it rests where they can't be sent yet,

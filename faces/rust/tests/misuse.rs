@@ -3,7 +3,7 @@
 mod common;
 
 use common::{Broker, LONG, TOPIC};
-use lembicsov::{Producer, Record, SendErrorKind, WaitError};
+use lembicsov::{Producer, Record, RecordRef, SendErrorKind, WaitError};
 use std::env;
 use std::process::{self, Command};
 use std::sync::{mpsc, OnceLock};
@@ -28,6 +28,7 @@ fn a_forked_process_is_told_so() {
     match unsafe { fork() } {
         0 => {
             let is_told = producer.send(record).is_err_and(|it| it.kind == SendErrorKind::Forked)
+                && producer.send_ref(RecordRef::new("b")) == Err(SendErrorKind::Forked)
                 && producer.send_batch(None, &[b"b"]).is_err_and(|it| it.kind == SendErrorKind::Forked)
                 && producer.flush(LONG) == Err(WaitError::Forked)
                 && producer.close(LONG) == Err(WaitError::Forked)

@@ -3,7 +3,7 @@
 mod common;
 
 use common::{check, quiet_port, record, records_in, run, send_all, warnings, Broker, Masked, Relay, COUNT, LONG, TOPIC};
-use lembicsov::{Connect, ErrorCode, Outcome, Producer, Record, Report, SendErrorKind, Tcp, Ticket, WaitError};
+use lembicsov::{Connect, ErrorCode, Outcome, Producer, Record, RecordRef, Report, SendErrorKind, Tcp, Ticket, WaitError};
 use std::collections::HashMap;
 use std::fs;
 use std::io;
@@ -81,6 +81,42 @@ fn batches_of_values() {
     assert_eq!(producer.reports().filter(|it| it.outcome.is_delivered()).count(), COUNT + 1);
     let logs = broker.end();
     assert_eq!(logs[&1][..COUNT], values);
+}
+
+#[test]
+fn records_that_are_lent() {
+    let broker = Broker::start(2, 1, "");
+    let relay = Relay::start(broker.addresses[0]);
+    let producer = relay.builder().build().unwrap();
+    let line = String::from("order-17 paid");
+    let (key, value) = line.split_once(' ').unwrap();
+    let headers = [("trace", Some(b"7f3a".as_slice())), ("empty", Some(&[])), ("none", None)];
+    let lent = [
+        RecordRef::new(value).partition(1),
+        RecordRef::new("").partition(1).headers(&headers).key(key),
+        RecordRef::null().key("").timestamp_ms(0).partition(1),
+    ];
+    for (number, record) in (0..).zip(lent) {
+        assert_eq!(producer.send_ref(record), Ok(Ticket { number, partition: 1 }));
+    }
+    let of_key = producer.send(Record::new("a").key(key)).unwrap().partition;
+    assert_eq!(producer.send_ref(RecordRef::new("a").key(key)).unwrap().partition, of_key);
+    let in_turn = [(); 2].map(|()| producer.send_ref(RecordRef::new("a")).unwrap().partition);
+    assert_ne!(in_turn[0], in_turn[1]);
+
+    assert_eq!(producer.send_ref(RecordRef::new("a").partition(2)), Err(SendErrorKind::NoPartition));
+    assert_eq!(producer.send_ref(RecordRef::new("a").timestamp_ms(-1)), Err(SendErrorKind::BadTimestamp));
+    assert_eq!(producer.send_ref(RecordRef::new(&vec![0; 2 << 20])), Err(SendErrorKind::TooLarge));
+    producer.close(LONG).unwrap();
+    assert_eq!(producer.send_ref(RecordRef::new("a")), Err(SendErrorKind::Closed));
+    assert_eq!(producer.reports().filter(|it| it.outcome.is_delivered()).count(), 7);
+    drop(broker.end());
+
+    let carried: Vec<_> = relay.carried().iter().flat_map(|it| records_in(it)).filter(|it| it.0 == 1).take(3).collect();
+    let own = |text: &str| Some(text.as_bytes().to_vec());
+    let headers = vec![(b"trace".to_vec(), own("7f3a")), (b"empty".to_vec(), own("")), (b"none".to_vec(), None)];
+    let wanted = [(1, None, own("paid"), vec![]), (1, own("order-17"), own(""), headers), (1, own(""), None, vec![])];
+    assert_eq!(carried, wanted);
 }
 
 #[test]
