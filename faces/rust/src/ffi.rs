@@ -275,7 +275,7 @@ impl Core {
         kp_producer_next_due(&mut self.handle, self.now)
     }
 
-    #[inline]
+    #[inline(always)]
     #[rustfmt::skip]
     pub(crate) fn send(&mut self, record: &RecordRef<'_>, (spans, headers): &Headers, timestamp_ms: i64) -> Result<Ticket, i32> {
         let partition = number_of(record.partition)?;

@@ -48,7 +48,7 @@ impl Producer {
     /// # Errors
     ///
     /// The record is not sent, and comes back, with the reason.
-    #[inline]
+    #[inline(always)]
     pub fn send(&self, record: Record) -> Result<Ticket, SendError> {
         let headers = record.spelled_headers();
         self.accept(&record.lend(), &headers).map_err(|kind| SendError { record, kind })
@@ -60,12 +60,12 @@ impl Producer {
     /// # Errors
     ///
     /// The record is not sent, for this reason.
-    #[inline]
+    #[inline(always)]
     pub fn send_ref(&self, record: RecordRef<'_>) -> Result<Ticket, SendErrorKind> {
         self.accept(&record, &record.spelled_headers())
     }
 
-    #[inline]
+    #[inline(always)]
     fn accept(&self, record: &RecordRef<'_>, headers: &Headers) -> Result<Ticket, SendErrorKind> {
         let call = |core: &mut Core, now| core.send(record, headers, record.timestamp_ms.unwrap_or(now));
         self.shared().accept(record.size(), call)

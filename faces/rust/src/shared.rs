@@ -232,7 +232,7 @@ impl Shared {
     }
 
     /// As `lock`, for a record: at a time that may be a moment ago.
-    #[inline]
+    #[inline(always)]
     fn lock_soon(&self) -> Held<'_> {
         let mut inner = self.inner.lock().unwrap_or_else(PoisonError::into_inner);
         if !inner.is_timed {
@@ -266,7 +266,7 @@ impl Shared {
 
     /// Makes a call that accepts about so many bytes, with the timestamp of the first time, and again for `max_block` where it is
     /// refused for a while.
-    #[inline]
+    #[inline(always)]
     pub(crate) fn accept<T>(
         &self, bytes: usize, mut call: impl FnMut(&mut Core, i64) -> Result<T, i32>,
     ) -> Result<T, SendErrorKind> {
@@ -310,7 +310,7 @@ impl Shared {
     }
 
     /// Has what was accepted looked at, where there may be a full batch, or it lingers for less long than who serves sleeps.
-    #[inline]
+    #[inline(always)]
     fn look_at(&self, mut inner: Held<'_>, bytes: u64) {
         inner.unseen += bytes;
         let is_full = inner.unseen >= self.settings.batch_size;
