@@ -9,7 +9,7 @@ use kp_client::{
     open_single,
 };
 use std::alloc::AllocGlobal;
-use std::net::{Net, SocketAddr};
+use std::net::{Net, SocketAddr, TcpListener, TcpStream};
 use std::random::RandomSource;
 use std::sync::Wait;
 use std::thread::Threads;
@@ -54,7 +54,8 @@ fn publish<R>(
     record: Record,
 ) -> Result<(Option<Report>, Ending)>
 where
-    R: Wait + Threads + Clock + RandomSource + AllocGlobal + Sync + Net,
+    R: Wait + Threads + Clock + RandomSource + AllocGlobal + Sync,
+    R: Net<Listener = TcpListener, Stream = TcpStream>,
 {
     let (producer, closer, service) = open_single(rt, broker, settings)?;
     let sending = move || send(rt, producer, closer, record);
