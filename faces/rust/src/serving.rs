@@ -226,10 +226,13 @@ impl Shared {
         ptr::eq(WITHIN.get(), self)
     }
 
-    /// The moment until which a call may wait. That of now may be almost over.
+    /// The moment until which a call may wait, or one that is over, where it may not. That of now may be almost over: so it is none for
+    /// a call that may not wait, as the next may begin before the call looks.
     pub(crate) fn until(&self, millis: u64) -> u64 {
-        let waits = millis > 0 && !self.is_within();
-        self.now().saturating_add(if waits { millis.saturating_add(1) } else { 0 })
+        match millis > 0 && !self.is_within() {
+            true => self.now().saturating_add(millis).saturating_add(1),
+            false => 0,
+        }
     }
 
     // ---- looking at what has changed
