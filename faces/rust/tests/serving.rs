@@ -396,7 +396,10 @@ fn a_stream_may_send() {
     let send = move || {
         let Some(producer) = borrowed.get().filter(|_| counted.load(Ordering::SeqCst) < MOST) else { return };
         counted.fetch_add(usize::from(producer.send(Record::new(vec![b'n'; 900])).is_ok()), Ordering::SeqCst);
-        assert!(producer.flush(LONG).is_err(), "what is being written is not flushed");
+        // (many, so that in some of them a millisecond ends)
+        for _ in 0..500 {
+            assert!(producer.flush(LONG).is_err(), "what is being written is not flushed");
+        }
     };
     let builder = broker.builder().buffer_memory(3000);
     let producer = builder.build_over(Hooked(|| (), send)).unwrap();
