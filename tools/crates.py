@@ -56,10 +56,13 @@ class Crate:
     def is_program(self):
         return os.path.isfile(f"{self.folder}/src/main.rt")
 
+    def root(self):
+        """The file of its root, in its folder."""
+        return f"src/{'main' if self.is_program() else 'lib'}.rt"
+
     def words(self, kit, verb):
         """The prover's command that checks or builds the crate, in its folder."""
-        root = f"src/{'main' if self.is_program() else 'lib'}.rt"
-        return [f"{kit}/bin/rattle", verb, "--crate-name", self.name, root, *self.words_of_libraries(kit), "--links", f"{self.name}="]
+        return [f"{kit}/bin/rattle", verb, "--crate-name", self.name, self.root(), *self.words_of_libraries(kit), "--links", f"{self.name}="]
 
     def words_as_source(self, kit, verb, root):
         """The prover's command that checks a crate, src/lib.rt of the folder that it is called in, over this one as source."""
