@@ -19,12 +19,14 @@ enum {
     PIECE = 65536, /* bytes that are written at once */
     HEAD = 6,      /* bytes of a request up to its kind: its length, and an API key */
     /* At no pace so many records go out at once, and at most so many have no report: what lingers, or waits until less is in
-     * flight, falls out of the processor's caches. With FILLS it sends all that there is room for, as a program does that looks at
-     * no report before. */
+     * flight, falls out of the processor's caches. With LINGERS none goes out before its batch is full or has lingered, but for the
+     * last ones. With FILLS it sends all that there is room for, as a program does that looks at no report before. */
 #ifdef FILLS
-    ROUND = 1 << 20, AHEAD = 1 << 30
+    ROUND = 1 << 20, AHEAD = 1 << 30, LETS_LINGER = false
+#elif defined LINGERS
+    ROUND = 2048, AHEAD = 8192, LETS_LINGER = true
 #else
-    ROUND = 2048, AHEAD = 4096
+    ROUND = 2048, AHEAD = 4096, LETS_LINGER = false
 #endif
 };
 
@@ -235,7 +237,7 @@ int main(int argc, char **argv) {
             if (act.kind == KP_CONNECT) begin_connecting(act.node); else lose(act.node);
         tell();
         bool goes_on = send_until(due_now(begun)) && !run.rate;
-        if (begun > 0 && !run.rate) kp_producer_flush(&producer);
+        if (begun > 0 && !run.rate && (!LETS_LINGER || sent == run.count)) kp_producer_flush(&producer);
         if (sent == run.count && !is_closed) is_closed = kp_producer_close(&producer) == KP_OK;
         for (uint32_t k = 0; k < count; k++) write_to(k);
         tell();
