@@ -67,8 +67,8 @@ def build(library, program, sources, *words):
 class Broker:
     """The loopback broker in a process of its own, with so many partitions and nodes, and a plan of faults."""
 
-    def __init__(self, loopback, partitions, nodes, plan=""):
-        words = [loopback, "t", str(partitions), *["0"] * nodes, *([plan] if plan else [])]
+    def __init__(self, loopback, partitions, nodes, plan="", topic="t"):
+        words = [loopback, topic, str(partitions), *["0"] * nodes, *([plan] if plan else [])]
         pipes = dict(stdin=subprocess.PIPE, stdout=subprocess.PIPE, stderr=subprocess.PIPE)
         self.process = subprocess.Popen(words, text=True, **pipes)
         said = [self.process.stderr.readline().strip() for _ in range(nodes)]
