@@ -25,7 +25,7 @@ NEVER = 2_147_483_647  # A correlation id that no request has that is made here.
 
 
 class Late(Wrong):
-    """What took too long, or too much of a processor, as it may when the machine is busy."""
+    """What took too long, as it may when the machine is busy."""
 
 
 # ---- programs
