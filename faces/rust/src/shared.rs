@@ -332,7 +332,11 @@ impl Shared {
             }
             return;
         }
-        let serves = is_full && !inner.has_callback && !self.is_within();
+        if !is_full {
+            self.tell_due(inner);
+            return;
+        }
+        let serves = !inner.has_callback && !self.is_within();
         if serves {
             inner.sender = Some((this_thread(), inner.core.now()));
         }
