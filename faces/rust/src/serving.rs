@@ -286,18 +286,6 @@ impl Shared {
         sent.is_nothing
     }
 
-    /// Notes when what lingers is due, and wakes who sleeps for longer. While there is a flush that is at once: then the records go
-    /// out with the next turn, many at a time.
-    pub(crate) fn tell_due(&self, mut inner: Held<'_>) {
-        let due = inner.core.next_due();
-        if due < inner.wakes_at {
-            inner.wakes_at = due;
-            if inner.seat == Seat::Asleep {
-                self.ring(inner);
-            }
-        }
-    }
-
     /// Takes what may be sent and writes it.
     fn send_out(&self) -> Sent {
         let _within = self.enter();

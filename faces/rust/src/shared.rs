@@ -332,11 +332,7 @@ impl Shared {
             }
             return;
         }
-        if !is_full {
-            self.tell_due(inner);
-            return;
-        }
-        let serves = !inner.has_callback && !self.is_within();
+        let serves = is_full && !inner.has_callback && !self.is_within();
         if serves {
             inner.sender = Some((this_thread(), inner.core.now()));
         }

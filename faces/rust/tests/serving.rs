@@ -494,27 +494,6 @@ fn senders_flush_while_others_send() {
 }
 
 #[test]
-fn what_is_sent_during_a_flush_goes_out_many_at_a_time() {
-    const ROUNDS: usize = 40;
-    let broker = Broker::start(3, 1, "");
-    let writes = Arc::new(AtomicUsize::new(0));
-    let counts = Arc::clone(&writes);
-    let count = move || {
-        counts.fetch_add(1, Ordering::SeqCst);
-    };
-    let producer = broker.builder().linger(SECOND).build_over(Hooked(|| (), count)).unwrap();
-    let mut sent = Sent::new();
-    for round in 0..ROUNDS {
-        sent.extend((0..100).map(|number| record(round, number)).map(|(it, value)| (producer.send(it).unwrap(), value)));
-        let _ = producer.flush(Duration::ZERO); // It is begun, and not waited for.
-    }
-    producer.close(LONG).unwrap();
-    check(&sent, &producer.reports().collect::<Vec<_>>(), &broker.end());
-    let writes = writes.load(Ordering::SeqCst);
-    assert!(writes < 10 * ROUNDS, "{writes} writes");
-}
-
-#[test]
 fn a_read_that_panics_in_a_sender_ends_the_producer() {
     let broker = Broker::start(1, 1, "");
     let (go_off, is_lit) = bomb();
