@@ -47,16 +47,14 @@ impl Words {
         let producer = self.producer(self.linger)?;
         let each = self.count / self.threads;
         let begun = Instant::now();
-        let send_each = || {
-            send(&producer, each);
-            producer.flush(Duration::from_secs(10)).unwrap(); // The last ones don't linger.
-        };
         let delivered = thread::scope(|scope| {
-            let reports = producer.reports().take(each * self.threads);
-            let told = scope.spawn(|| reports.filter(|it| it.outcome.is_delivered()).count());
-            (1..self.threads).for_each(|_| drop(scope.spawn(send_each)));
-            send_each();
-            told.join().unwrap()
+            for _ in 0..self.threads {
+                scope.spawn(|| {
+                    send(&producer, each);
+                    producer.flush(Duration::from_secs(10)).unwrap(); // The last ones don't linger.
+                });
+            }
+            producer.reports().take(each * self.threads).filter(|it| it.outcome.is_delivered()).count()
         });
         let took = begun.elapsed().as_secs_f64();
         println!("{name}: {delivered} delivered, {:.0} records a second", delivered as f64 / took);
