@@ -14,7 +14,7 @@ mod settings;
 use fault::Fault;
 use kp_broker::Broker;
 use kp_text::put_log;
-use node::{bind_all, ports_of};
+use node::{Node, bind_all, ports_of};
 use serving::Service;
 use settings::Settings;
 use std::env;
@@ -43,6 +43,41 @@ fn print_logs<R: Print + AllocGlobal>(
     Ok(())
 }
 
+/// Says on standard error where each node listens.
+fn announce<R: Eprint>(rt: &R, nodes: &[Node]) -> Result<(), Fault> {
+    for node in nodes {
+        let address = node.address;
+        eprintln!(rt; "listening at {address}")?;
+    }
+    Ok(())
+}
+
+/// The nodes that the settings ask for, which listen, and their broker.
+fn service_of<R>(rt: &R, settings: Settings<'_>) -> Result<Service, Fault>
+where
+    R: Eprint + AllocGlobal,
+    R: Net<Listener = TcpListener, Stream = TcpStream>,
+{
+    let nodes = bind_all(rt, &settings.ports)?;
+    let ports = ports_of(rt.alloc(), &nodes)?;
+    let broker = settings.broker(rt.alloc(), &ports)?;
+    announce(rt, &nodes)?;
+    Ok(Service::new(broker, nodes, settings.plan))
+}
+
+/// Serves until the input has ended.
+fn serve<R>(rt: &R, service: &Service) -> Result<(), Fault>
+where
+    R: Input + AllocGlobal + Threads + Wait + Sync,
+    R: Net<Listener = TcpListener, Stream = TcpStream>,
+{
+    let (results, _) = thread::join(rt, || service.serve_all(rt), || service.wait_for_end(rt));
+    for result in results? {
+        result?;
+    }
+    Ok(())
+}
+
 /// Serves until the input has ended, and prints what was stored.
 fn run<R>(rt: &R) -> Result<(), Fault>
 where
@@ -51,19 +86,9 @@ where
 {
     let words: Vec<String> = env::args(rt)?.collect(rt.alloc())?;
     let settings = Settings::read(rt.alloc(), words.as_slice())?;
-    let nodes = bind_all(rt, &settings.ports)?;
-    let ports = ports_of(rt.alloc(), &nodes)?;
-    let broker = settings.broker(rt.alloc(), &ports)?;
-    for node in &nodes {
-        let address = node.address;
-        eprintln!(rt; "listening at {address}")?;
-    }
     let partitions = settings.partitions;
-    let service = Service::new(broker, nodes, settings.plan);
-    let (results, _) = thread::join(rt, || service.serve_all(rt), || service.wait_for_end(rt));
-    for result in results? {
-        result?;
-    }
+    let service = service_of(rt, settings)?;
+    serve(rt, &service)?;
     print_logs(rt, &service.into_broker(), partitions)
 }
 

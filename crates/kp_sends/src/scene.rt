@@ -6,7 +6,7 @@ use crate::setting::core_of;
 use kp_cases::{StepFault, Words, put, put_debug, refused, seen_of};
 use kp_core::{Answered, Asked, Core};
 use kp_wire::Blob;
-use std::alloc::{AllocError, Global};
+use std::alloc::Global;
 use std::mem;
 
 /// A core, the clock, and what a case keeps of it.
@@ -117,11 +117,11 @@ impl Scene {
     }
 
     /// Tells what a call has answered, and again where memory was refused to that, since the call was made.
-    fn tell_answer(&self, answer: &Answered, came: &mut String) -> Result<(), AllocError> {
-        match write!(came, "{answer:?}") {
-            Err(AllocError) => {
+    fn tell_answer(&self, answer: &Answered, came: &mut String) -> Result<(), StepFault> {
+        match put_debug(came, answer) {
+            Err(StepFault::OutOfMemory) => {
                 came.clear();
-                write!(came, "{answer:?}")
+                put_debug(came, answer)
             }
             told => told,
         }
@@ -130,7 +130,7 @@ impl Scene {
     /// Tells the sender's oldest report.
     fn fetch(&mut self, sender: u32, came: &mut String) -> Result<(), StepFault> {
         let answer = self.core.make(Asked::Fetch(sender));
-        Ok(self.tell_answer(&answer, came)?)
+        self.tell_answer(&answer, came)
     }
 
     fn list(&mut self, words: &mut Words<'_>) -> Result<(), StepFault> {

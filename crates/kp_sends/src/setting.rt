@@ -4,35 +4,81 @@ use kp_accum::Config;
 use kp_cases::{StepFault, Words};
 use kp_core::{Core, Names};
 use kp_wire::Text;
-use std::alloc::Global;
+use std::alloc::{AllocError, Global};
 
 /// The first producer id of each core.
 const PRODUCER_ID: u64 = 1000;
 
+/// The values of a configuration, in its order.
 fn config_of(words: &mut Words<'_>) -> Result<Config, StepFault> {
+    let mut values = [0; 9];
+    for value in &mut values {
+        *value = words.number()?;
+    }
+    let [
+        batch_size,
+        linger_ms,
+        buffer_memory,
+        max_request_size,
+        request_timeout_ms,
+        delivery_timeout_ms,
+        retry_backoff_ms,
+        max_in_flight_requests_per_connection,
+        sequence_limit,
+    ] = values;
     Ok(Config {
-        batch_size: words.number()?,
-        linger_ms: words.number()?,
-        buffer_memory: words.number()?,
-        max_request_size: words.number()?,
-        request_timeout_ms: words.number()?,
-        delivery_timeout_ms: words.number()?,
-        retry_backoff_ms: words.number()?,
-        max_in_flight_requests_per_connection: words.number()?,
-        sequence_limit: words.number()?,
+        batch_size,
+        linger_ms,
+        buffer_memory,
+        max_request_size,
+        request_timeout_ms,
+        delivery_timeout_ms,
+        retry_backoff_ms,
+        max_in_flight_requests_per_connection,
+        sequence_limit,
     })
 }
 
-/// The core of these numbers: so many partitions and senders, the correlation id of its first request, whether it keeps audits, and the
-/// values of its configuration.
-pub(crate) fn core_of(alloc: Global, words: &mut Words<'_>) -> Result<Core, StepFault> {
-    let (partitions, senders): (u32, u32) = (words.number()?, words.number()?);
-    let (correlation, audits): (u32, bool) = (words.number()?, words.number()?);
-    let config = config_of(words)?;
-    let names = Names {
+/// What a core is made of, beside its names.
+#[derive(Clone, Copy)]
+struct Setting {
+    partitions: u32,
+    senders: u32,
+    /// The correlation id of its first request.
+    correlation: u32,
+    /// Whether it keeps audits.
+    audits: bool,
+    config: Config,
+}
+
+/// So many partitions and senders, the correlation id of the first request, whether audits are kept, and the values of the
+/// configuration.
+fn setting_of(words: &mut Words<'_>) -> Result<Setting, StepFault> {
+    Ok(Setting {
+        partitions: words.number()?,
+        senders: words.number()?,
+        correlation: words.number()?,
+        audits: words.number()?,
+        config: config_of(words)?,
+    })
+}
+
+fn names_of(alloc: Global) -> Result<Names, AllocError> {
+    Ok(Names {
         topic: Text::from_str(alloc, "t")?,
         client: Text::from_str(alloc, "kp")?,
-    };
+    })
+}
+
+/// A core with these names, where one is made of this.
+fn made_of(alloc: Global, setting: Setting, names: Names) -> Result<Core, StepFault> {
+    let Setting {
+        partitions,
+        senders,
+        correlation,
+        audits,
+        config,
+    } = setting;
     if config.check() != Ok(())
         || names.topic.len() > 249
         || names.client.len() > 249
@@ -44,7 +90,7 @@ pub(crate) fn core_of(alloc: Global, words: &mut Words<'_>) -> Result<Core, Step
     {
         return Err("no core is made of this".into());
     }
-    Ok(Core::new(
+    match Core::new(
         alloc,
         config,
         names,
@@ -53,5 +99,16 @@ pub(crate) fn core_of(alloc: Global, words: &mut Words<'_>) -> Result<Core, Step
         PRODUCER_ID,
         correlation,
         audits,
-    )?)
+    ) {
+        Ok(core) => Ok(core),
+        Err(_) => Err(StepFault::OutOfMemory),
+    }
+}
+
+/// The core of these numbers: so many partitions and senders, the correlation id of its first request, whether it keeps audits, and the
+/// values of its configuration.
+pub(crate) fn core_of(alloc: Global, words: &mut Words<'_>) -> Result<Core, StepFault> {
+    let setting = setting_of(words)?;
+    let names = names_of(alloc)?;
+    made_of(alloc, setting, names)
 }
