@@ -7,6 +7,7 @@ mod files;
 mod input;
 mod moments;
 mod publishing;
+mod seen;
 mod threads;
 mod watch;
 mod words;

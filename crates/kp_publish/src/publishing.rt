@@ -12,23 +12,19 @@ ghost use Rattle.kp_send.specs.Streaming.{Goes};
 use crate::fault::PublishFault;
 use crate::files::Files;
 use crate::input::{Input, len_of};
+use crate::seen::{has_enough, is_spent, put_why, stays};
 use crate::watch::Watch;
-use crate::words::{put_refusal, put_spent};
 use futures::Future;
 use futures::task::{Context, Poll};
 use kp_batch::Timestamp;
 use kp_dial::Pair;
-use kp_drive::{HostNames, Named, Phase, SendFault, SocketDrive};
-use kp_rules::{Meaning, meaning_of};
+use kp_drive::{HostNames, Named, SendFault, SocketDrive};
 use kp_send::{Sender, Tellings, Texts};
 use kp_stamps::wall_stamp;
 use std::alloc::{AllocError, Global};
 use std::io::Write;
 use std::net::Net;
 use std::time::Clock;
-
-/// The least memory of records that are queued, in bytes, at which the input is not read on at once.
-const ENOUGH: u64 = 524_288;
 
 /// Whether a line is gone, or stays the next one.
 #[derive(Clone, Copy, Debug, PartialEq, Eq)]
@@ -68,49 +64,9 @@ pub(crate) struct Publishing<'r, R, F, O, E> {
 }
 
 impl<'r, R: Net + Clock, F: Write, O: Write, E: Write> Publishing<'r, R, F, O, E> {
-    /// The error code for which nothing will be sent, where brokers have answered one that does not get better.
-    fn refusal(&self) -> Option<i16> {
-        let producer = self.drive.producer();
-        match producer.statistics().refused {
-            Some(code) if producer.phase() != Phase::Ready && !may_get_better(code) => Some(code),
-            _ => None,
-        }
-    }
-
-    /// Whether a line that is refused so is to stay the next one: there will be room, or a broker that is ready; or the stream is
-    /// given up before it.
-    fn stays(&self, fault: SendFault) -> bool {
-        match fault {
-            SendFault::BufferFull => true,
-            SendFault::Spent => self.is_spent(),
-            SendFault::NotReady => {
-                self.drive.producer().phase() != Phase::Failed && self.refusal().is_none()
-            }
-            _ => false,
-        }
-    }
-
-    /// Whether every correlation id was used, so that nothing can be sent any more.
-    fn is_spent(&self) -> bool {
-        self.drive.producer().phase() == Phase::Spent
-    }
-
-    /// Whether that is so, and each line that was sent is told of.
+    /// Whether nothing can be sent any more, and each line that was sent is told of.
     fn is_over(&self) -> bool {
-        self.is_spent() && self.sender.waiting() == 0
-    }
-
-    /// Whether so much is queued that no request waits for more lines: two batches for each partition, and `ENOUGH`. What is queued
-    /// for longer only leaves the processor's caches.
-    fn has_enough(&self) -> bool {
-        let producer = self.drive.producer();
-        let seen = producer.statistics();
-        let partitions = producer.partitions() as u64;
-        let batches = self.batch_size.saturating_mul(2).saturating_mul(partitions);
-        match seen.buffer_used.checked_div(seen.untold) {
-            Some(each) => each.saturating_mul(producer.records_queued()) >= batches.max(ENOUGH),
-            None => false,
-        }
+        is_spent(self.drive.producer()) && self.sender.waiting() == 0
     }
 
     /// Where no report will come by itself, since all that was accepted lingers, it goes out now.
@@ -147,7 +103,7 @@ impl<'r, R: Net + Clock, F: Write, O: Write, E: Write> Publishing<'r, R, F, O, E
                 self.sender.accepted(ticket, texts)?;
                 self.watch.sent(ticket)?;
             }
-            Err(fault) if self.stays(fault) => return Ok(Next::Waits),
+            Err(fault) if stays(self.drive.producer(), fault) => return Ok(Next::Waits),
             Err(fault) => self.sender.refused(fault, texts)?,
         }
         Ok(Next::Gone)
@@ -197,7 +153,7 @@ impl<'r, R: Net + Clock, F: Write, O: Write, E: Write> Publishing<'r, R, F, O, E
             self.drive.close();
             return Ok(false);
         }
-        if is_early && self.has_enough() {
+        if is_early && has_enough(self.drive.producer(), self.batch_size) {
             return Ok(false);
         }
         match self.input.poll_piece(cx) {
@@ -255,7 +211,7 @@ impl<'r, R: Net + Clock, F: Write, O: Write, E: Write> Publishing<'r, R, F, O, E
     {
         let mut text = Vec::new(self.alloc);
         if !self.has_said_why {
-            self.has_said_why = self.put_why(&mut text)?;
+            self.has_said_why = put_why(self.drive.producer(), &mut text)?;
         }
         text.extend_from_slice(said)?;
         if !text.is_empty() {
@@ -263,19 +219,6 @@ impl<'r, R: Net + Clock, F: Write, O: Write, E: Write> Publishing<'r, R, F, O, E
             let _ = self.err.write_all(&text);
         }
         Ok(())
-    }
-
-    /// Puts why nothing will be sent, where that is known: whether it is.
-    fn put_why(&self, text: &mut Vec<u8>) -> Result<bool, AllocError> {
-        if let Some(code) = self.refusal() {
-            put_refusal(text, code)?;
-            return Ok(true);
-        }
-        if self.is_spent() {
-            put_spent(text)?;
-            return Ok(true);
-        }
-        Ok(false)
     }
 
     /// Tells how far the stream has come, where that is due: whether it was.
@@ -291,20 +234,12 @@ impl<'r, R: Net + Clock, F: Write, O: Write, E: Write> Publishing<'r, R, F, O, E
             .poll_due(cx, producer, tellings, waiting, self.out, self.err)
     }
 
-    /// The line that is next is not sent any more, where one is.
-    fn leave_next(&mut self, texts: &mut Texts) -> Result<(), AllocError> {
-        if self.sender.next_record(wall_stamp(self.rt))?.is_some() {
-            self.sender.refused(SendFault::Closed, texts)?;
-        }
-        Ok(())
-    }
-
     /// Gives up what is on its way, and tells of it.
     fn leave(&mut self) -> Result<(), PublishFault> {
         let mut texts = Texts::new(self.alloc, self.files.offsets.is_some());
         self.drive.end();
         self.hear(&mut texts)?;
-        self.leave_next(&mut texts)?;
+        leave_next(&mut self.sender, wall_stamp(self.rt), &mut texts)?;
         self.files.write(&texts)?;
         self.say(&texts.said)?;
         Ok(self.say_end()?)
@@ -348,10 +283,12 @@ impl<'r, R: Net + Clock, F: Write, O: Write, E: Write> Publishing<'r, R, F, O, E
     }
 }
 
-/// Whether brokers that have refused a producer with this code may take it later: they do not know its topic yet, or have no leader,
-/// or what gives producer ids is not ready.
-fn may_get_better(code: i16) -> bool {
-    meaning_of(code) == Meaning::Retry || matches!(code, 14 | 15 | 16 | 51)
+/// The line that is next is not sent any more, where one is.
+fn leave_next(sender: &mut Sender, stamp: Timestamp, texts: &mut Texts) -> Result<(), AllocError> {
+    if sender.next_record(stamp)?.is_some() {
+        sender.refused(SendFault::Closed, texts)?;
+    }
+    Ok(())
 }
 
 impl<R: Net + Clock, F: Write + Drop, O: Write, E: Write> Future for Publishing<'_, R, F, O, E> {
@@ -360,10 +297,7 @@ impl<R: Net + Clock, F: Write + Drop, O: Write, E: Write> Future for Publishing<
     ghost gives = { λ f r. IfOk r (IsPublished F.contents f.sender f.files) };
 
     fn poll(&mut self, cx: &mut Context<'_>) -> Poll<Result<Tellings, PublishFault>> {
-        if self.watch.is_over(cx) {
-            return Poll::Ready(Err(self.give_up()));
-        }
-        if self.is_over() {
+        if self.watch.is_over(cx) || self.is_over() {
             return Poll::Ready(Err(self.give_up()));
         }
         // What looks up names ends before this only where memory is refused to it.
