@@ -2,25 +2,21 @@
 use Rattle.std.proofs.Common.{◌≡◌, ◌∙◌, ap, ap₂, refl, Bool, true, false, Bor, List, [], ◌∷◌, ◌++◌, map}
 use Rattle.std.specs.Prelude.{◌||◌}
 use Rattle.std.proofs.lemmas.List.{map-append}
-use Rattle.clap.specs.Words.{AddsAliases, AddsArg, App, Rule, Text, rule_of, with_rule}
+use Rattle.clap.specs.Words.{AddsAliases, AddsArg, App, Rule, Text, app_of, rule_of, with_rule}
 use Rattle.clap.specs.declared.builder.arg.Arg.{Arg}
 use Rattle.clap.specs.declared.builder.command.Command.{Command}
 use Rattle.clap.specs.declared.builder.command.Command.TheViews.{out-Command as fields_of}
-use Rattle.kp_command_line.specs.OptionRules.{TakesAlso}
+use Rattle.kp_command_line.specs.OptionRules.{Adds, TakesAlso}
 
 or_false : (b : Bool) → (b || false) ≡ b
 or_false true = refl
 or_false false = refl
 
-pub as_it_was : {command : Command} → TakesAlso (λ app. app) command command
-as_it_was = record { shape = refl; local = refl }
-
 -- one more argument, of this command alone
-pub then : {more : App → App} {r : Rule} {old mid new : Command} {a : Arg} → TakesAlso more old mid → AddsArg mid a new
-    → rule_of a ≡ r → a.global ≡ false → TakesAlso (λ app. with_rule (more app) r) old new
-then {mid = mid} before adds is local = record {
-  shape = adds.shape local ∙ ap₂ with_rule before.shape is;
-  local = adds.globals ∙ ap (λ (g : Bool). (fields_of mid).has_globals || g) local ∙ or_false _ ∙ before.local;
+pub one_more : {r : Rule} {old new : Command} {a : Arg} → AddsArg old a new → rule_of a ≡ r → a.global ≡ false → Adds r old new
+one_more {old = old} adds is local = record {
+  shape = adds.shape local ∙ ap (with_rule (app_of old)) is;
+  local = adds.globals ∙ ap (λ (g : Bool). (fields_of old).has_globals || g) local ∙ or_false _;
 }
 
 -- some, and then some more

@@ -1,6 +1,6 @@
 -- The options of a command, as clap sees them.
 use Rattle.std.specs.Prelude.{◌≡◌, ℕ, Some, true, false, [], ◌∷◌}
-use Rattle.clap.specs.Words.{App, Rule, Text, app_of, new_rule}
+use Rattle.clap.specs.Words.{App, Rule, Text, app_of, new_rule, with_rule}
 use Rattle.clap.specs.declared.builder.action.ArgAction.TheVariants.{Append, SetTrue}
 use Rattle.clap.specs.declared.builder.command.Command.{Command}
 use Rattle.clap.specs.declared.builder.command.Command.TheViews.{out-Command as fields_of}
@@ -38,3 +38,7 @@ IsLocal command = (fields_of command).has_globals ≡ false
 pub record TakesAlso (more : App → App) (old new : Command) : Type 0 where
   pub shape : app_of new ≡ more (app_of old)
   pub local : (fields_of new).has_globals ≡ (fields_of old).has_globals
+
+-- one rule more, and it is of this command alone
+abbrev pub Adds : Rule → Command → Command → Type 0
+Adds rule = TakesAlso (λ app. with_rule app rule)

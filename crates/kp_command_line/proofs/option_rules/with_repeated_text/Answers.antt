@@ -1,0 +1,12 @@
+use Rattle.std.proofs.Common.{rules, ◌≡◌, false}
+use Rattle.std.proofs.lemmas.Result.{IfOk-weaker}
+use Rattle.clap.specs.Words.{rule_of}
+use Rattle.kp_command_line.specs.OptionRules.{repeated_rule}
+use Rattle.kp_command_line.proofs.OptionRulesLemmas.{one_more}
+use Rattle.kp_command_line.proofs.option_rules.with_repeated_text.Goals as goal
+
+pub returns : goal.returns
+returns c =
+    let rule : rule_of c.action.result ≡ repeated_rule c.args.name.now = search rules in
+    let local : c.action.result.global ≡ false = search rules in
+    IfOk-weaker c.arg.result _ _ (λ m adds. one_more adds rule local) c.arg.ensures
