@@ -1,12 +1,15 @@
 -- The call for the next request, answer by answer.
 use Rattle.std.proofs.Common.{◌≡◌, ◌∙◌, ℕ, Bool, true, false, not, List, [], ◌∷◌, Some, None, Ok, Err, refl, sym, ap, subst, rules}
-use Rattle.std.specs.Prelude.{Option, IsOkAnd, IsSome, if◌then◌else◌}
+use Rattle.std.specs.Prelude.{Option, IsOkAnd, IsSome, find, option_map, if◌then◌else◌, ◌&&◌}
+use Rattle.std.specs.List.{enumerate_from}
+use Rattle.kp_accum.specs.Ready.{is_over}
 use Rattle.kp_rules.specs.declared.fault.CoreFault.TheVariants.{CorrelationSpent, Ended, OutOfMemory}
-use Rattle.kp_rules.specs.Attempts.{has_window}
+use Rattle.kp_rules.specs.Attempts.{has_window, is_id_asked}
 use Rattle.kp_rules.specs.Calls.{Request, Step, answered_as}
 use Rattle.kp_rules.specs.Framing.{frame_of}
+use Rattle.kp_rules.specs.MaySend.{wants_id}
 use Rattle.kp_rules.specs.Next.{Sending, next_asking, next_batches, next_demand}
-use Rattle.kp_rules.specs.Partitions.{is_empty}
+use Rattle.kp_rules.specs.Partitions.{is_empty, leads}
 use Rattle.kp_rules.specs.Records.{Core, Demand, Produce, InitProducerId}
 use Rattle.kp_rules.specs.Requesting.{Requested, is_spent, go_out, request_step, sent_out}
 
@@ -43,6 +46,19 @@ some_batches node now s e f some = batches node now s e f ∙ at_list (next_batc
     at_list : (xs : List Sending) → (xs ≡ [] → ⊥) → by_batches xs ≡ Some (Produce xs)
     at_list [] some = absurd (some refl)
     at_list (x ∷ xs) some = refl
+
+-- no id is asked for while it has to wait
+pub still_waits : (node now since : ℕ) (s : Core) → s.id_waits ≡ Some since → is_over since s.config.retry_backoff_ms now ≡ false → next_asking node now s ≡ None
+still_waits node now since s waits over =
+    ap (λ (o : Option ℕ). if_may s (not (is_id_asked s) && elim o [ None ↦ true | Some moment ↦ is_over moment s.config.retry_backoff_ms now ])) waits
+    ∙ ap (λ (b : Bool). if_may s (not (is_id_asked s) && b)) over ∙ by_test (not (is_id_asked s))
+  where
+    if_may : Core → Bool → Option ℕ
+    if_may x b = if b then option_map (λ y. y.0) (find (λ y. leads node y.1 && wants_id x.config y.1) (enumerate_from 0 x.partitions)) else None
+
+    by_test : (b : Bool) → if_may s (b && false) ≡ None
+    by_test true = refl
+    by_test false = refl
 
 -- ---- the step
 

@@ -1,4 +1,5 @@
-use Rattle.std.proofs.Common.{◌≡◌, ◌∙◌, ℕ, ◌<◌, List, [], ◌∷◌, ◌++◌, length, Some, sym, ap, subst}
+use Rattle.std.proofs.Common.{◌≡◌, ◌∙◌, ℕ, ◌<◌, List, [], ◌∷◌, ◌++◌, length, Some, Ok, Err, sym, ap, subst}
+use Rattle.std.specs.Prelude.{Result, OnErr}
 use Rattle.std.specs.List.{AllByRecursion}
 use Rattle.kp_core.specs.Choosing.{MayGoOut}
 use Rattle.kp_core.specs.Keeping.{IsKept, seen_of}
@@ -6,7 +7,7 @@ use Rattle.kp_rules.specs.HandingOver.{send_in}
 use Rattle.kp_rules.specs.InOrder.{AreDistinct}
 use Rattle.kp_rules.specs.Next.{Sending, next_batches, next_demand}
 use Rattle.kp_rules.specs.Partitions.{changed_at, partition_at}
-use Rattle.kp_rules.specs.Records.{Core, Produce, Request}
+use Rattle.kp_rules.specs.Records.{Core, Produce, Request, Turn}
 use Rattle.kp_rules.specs.Requesting.{is_spent, partitions_in, request_of, sent_out, turned}
 use Rattle.kp_core.proofs.KeepingLemmas.{quiet_kept}
 use Rattle.kp_core.proofs.LeavingLemmas.{sent_left}
@@ -72,3 +73,20 @@ returns-clause-after c =
     c.in_ok-turn_to.ensures.ok ∙ ap (λ (ps : List ℕ). turned c.args.node ps s.turns) (c.deref.ensures.value ∙ items) in
     let is = sent-is c.args.node c.args.now s xs c.send_each.new.self c.push_reserved.new.self.items c.turn_to.new.turns.items changed requests turns in
     is ∙ ap (λ (x : Core). sent_out c.args.node c.args.now x (Produce (next_batches c.args.node c.args.now x))) c.self.view_is
+
+pub invariant_of-self-in_err-turn_to : goal.invariant_of-self-in_err-turn_to
+invariant_of-self-in_err-turn_to c =
+    let s = seen_of c.self.inside in
+    subst (λ (rs : List Request). IsKept (record s { requests = rs; turns = c.turn_to.new.turns.items }) c.self.inside.desk) (sym c.reserve.ensures.items)
+    (subst (λ (ts : List Turn). IsKept (record s { turns = ts }) c.self.inside.desk) (sym c.in_err-turn_to.ensures.err) c.self.invariant)
+
+on_err : {A B : Type 0} (r : Result A B) {P : Type 0} → P → OnErr r P
+on_err (Ok x) p = tt
+on_err (Err e) p = p
+
+pub returns-in_err-turn_to-clause-err : goal.returns-in_err-turn_to-clause-err
+returns-in_err-turn_to-clause-err c =
+    let s = seen_of c.self.inside in
+    on_err c.from_residual-in_err-turn_to.result
+    (ap (λ (rs : List Request). let x : Core = record s { requests = rs; turns = c.turn_to.new.turns.items } in x) c.reserve.ensures.items
+    ∙ ap (λ (ts : List Turn). let x : Core = record s { turns = ts } in x) c.in_err-turn_to.ensures.err ∙ c.self.view_is)

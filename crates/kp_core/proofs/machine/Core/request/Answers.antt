@@ -36,3 +36,9 @@ ask_for_id-requires-clause-demand c =
     let its : c.led_by-places.result.now ≡ work_in c.args.node s.partitions =
     c.led_by-places.ensures ∙ ap (λ (x : Core). work_in c.args.node x.partitions) c.self.view_is in
     an_id c.args.node c.args.now c.in-Some.partition s (sym c.has_window.ensures ∙ c.if-not-has_window.false) (sym (c.next_asking.ensures c.args.node its) ∙ c.in-Some.is)
+
+pub send_batches-requires-clause-asking : goal.send_batches-requires-clause-asking
+send_batches-requires-clause-asking c =
+    let its : c.led_by-places.result.now ≡ work_in c.args.node c.args.self.now.partitions =
+    c.led_by-places.ensures ∙ ap (λ (x : Core). work_in c.args.node x.partitions) c.self.view_is in
+    sym (c.next_asking.ensures c.args.node its) ∙ c.in-None.is

@@ -1,5 +1,7 @@
 use Rattle.std.proofs.Common.{◌≡◌, ◌∙◌, ◌<◌, true, false, true≢false, not, List, length, vec_capacity, vec_len, sym, ap, subst, rules, arith}
+use Rattle.std.specs.Prelude.{slice_set}
 use Rattle.std.proofs.lemmas.List.{get_or_default}
+use Rattle.kp_rules.specs.Leading.{led_by}
 use Rattle.kp_rules.specs.Partitions.{new_partition, partition_at}
 use Rattle.kp_rules.specs.Records.{Partition}
 use Rattle.kp_core.specs.Busy.{is_busy}
@@ -44,3 +46,21 @@ invariant_of-self-else-not-is_idle c =
       listed = set_listed p v same c.self.invariant.listed;
       by_leader = set_by_leader p v same (λ is. absurd (true≢false (sym is ∙ idle))) c.self.invariant.by_leader;
     }
+
+pub returns-then-not-is_idle : goal.returns-then-not-is_idle
+returns-then-not-is_idle c =
+    let ts = c.self.inside.all.items in
+    let p = c.args.place in
+    let there : p < length ts = search rules in
+    let old : c.index_mut-partition.result.now ≡ partition_at p ts = c.index_mut-partition.ensures.value ∙ get_or_default ts p c.index_mut-partition.result.now (new_partition 0) there in
+    ap (slice_set ts p) (c.lead_by.ensures ∙ ap (led_by c.args.leader c.args.now) old)
+    ∙ ap (λ (us : List Partition). slice_set us p (led_by c.args.leader c.args.now (partition_at p us))) c.self.view_is
+
+pub returns-else-not-is_idle : goal.returns-else-not-is_idle
+returns-else-not-is_idle c =
+    let ts = c.self.inside.all.items in
+    let p = c.args.place in
+    let there : p < length ts = search rules in
+    let old : c.index_mut-partition.result.now ≡ partition_at p ts = c.index_mut-partition.ensures.value ∙ get_or_default ts p c.index_mut-partition.result.now (new_partition 0) there in
+    ap (slice_set ts p) (c.lead_by.ensures ∙ ap (led_by c.args.leader c.args.now) old)
+    ∙ ap (λ (us : List Partition). slice_set us p (led_by c.args.leader c.args.now (partition_at p us))) c.self.view_is

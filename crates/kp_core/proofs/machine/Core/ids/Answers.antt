@@ -1,0 +1,9 @@
+use Rattle.std.proofs.Common.{◌∙◌, ap}
+use Rattle.kp_rules.specs.Partitions.{partition_at}
+use Rattle.kp_rules.specs.Records.{Core, Partition}
+use Rattle.kp_core.proofs.machine.Core.ids.Goals as goal
+
+pub returns : goal.returns
+returns c =
+    c.ids.ensures ∙ ap (λ (t : Partition). t.ids) c.at.ensures
+    ∙ ap (λ (x : Core). (partition_at c.args.partition x.partitions).ids) c.self.view_is
