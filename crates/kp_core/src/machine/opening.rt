@@ -31,23 +31,26 @@ impl Core {
     {
         see_text(&names.topic);
         see_text(&names.client);
+        let desk = Desk::new(alloc, senders, config.buffer_memory)?;
+        let requests = Vec::with_capacity(
+            alloc,
+            config.max_in_flight_requests_per_connection as usize,
+        )?;
         let turns = Vec::new(alloc);
+        let partitions = Partitions::new(alloc, partitions, producer_id, audits)?;
         Ok(Core {
             alloc,
             config,
             names,
-            partitions: Partitions::new(alloc, partitions, producer_id, audits)?,
-            requests: Vec::with_capacity(
-                alloc,
-                config.max_in_flight_requests_per_connection as usize,
-            )?,
+            partitions,
+            requests,
             id_waits: None,
             correlation: first_correlation,
             turns,
             exhausted: false,
             closing: false,
             ended: false,
-            desk: Desk::new(alloc, senders, config.buffer_memory)?,
+            desk,
         })
     }
 }

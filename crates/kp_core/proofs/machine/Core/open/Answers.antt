@@ -9,12 +9,12 @@ pub invariant_of-result : goal.invariant_of-result
 unfolding new_core
 invariant_of-result c =
     opened_kept c.args.audits c.args.config c.args.names c.args.partitions c.args.senders c.args.producer_id c.args.first_correlation
-    c.in_ok-new.field-0 c.in_ok-with_capacity.field-0.items c.new-turns.result.items c.in_ok-new-2.field-0 c.requires c.see_text.ensures c.see_text-2.ensures
-    c.in_ok-new.ensures c.in_ok-with_capacity.ensures.items c.new-turns.ensures.items c.in_ok-new-2.ensures
+    c.in_ok-partitions.partitions c.in_ok-requests.requests.items c.new-turns.result.items c.in_ok-desk.desk c.requires c.see_text.ensures c.see_text-2.ensures
+    c.in_ok-partitions.ensures c.in_ok-requests.ensures.items c.new-turns.ensures.items c.in_ok-desk.ensures
 
 pub returns : goal.returns
 unfolding new_core
 returns c =
     opened-is c.args.audits c.args.config c.args.names c.args.partitions c.args.senders c.args.producer_id c.args.first_correlation
-    c.in_ok-new.field-0 c.in_ok-with_capacity.field-0.items c.new-turns.result.items (all_reports c.in_ok-new-2.field-0) c.in_ok-new.ensures c.in_ok-with_capacity.ensures.items c.new-turns.ensures.items
-    (ap all_reports c.in_ok-new-2.ensures ∙ all_reports-new c.args.senders c.args.config.buffer_memory)
+    c.in_ok-partitions.partitions c.in_ok-requests.requests.items c.new-turns.result.items (all_reports c.in_ok-desk.desk) c.in_ok-partitions.ensures c.in_ok-requests.ensures.items c.new-turns.ensures.items
+    (ap all_reports c.in_ok-desk.ensures ∙ all_reports-new c.args.senders c.args.config.buffer_memory)
