@@ -1,4 +1,5 @@
 pub mod AgainLemmas
+pub mod AnswerLemmas
 pub mod BrokenLemmas
 pub mod CallLemmas
 pub mod CodeLemmas

@@ -78,7 +78,7 @@ repeat-failed node request b mid refused (Ok reply) is responds = absurd is
 repeat-failed node request b mid refused (Err e) is responds = subst (λ e. RepliesBy (Some Repeat) node request b (Err e) mid) (sym is) (first_failed node request b mid refused responds)
 
 -- what holds of a course, and of want of memory, holds of those that are like it
-gives-alike : (c d : Course) (P Q : Type 0) → d ≡ c → (P → Q) → (r : Result Reply BrokerFault) (after : Broker) → Gives c P r after → Gives d Q r after
+pub gives-alike : (c d : Course) (P Q : Type 0) → d ≡ c → (P → Q) → (r : Result Reply BrokerFault) (after : Broker) → Gives c P r after → Gives d Q r after
 gives-alike c d P Q same so (Ok (Frame bytes)) after g = same ∙ g
 gives-alike c d P Q same so (Ok Nothing) after g = same ∙ g
 gives-alike c d P Q same so (Ok HangUp) after g = same ∙ g

@@ -1,7 +1,8 @@
 //! A broker of one topic, which answers as each node of a cluster.
 
-ghost use Rattle.std.specs.Prelude.{◌≡◌, ◌≤◌, length, slice_get, IfOk};
+ghost use Rattle.std.specs.Prelude.{◌≡◌, ◌≤◌, length, replicate, slice_get, IfOk};
 ghost use Rattle.std.specs.Option.{option_copied};
+ghost use Rattle.kp_log.specs.Log.{empty};
 ghost use Rattle.kp_broker.specs.Broker.{clustered, opened, NODE_LIMIT, TOPIC_LIMIT, PARTITION_LIMIT};
 
 mod appending;
@@ -83,10 +84,7 @@ impl Broker {
         let topic = Text::from_str(alloc, topic)?;
         let leaders = first_leaders(alloc, partitions, ports)?;
         let ports = ports.to_vec(alloc)?;
-        let mut logs = Vec::with_capacity(alloc, partitions as usize)?;
-        for _ in 0..partitions {
-            logs.push(PartitionLog::new(alloc))?;
-        }
+        let logs = empty_logs(alloc, partitions)?;
         Ok(Broker {
             alloc,
             topic,
@@ -143,4 +141,15 @@ impl Broker {
             self.produced = self.produced.saturating_add(1);
         }
     }
+}
+
+/// The logs of so many partitions, to which nothing was appended.
+fn empty_logs(alloc: Global, partitions: u32) -> Result<Vec<PartitionLog>, AllocError>
+    ensures { IfOk result (λ logs. logs.items ≡ replicate partitions empty) }
+{
+    let mut logs = Vec::with_capacity(alloc, partitions as usize)?;
+    for _ in 0..partitions {
+        logs.push(PartitionLog::new(alloc))?;
+    }
+    Ok(logs)
 }

@@ -1,4 +1,4 @@
-use Rattle.std.proofs.Common.{◌≡◌, ◌∙◌, ◌≤◌, length, sym, ap, rules, arith}
+use Rattle.std.proofs.Common.{◌≡◌, ◌∙◌, length, sym, ap, rules}
 use Rattle.std.specs.List.{range_with_len}
 use Rattle.std.proofs.lemmas.List.{length-map, length-replicate}
 use Rattle.std.proofs.lemmas.List.FromFn.{length-range_with_len}
@@ -13,10 +13,7 @@ invariant_of-result c =
     let ports : c.in_ok-ports.ports.items ≡ c.args.ports.now = search rules in
     let leaders : length c.in_ok-leaders.leaders.items ≡ n =
     ap length c.in_ok-leaders.ensures ∙ length-map (range_with_len 0 n) (first_leader c.args.ports.now) ∙ length-range_with_len 0 n in
-    let end : c.loop.counter ≤ n = c.loop.auto.counter-end in
-    let past : n ≤ c.loop.counter = c.loop-test.false in
-    let all : c.loop.counter ≡ n = omega (arith, end, past) in
-    let logs : length c.loop.logs.items ≡ n = ap length c.loop.invariant ∙ length-replicate c.loop.counter empty ∙ all in
+    let logs : length c.in_ok-logs.logs.items ≡ n = ap length c.in_ok-logs.ensures ∙ length-replicate n empty in
     let led = first_led c.args.ports.now 0 n c.requires.some_nodes in
     record {
       name = search rules;

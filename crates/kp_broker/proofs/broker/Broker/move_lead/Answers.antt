@@ -1,7 +1,9 @@
-use Rattle.std.proofs.Common.{◌≡◌, ◌<◌, ◌++◌, length, take, drop, map, subst, sym, ap, ◌∙◌, rules}
+use Rattle.std.proofs.Common.{◌≡◌, ◌<◌, ◌++◌, length, take, drop, map, subst, sym, ap, ◌∙◌, arith, rules}
 use Rattle.std.specs.List.{AllByRecursion}
 use Rattle.std.proofs.Math.Seq.{take-append_seam}
 use Rattle.std.proofs.lemmas.List.{length-map}
+use Rattle.std.proofs.lemmas.Grind.{common_steps}
+use Rattle.std.proofs.lemmas.Option.{gets}
 use Rattle.kp_broker.specs.Broker.{leader_after}
 use Rattle.kp_broker.proofs.LeaderLemmas.{still_led}
 use Rattle.kp_broker.proofs.broker.Broker.move_lead.Goals as goal
@@ -28,3 +30,8 @@ invariant_of-self c =
       led = ap length whole ∙ as_many ∙ c.self.invariant.led;
       by_nodes = subst (AllByRecursion (λ leader. leader < length ports)) (sym (whole ∙ are)) (still_led (length ports) c.args.node c.args.to old there c.self.invariant.by_nodes);
     }
+
+pub returns-then-from-len : goal.returns-then-from-len
+returns-then-from-len c =
+    let are : c.replace.new.leaders ≡ map (leader_after c.args.node c.args.to) c.deref_mut.result.now = c.replace.ensures in
+    grind (arith, common_steps, gets)

@@ -1,4 +1,4 @@
-use Rattle.std.proofs.Common.{◌∷◌, [], arith}
+use Rattle.std.proofs.Common.{◌≤◌, ◌∷◌, [], length, arith, rules}
 use Rattle.std.proofs.lemmas.List.FromFn.{map-range_with_len_more}
 use Rattle.kp_frames.specs.Metadata.{broker}
 use Rattle.kp_wire.proofs.ListLemmas.{all_append}
@@ -13,3 +13,8 @@ loop-node-preserved c =
       are = cc (c.in_ok-push.ensures.items, c.in_ok-describe_node.ensures.answer, c.loop-node.invariant.are);
       fit = rw c.in_ok-push.ensures.items (all_append broker.Fits c.loop-node.nodes.items (c.in_ok-describe_node.field-0 ∷ []) c.loop-node.invariant.fit (c.in_ok-describe_node.ensures.fits, tt));
     }
+
+pub returns-clause-answer : goal.returns-clause-answer
+returns-clause-answer c =
+    let past : length c.args.ports.now ≤ c.loop-node.node = c.loop-node-test.false in
+    search rules
