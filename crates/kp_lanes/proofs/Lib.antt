@@ -1,4 +1,5 @@
 pub mod EachLemmas
 pub mod EntryLemmas
 pub mod GateSteps
+pub mod SendLemmas
 pub mod SettlingLemmas

@@ -1,7 +1,9 @@
-use Rattle.std.proofs.Common.{◌≡◌, ◌<◌, ℕ, map, length, get_or, sym, subst, arith}
-use Rattle.kp_lanes.specs.Intake.{common_of}
+use Rattle.std.proofs.Common.{◌≡◌, ◌<◌, ℕ, map, length, get_or, sym, subst, arith, rules}
+use Rattle.std.proofs.lemmas.Grind.{common_steps}
+use Rattle.std.proofs.lemmas.List.{length-map}
+use Rattle.kp_lanes.specs.Intake.{common_of, lanes_of}
 use Rattle.kp_lanes.specs.Sender.{finished_number}
-use Rattle.kp_lanes.specs.Settling.{HasRooms, IsOf}
+use Rattle.kp_lanes.specs.Settling.{Differ, HasRooms, IsOf, numbers}
 use Rattle.kp_lanes.specs.Port.{port_id}
 use Rattle.kp_lanes.specs.declared.sender.Finished.{Finished}
 use Rattle.kp_lanes.proofs.SettlingLemmas.{in_place_in, of_placed, moved, moved_rooms, adds, same_length, still_of}
@@ -39,3 +41,21 @@ returns-in-Err-clause-again c =
 
 pub returns-in-Ok-clause-in_place : goal.returns-in-Ok-clause-in_place
 returns-in-Ok-clause-in_place c = λ k d below. in_place_in c.args.self (get_or c.args.finished.items k d) (c.requires k d below)
+
+pub rooms-requires-clause-differ : goal.rooms-requires-clause-differ
+rooms-requires-clause-differ c = search rules
+
+pub drain_all-requires-clause-differ : goal.drain_all-requires-clause-differ
+drain_all-requires-clause-differ c = subst Differ (sym c.rooms.ensures.finished.numbers) (c.differ.ensures.0 c.if-not-differ.false)
+
+pub returns-in-Ok-clause-all : goal.returns-in-Ok-clause-all
+returns-in-Ok-clause-all c =
+    let differ : Differ (numbers c.args.finished.items) = c.differ.ensures.0 c.if-not-differ.false in
+    let many : length c.args.finished.items ≡ length (lanes_of c.args.self) = grind (arith, common_steps, length-map) in
+    λ _. (many, differ)
+
+pub returns-in-Err-clause-not_missing : goal.returns-in-Err-clause-not_missing
+returns-in-Err-clause-not_missing c =
+    let differ : Differ (numbers c.args.finished.items) = c.differ.ensures.0 c.if-not-differ.false in
+    let many : length c.args.finished.items ≡ length (lanes_of c.args.self) = grind (arith, common_steps, length-map) in
+    λ _. (many, differ)
