@@ -1,5 +1,5 @@
 -- What comes of a content that is read as a request, by what comes of the request.
-use Rattle.std.proofs.Common.{◌≡◌, ◌⊎◌, ℕ, List, Option, Some, None, Result, Ok, Err, inr, sym, subst}
+use Rattle.std.proofs.Common.{◌≡◌, ◌⊎◌, ℕ, List, Option, None, Result, Ok, inr, sym, subst}
 use Rattle.kp_frames.specs.declared.fault.FrameFault.{FrameFault}
 use Rattle.kp_frames.specs.declared.request.Request.{Request}
 use Rattle.kp_frames.specs.Request.{request_at}

@@ -1,7 +1,6 @@
 -- A connection, read by pieces.
-use Rattle.std.proofs.Common.{◌≡◌, ◌≢◌, ℕ, ◌+◌, ◌*◌, ◌<◌, ◌≤◌, Bool, true, false, List, [], ◌∷◌, ◌++◌, length, take, drop, Option, Some, None, Result, Ok, Err, IsErrAnd, refl, sym, ap, subst, ◌∙◌, append_assoc, append-nil, arith}
+use Rattle.std.proofs.Common.{◌≡◌, ◌≢◌, ℕ, ◌+◌, ◌*◌, ◌<◌, ◌≤◌, Bool, true, false, List, [], ◌∷◌, ◌++◌, length, Option, Some, None, Result, Ok, Err, IsErrAnd, refl, sym, ap, subst, ◌∙◌, append_assoc, append-nil, arith}
 use Rattle.std.proofs.lemmas.List.{length-append}
-use Rattle.std.proofs.Math.Seq.{take-append_seam}
 use Rattle.kp_frames.specs.Stream.{Split, at_most, stream, is_faulty}
 use Rattle.kp_frames.proofs.StreamLemmas.{stream_more, faulty_so, stays, parts_of}
 use Rattle.kp_frames.proofs.KeptLemmas.{none_faulty}
@@ -243,10 +242,3 @@ module _ {C : Type 0} (answers : Told C) (in_order : (a : C) (xs : List Answer) 
           none = ap (λ (u : List ℕ). (stream u).frames) rest ∙ rest-split (came has.xs ++ piece);
           at_most = omega (arith, ap length all, length-append (came has.xs) piece, has.at_most);
         }
-
--- ---- the piece that was read
-
--- what stands in the buffer behind a read is what was put there
-pub piece-read : (len total : ℕ) (new old all : List ℕ) → all ≡ take total (new ++ drop (length new) old) → length new ≡ total → take len all ≡ take len new
-piece-read len total new old all is full =
-    ap (take len) (is ∙ ap (λ n. take n (new ++ drop (length new) old)) (sym full) ∙ take-append_seam new (drop (length new) old))

@@ -1,9 +1,10 @@
 //! A connection to a node is served: its frames are answered, but where a plan says otherwise.
 
-ghost use Rattle.std.specs.Prelude.{◌≡◌, []};
+ghost use Rattle.std.specs.Prelude.{◌≡◌, [], length};
 ghost use Rattle.kp_frames.specs.Stream.{stream};
 ghost use Rattle.kp_broker.specs.Serving.{IsServed, IsServedAs};
 ghost use Rattle.kp_broker.specs.Taking.{TakesFrame, TakesFrames, TakesPiece};
+ghost use Rattle.kp_broker.specs.declared.serving.streams.TheConstants.{PIECE_LIMIT};
 
 mod connection;
 mod replying;
@@ -53,14 +54,30 @@ impl Broker {
     {
         let mut splitter = Splitter::new(self.alloc());
         let mut piece = empty_piece(self.alloc())?;
+        self.serve_pieces(node, &mut splitter, piece.as_mut_slice(), connection, plan)
+    }
+
+    /// Reads the stream from its begin on, a piece at a time, and handles the frames in it.
+    fn serve_pieces<C: Connection>(
+        &mut self,
+        node: u16,
+        splitter: &mut Splitter,
+        piece: &mut [u8],
+        connection: &mut C,
+        plan: &FaultPlan,
+    ) -> Result<Served, BrokerFault>
+        requires begins { splitter.old ≡ [] }
+        requires room { length piece.old ≡ PIECE_LIMIT }
+        ensures { IsServedAs C.answers node plan.now self.old connection.old result connection.new self.new }
+    {
         for _ in 0..READ_LIMIT {
-            let len = read_piece(connection, piece.as_mut_slice())?;
+            let len = read_piece(connection, piece)?;
             if len == 0 {
                 return Ok(Served::End);
             }
             if let Served::HungUp = self.take_piece(
                 node,
-                &mut splitter,
+                splitter,
                 &piece[..len],
                 connection,
                 plan,

@@ -1,4 +1,4 @@
-use Rattle.std.proofs.Common.{◌≡◌, ap, ◌∙◌, refl}
+use Rattle.std.proofs.Common.{ap, ◌∙◌, refl}
 use Rattle.kp_lanes.specs.Gate.{outside}
 use Rattle.kp_lanes.proofs.SendLemmas.{left_again, on_ok_so, if_err_so, closed_not_full}
 use Rattle.kp_lanes.proofs.sender.Sender.flush.Goals as goal

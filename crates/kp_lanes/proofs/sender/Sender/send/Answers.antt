@@ -1,4 +1,4 @@
-use Rattle.std.proofs.Common.{◌≡◌, ap, ◌∙◌, rules}
+use Rattle.std.proofs.Common.{ap, ◌∙◌, rules}
 use Rattle.kp_lanes.specs.Gate.{outside}
 use Rattle.kp_lanes.proofs.SendLemmas.{left_again, on_ok_so, if_err_so}
 use Rattle.kp_lanes.proofs.sender.Sender.send.Goals as goal
