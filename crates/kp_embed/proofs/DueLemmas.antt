@@ -5,7 +5,7 @@ use Rattle.std.specs.List.{AllByRecursion, reduce}
 use Rattle.std.proofs.lemmas.Bool.Decides.{nat_tests}
 use Rattle.kp_cluster.specs.Actions.{earlier}
 use Rattle.kp_core.specs.Spent.{can_only_end}
-use Rattle.kp_embed.specs.Due.{core_due, no_sooner}
+use Rattle.kp_embed.specs.Due.{NotLater, core_due, no_sooner}
 use Rattle.kp_rules.specs.Due.{comes, moments, next_due_from}
 use Rattle.kp_rules.specs.Records.{Core}
 
@@ -50,3 +50,8 @@ earlier_from from (Some x) (Some y) l m = omega (arith, l, m)
 pub no_sooner_from : (from : ℕ) (due : Option ℕ) → IsFrom from (no_sooner from due)
 no_sooner_from from None = tt
 no_sooner_from from (Some x) = omega arith
+
+pub earlier_not_later : (a b : Option ℕ) → NotLater b (earlier a b)
+earlier_not_later a None = tt
+earlier_not_later None (Some y) = (y, refl, omega arith)
+earlier_not_later (Some x) (Some y) = (min x y, refl, omega arith)
