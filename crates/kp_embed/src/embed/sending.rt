@@ -72,7 +72,7 @@ impl Embed {
                 Err(fault) => Err(fault),
             },
             Err(fault) => {
-                *refused = Some(body);
+                give_back(body, refused);
                 Err(fault)
             }
         }
@@ -137,11 +137,11 @@ impl Embed {
         ensures still { self.new.is_closed ≡ self.old.is_closed }
     {
         let Some(following) = ticket.number.checked_add(1) else {
-            *refused = Some(body);
+            give_back(body, refused);
             return Err(SendFault::Spent);
         };
         let Some(core) = &mut self.core else {
-            *refused = Some(body);
+            give_back(body, refused);
             return Err(SendFault::NotReady);
         };
         let item = Item {
@@ -159,7 +159,7 @@ impl Embed {
                 Ok(ticket)
             }
             Err(fault) => {
-                *refused = Some(back.unwrap().body);
+                give_back(back.unwrap().body, refused);
                 Err(fault)
             }
         }
@@ -173,6 +173,14 @@ impl Embed {
             self.cluster.want(node);
         }
     }
+}
+
+/// The record is put into `refused`.
+#[inline(always)]
+fn give_back(body: Record, refused: &mut Option<Record>)
+    ensures { refused.new ≡ Some body }
+{
+    *refused = Some(body);
 }
 
 /// The core takes the item, or is as it was, and the item is put into `refused`.
