@@ -1,5 +1,5 @@
 -- Values that are accepted one after the other.
-use Rattle.std.proofs.Common.{◌≡◌, ℕ, ℤ, ◌+◌, ◌<◌, List, [], ◌∷◌, ◌++◌, length, take, drop, refl, sym, ap, ◌∙◌}
+use Rattle.std.proofs.Common.{◌≡◌, ℕ, ℤ, ◌+◌, ◌<◌, List, [], ◌∷◌, ◌++◌, length, take, drop, refl, sym, subst, ap, ◌∙◌}
 use Rattle.std.proofs.lemmas.List.{append_assoc, drop_more, length-append}
 use Rattle.std.proofs.Math.ListN.{get_or}
 use Rattle.kp_c.specs.Sending.{AcceptsEach, AcceptsSome, AcceptsValue, none, one_more, values_in}
@@ -38,3 +38,10 @@ pub so_many_some : (timestamp : ℤ) (now : ℕ) (target : Target) (lengths byte
     → SoMany timestamp now target lengths bytes place rest old new → AcceptsSome timestamp now target lengths bytes place old new
 so_many_some timestamp now target lengths bytes place rest old new s =
     record { values = s.values; others = values_in (drop place lengths) rest; first = s.first; many = s.many; each = s.each }
+
+-- What is equal to the timestamp and the target stands for them.
+pub accepts_same : (at timestamp : ℤ) (now : ℕ) (to target : Target) (lengths bytes : List ℕ) (count : ℕ) (old new : Producer)
+    → at ≡ timestamp → to ≡ target → AcceptsSome at now to lengths bytes count old new → AcceptsSome timestamp now target lengths bytes count old new
+accepts_same at timestamp now to target lengths bytes count old new at_is to_is accepts =
+    subst (λ (t : ℤ). AcceptsSome t now target lengths bytes count old new) at_is
+    (subst (λ (t : Target). AcceptsSome at now t lengths bytes count old new) to_is accepts)

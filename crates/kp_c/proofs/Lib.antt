@@ -2,3 +2,6 @@ mod AsBox
 mod ReportLemmas
 mod BatchLemmas
 mod HeaderLemmas
+mod HeldLemmas
+mod MakingLemmas
+mod SendLemmas
