@@ -1,5 +1,6 @@
 -- Values that are accepted one after the other.
 use Rattle.std.proofs.Common.{◌≡◌, ℕ, ℤ, ◌+◌, ◌<◌, List, [], ◌∷◌, ◌++◌, length, take, drop, refl, sym, subst, ap, ◌∙◌}
+use Rattle.std.specs.Prelude.{◌≢◌, pos, Result, Ok, Err, OnOk, OnErr}
 use Rattle.std.proofs.lemmas.List.{append_assoc, drop_more, length-append}
 use Rattle.std.proofs.Math.ListN.{get_or}
 use Rattle.kp_c.specs.Sending.{AcceptsEach, AcceptsSome, AcceptsValue, none, one_more, values_in}
@@ -45,3 +46,19 @@ pub accepts_same : (at timestamp : ℤ) (now : ℕ) (to target : Target) (length
 accepts_same at timestamp now to target lengths bytes count old new at_is to_is accepts =
     subst (λ (t : ℤ). AcceptsSome t now target lengths bytes count old new) at_is
     (subst (λ (t : Target). AcceptsSome at now t lengths bytes count old new) to_is accepts)
+
+-- The next value was refused, or there is no other: so many were accepted.
+pub some_of : (at timestamp : ℤ) (now : ℕ) (target : Target) (lengths bytes : List ℕ) (place : ℕ) (rest : List ℕ) (old middle new : Producer)
+    → at ≡ timestamp → SoMany at now target lengths bytes place rest old middle → new ≡ middle → AcceptsSome timestamp now target lengths bytes place old new
+some_of at timestamp now target lengths bytes place rest old middle new at_is s same = record {
+  values = s.values;
+  others = values_in (drop place lengths) rest;
+  first = s.first;
+  many = s.many;
+  each = subst (λ (t : ℤ). AcceptsEach t now target old s.values new) at_is (subst (λ (p : Producer). AcceptsEach at now target old s.values p) (sym same) s.each);
+}
+
+-- What holds where it was done holds where the status is that of what was done.
+pub where_done : {E : Type 0} (done : Result (Unit {0}) E) (status : ℤ) (P : Type 0) → OnErr done (status ≢ pos 0) → OnOk done P → status ≡ pos 0 → P
+where_done (Ok x) status P refused so is = so
+where_done (Err e) status P refused so is = absurd (refused is)

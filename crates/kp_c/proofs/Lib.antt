@@ -3,5 +3,4 @@ mod ReportLemmas
 mod BatchLemmas
 mod HeaderLemmas
 mod HeldLemmas
-mod MakingLemmas
 mod SendLemmas

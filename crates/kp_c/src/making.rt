@@ -58,16 +58,24 @@ fn make(
     if let Err(fault) = config.producer.check() {
         return Err(Refusal::Config(fault));
     }
-    let names = Names {
-        topic: read_topic(alloc, topic)?,
-        client: read_client(alloc, client)?,
-    };
+    let names = read_names(alloc, topic, client)?;
     let bootstrap = read_addresses(alloc, addresses)?;
     let embed = Embed::new(alloc, config, names, bootstrap, seed, now)?;
     match Box::new(alloc, embed) {
         Ok(made) => Ok(made),
         Err(_) => Err(Refusal::OutOfMemory),
     }
+}
+
+fn read_names(alloc: Global, topic: &[u8], client: &[u8]) -> Result<Names, Refusal>
+    ensures same { IfOk result (λ n. n ≡ record { topic = topic.now; client = client.now }) }
+    ensures topic_fits { IfOk result (λ n. length n.topic ≤ NAME_LIMIT) }
+    ensures client_fits { IfOk result (λ n. length n.client ≤ NAME_LIMIT) }
+{
+    Ok(Names {
+        topic: read_topic(alloc, topic)?,
+        client: read_client(alloc, client)?,
+    })
 }
 
 fn read_topic(alloc: Global, topic: &[u8]) -> Result<Text, Refusal>
