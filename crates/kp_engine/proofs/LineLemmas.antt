@@ -8,13 +8,14 @@ use Rattle.futures.specs.Task.{Covers, Keeps, Lasting}
 use Rattle.futures.specs.declared.task.Poll.{Poll}
 use Rattle.futures.specs.declared.task.context.Context.{Context}
 use Rattle.kp_wire.proofs.ListLemmas.{all_append}
-use Rattle.kp_connection.specs.Wire.{Told}
+use Rattle.kp_connection.specs.Wire.{Told, Wired}
 use Rattle.kp_rules.specs.Calls.{Call}
 use Rattle.kp_engine.specs.Closing.{Polled}
 use Rattle.kp_engine.specs.Cluster.{PollsCluster}
 use Rattle.kp_engine.specs.Engine.{IfOpen, stop_in}
 use Rattle.kp_engine.specs.Exchange.{with_strays}
-use Rattle.kp_engine.specs.Lines.{LineRound, RoundOver, RoundsEach, is_given_up, is_lost, node_lost, stop_at}
+use Rattle.kp_engine.specs.Lines.{LineRound, RoundOver, RoundsEach, TellsRefusal, is_given_up, is_lost, node_lost, stop_at}
+use Rattle.kp_engine.specs.Rounds.{HasRound}
 use Rattle.kp_engine.specs.Window.{most_requests}
 use Rattle.kp_engine.specs.declared.cluster.ClusterEngine.{ClusterEngine}
 use Rattle.kp_engine.specs.declared.engine.Line.{Line}
@@ -24,6 +25,20 @@ use Rattle.kp_engine.specs.declared.node_line.NodeLine.{NodeLine}
 use Rattle.kp_engine.specs.declared.stop.Stop.{Stop}
 use Rattle.kp_engine.proofs.ClosingLemmas.{polls_then}
 use Rattle.kp_engine.proofs.RoundLemmas.{made_behind, round_made}
+
+-- ---- a round
+
+-- Its round over an open connection, by that of an exchange which knows its strays.
+pub round_over : {S : Type 0} (answers : Told S) (now : ℕ) (l : NodeLine S) (wire : Wired S) (x heard y : Exchange) (most : ℕ) (result : Result (Unit {0}) AllocError) (cut left : Line S)
+    → l.line ≡ Open wire → heard ≡ with_strays l.strays x → most ≡ most_requests l.window l.node heard.core → HasRound answers most l.node now heard wire y cut
+    → left ≡ cut → TellsRefusal left result → RoundOver answers l now l.line x result y left
+round_over {S = S} answers now l wire x heard y most result cut left is-open heard-is most-is round left-is tells =
+    subst (λ (line : Line S). RoundOver answers l now line x result y left) (sym is-open) (
+      subst (λ (line : Line S). HasRound answers (most_requests l.window l.node x.core) l.node now (with_strays l.strays x) wire y line) (sym left-is)
+          (subst (λ (its : Exchange). HasRound answers (most_requests l.window l.node its.core) l.node now its wire y cut) heard-is
+          (subst (λ (n : ℕ). HasRound answers n l.node now heard wire y cut) most-is round)),
+      tells,
+    )
 
 -- ---- who wakes
 

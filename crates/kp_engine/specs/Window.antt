@@ -38,7 +38,10 @@ abbrev pub wider : Option ℕ → Core → Option ℕ
 wider None s = None
 wider (Some window) s = if nat_le s.config.max_in_flight_requests_per_connection (window + 1) then None else Some (window + 1)
 
--- the window behind a round: wider, where one was answered and that widens it
+-- the window behind the replies of a round: wider, where an answer widens it and not as many are in flight any more as may
+abbrev pub widened : Bool → ℕ → Core → Option ℕ → Option ℕ
+widened widens node after window = if widens && not (is_full window node after) then wider window after else window
+
+-- the window behind a round: wider, where one was answered that widens it
 abbrev pub window_after : (node now : ℕ) → (before after : Core) → Option ℕ → Option ℕ
-window_after node now before after window =
-    if may_widen node now window before && not (is_full window node after) then wider window after else window
+window_after node now before after window = widened (may_widen node now window before) node after window

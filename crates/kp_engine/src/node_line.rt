@@ -27,6 +27,7 @@ pub(crate) struct NodeLine<S> {
 
 impl<S: Stream> NodeLine<S> {
     ghost use Rattle.kp_engine.specs.Lines.{IsFresh, LineRound, goes_to, is_given_up, is_lost};
+    ghost use Rattle.kp_engine.specs.Window.{widened};
 
     /// A connection to this node, over which nothing was written or read, with so many requests in flight at a time.
     pub(crate) fn new(alloc: Global, node: u32, stream: S, window: Option<u64>) -> NodeLine<S>
@@ -99,20 +100,38 @@ impl<S: Stream> NodeLine<S> {
         let widens = may_widen(&exchange.core, self.node, now, self.window);
         match round(exchange, wire, cx, most, self.node, now) {
             Ok(None) => {
-                self.strays = exchange.notes.strays;
-                if widens && !is_full(&exchange.core, self.node, self.window) {
-                    self.window = wider(&exchange.core, self.window);
-                }
+                self.note_replies(exchange, widens);
                 Ok(())
             }
             Ok(Some(cause)) => {
-                self.line = Line::Stopped(Stop::NeedStream(cause));
+                give_up(&mut self.line, Stop::NeedStream(cause));
                 Ok(())
             }
             Err(refused) => {
-                self.line = Line::Stopped(Stop::OutOfMemory);
+                give_up(&mut self.line, Stop::OutOfMemory);
                 Err(refused)
             }
         }
     }
+
+    /// What a round's replies leave of it: how many in a row named no request in flight, and its window, which an answer has widened
+    /// where it may, and fewer requests are in flight now than may.
+    fn note_replies(&mut self, exchange: &Exchange, widens: bool)
+        ensures strays { self.new.strays ≡ exchange.now.notes.strays }
+        ensures window { self.new.window ≡ widened widens self.old.node exchange.now.core self.old.window }
+        ensures node { self.new.node ≡ self.old.node }
+        ensures line { self.new.line ≡ self.old.line }
+    {
+        self.strays = exchange.notes.strays;
+        if widens && !is_full(&exchange.core, self.node, self.window) {
+            self.window = wider(&exchange.core, self.window);
+        }
+    }
+}
+
+/// The connection is given up, for this.
+fn give_up<S: Stream>(line: &mut Line<S>, stop: Stop)
+    ensures { line.new ≡ Line.Stopped stop }
+{
+    *line = Line::Stopped(stop);
 }
