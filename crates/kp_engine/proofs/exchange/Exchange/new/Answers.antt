@@ -22,3 +22,9 @@ invariant_of-result c =
         omega (arith, rooms, c.senders-senders.ensures, c.in-Ok-room.ensures.reports.1),
       );
     }
+
+pub returns-clause-turn : goal.returns-clause-turn
+returns-clause-turn c = c.new.ensures.entries
+
+pub returns-clause-notes : goal.returns-clause-notes
+returns-clause-notes c = c.new.ensures.notes
