@@ -1,12 +1,12 @@
-use Rattle.std.proofs.Common.{◌<◌, arith, get_or, length, rules}
-use Rattle.std.proofs.lemmas.List.{drop_more}
-use Rattle.kp_engine.proofs.LineLemmas.{all_had_one, carries_on, ends_here, one_wakes_more}
+use Rattle.std.proofs.Common.{◌<◌, arith, get_or, length, subst}
+use Rattle.std.proofs.lemmas.List.{drop_more, take_all}
+use Rattle.kp_engine.proofs.LineLemmas.{AllWake, all_had_one, carries_on, ends_here, one_wakes_more}
 use Rattle.kp_engine.proofs.lines.poll_rounds.Goals as goal
 
 pub loop-line-init : goal.loop-line-init
 loop-line-init g c = record {
   carries = λ last z ms all. all;
-  keeps = search rules;
+  keeps = λ fact h. h;
   wake = tt;
 }
 
@@ -36,3 +36,13 @@ pub returns-clause-rounds : goal.returns-clause-rounds
 returns-clause-rounds g c =
     all_had_one g.S.Stream.answers c.args.now c.args.exchange.now c.args.lines.now c.loop-line.exchange c.loop-line.lines c.loop-line.line-index c.loop-line.invariant.carries
     (omega (arith, c.loop-line-test.false, c.loop-line.auto.lines))
+
+pub returns-clause-kept : goal.returns-clause-kept
+returns-clause-kept g c = c.loop-line.invariant.keeps
+
+pub returns-clause-registered : goal.returns-clause-registered
+returns-clause-registered g c =
+    subst (AllWake g.S.Stream.reader c.loop-line.cx) (take_all c.loop-line.line-index c.loop-line.lines (omega (arith, c.loop-line-test.false, c.loop-line.auto.lines))) c.loop-line.invariant.wake
+
+pub returns-in-Err-clause-registered : goal.returns-in-Err-clause-registered
+returns-in-Err-clause-registered g c = tt
