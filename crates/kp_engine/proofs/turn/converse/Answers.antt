@@ -1,4 +1,4 @@
-use Rattle.std.proofs.Common.{◌≡◌, Bool, false, Ok, refl, subst}
+use Rattle.std.proofs.Common.{Bool, false, Ok, refl, subst}
 use Rattle.kp_engine.specs.Talking.{WritesAll, WritesOn, WritesCut}
 use Rattle.kp_engine.proofs.TalkingLemmas.{cut_by_write, out_in_requests, talked}
 use Rattle.kp_engine.proofs.turn.converse.Goals as goal
