@@ -36,6 +36,3 @@ returns-in_default-clause-registered g c = c.turn-polled.ensures.registered
 
 pub returns-in_default-clause-kept : goal.returns-in_default-clause-kept
 returns-in_default-clause-kept g c = c.turn-polled.ensures.kept
-
-pub invariant_of-self-in-Ready : goal.invariant_of-self-in-Ready
-invariant_of-self-in-Ready g c = record { sound = refl }
