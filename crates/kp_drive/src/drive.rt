@@ -19,7 +19,7 @@ ghost use Rattle.kp_rules.specs.Opening.{NAME_LIMIT};
 ghost use Rattle.tokio.specs.Timers.{sleep_deadline, sleep_source};
 
 use crate::doing::do_all;
-use crate::host::Host;
+use crate::host::{Host, read_room};
 use crate::link::Link;
 use crate::links::poll_links;
 use futures::task::{Context, Poll};
@@ -82,16 +82,21 @@ impl<'r, R: Clock, K: Drop, S: Stream, D: Dial<Dialing = K, Stream = S>> Drive<'
         ensures links { IfOk result (λ drive. links_of drive ≡ []) }
         ensures moment { IfOk result (λ drive. moment_of drive ≡ 0) }
     {
-        let embed = Embed::new(alloc, config, names, bootstrap, seed, 0)?;
         let start = Instant::now(rt)?;
         let timer = handle.time().sleep_until(start)?;
-        let host = Host::new(alloc, embed, dial)?;
+        let room = read_room(alloc)?;
+        let embed = Embed::new(alloc, config, names, bootstrap, seed, 0)?;
         Ok(Drive {
             rt,
             start,
             clock: Passed::since(start),
             timer,
-            host,
+            host: Host {
+                alloc,
+                embed,
+                dial,
+                room,
+            },
             links: Vec::new(alloc),
         })
     }

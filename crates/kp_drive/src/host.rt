@@ -1,7 +1,5 @@
 //! What all connections share.
 
-ghost use Rattle.std.specs.Prelude.{◌≡◌, IfOk};
-
 use kp_embed::Embed;
 use std::alloc::{AllocError, Global};
 
@@ -18,17 +16,9 @@ pub(crate) struct Host<D> {
     pub(crate) room: Vec<u8>,
 }
 
-impl<D: Drop> Host<D> {
-    pub(crate) fn new(alloc: Global, embed: Embed, dial: D) -> Result<Host<D>, AllocError>
-        ensures { IfOk result (λ host. host.embed ≡ embed) }
-    {
-        let mut room = Vec::new(alloc);
-        room.resize(READ_ROOM, 0)?;
-        Ok(Host {
-            alloc,
-            embed,
-            dial,
-            room,
-        })
-    }
+/// Room for one read.
+pub(crate) fn read_room(alloc: Global) -> Result<Vec<u8>, AllocError> {
+    let mut room = Vec::new(alloc);
+    room.resize(READ_ROOM, 0)?;
+    Ok(room)
 }
