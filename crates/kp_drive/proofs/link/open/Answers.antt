@@ -1,8 +1,16 @@
-use Rattle.std.proofs.Common.{sym, subst}
+use Rattle.std.proofs.Common.{◌≡◌, [], ap, sym, subst}
 use Rattle.kp_embed.specs.Going.{Stays}
+use Rattle.kp_drive.specs.Serving.{fresh_pipe}
+use Rattle.kp_drive.specs.declared.pipe.Pipe.{Pipe}
 use Rattle.kp_drive.proofs.ServeLemmas.{stays_same}
 use Rattle.kp_drive.proofs.link.open.Goals.{in-Some+in-Ok+in-Err, in-Some+in_default-new, in_default}
 use Rattle.kp_drive.proofs.link.open.Goals as goal
+
+fresh_unwritten : {S : Type 0} (pipe : Pipe S) (stream : S) → pipe ≡ fresh_pipe stream → pipe.unwritten ≡ []
+fresh_unwritten {S} pipe stream is = ap (λ (b : Pipe S). b.unwritten) is
+
+pub returns-in-Ok-connected : goal.returns-in-Ok-connected
+returns-in-Ok-connected g c = λ k. (fresh_unwritten c.in-Ok.pipe c.in-Some.stream c.in-Ok.ensures, c.in-Ok-connected.ensures.connects)
 
 pub returns : goal.returns
 returns g c = λ k.
