@@ -44,7 +44,7 @@ impl<K: Drop, S: Stream> Link<K, S> {
                 Poll::Ready(made) => open(host.alloc, &mut host.embed, made, node, now),
             },
             Link::Open(pipe) => {
-                match pipe.poll_turn(&mut host.embed, &mut host.room, cx, node, now) {
+                match pipe.poll_serve(&mut host.embed, &mut host.room, cx, node, now) {
                     Flow::Idle => return false,
                     Flow::Moved => return true,
                     Flow::Ended => {

@@ -32,7 +32,7 @@ impl<S: Stream> Pipe<S> {
     }
 
     /// Takes, writes, reads and feeds, each once at most. It is idle where both a read and what is to be written wait.
-    pub(crate) fn poll_turn(
+    pub(crate) fn poll_serve(
         &mut self,
         embed: &mut Embed,
         room: &mut [u8],

@@ -3,7 +3,7 @@ use Rattle.kp_drive.specs.Flow.{ByFlow}
 use Rattle.kp_drive.specs.Serving.{Serves, Stops}
 use Rattle.kp_drive.specs.declared.flow.Flow.{Flow}
 use Rattle.kp_drive.proofs.ServeLemmas.{by_moved, serves_by, serves_then, stops_here}
-use Rattle.kp_drive.proofs.pipe.Pipe.poll_turn.Goals as goal
+use Rattle.kp_drive.proofs.pipe.Pipe.poll_serve.Goals as goal
 
 pub returns-in-Idle-clause-serves : goal.returns-in-Idle-clause-serves
 returns-in-Idle-clause-serves g c =
