@@ -1,12 +1,12 @@
 -- What is new, and what was done for it.
 use Rattle.std.proofs.Common.{◌≡◌, ◌≢◌, ◌⊎◌, ℕ, zero, suc, Bool, true, false, true≢false, List, [], ◌∷◌, ◌++◌, Option, Some, None, Result, Ok, Err, refl, sym, ap, subst, inl, inr, ⊎_elim, ◌∙◌}
-use Rattle.std.specs.Prelude.{if◌then◌else◌, nat_eq, nat_lt, min, length, is_some}
+use Rattle.std.specs.Prelude.{if◌then◌else◌, nat_eq, nat_lt, min, is_some}
 use Rattle.std.specs.Option.{option_map, option_map_or}
 use Rattle.std.proofs.lemmas.Bool.{cases_eq, eq-eqb, ne_eqb}
 use Rattle.kp_cluster.specs.Actions.{told}
 use Rattle.kp_cluster.specs.Actions as actions
 use Rattle.kp_cluster.specs.Backoff.{Loses}
-use Rattle.kp_cluster.specs.Cluster.{Cluster, chart_refused, connected, leader_of, with_answered, with_wanted}
+use Rattle.kp_cluster.specs.Cluster.{Cluster, chart_refused, connected, is_open_at, leader_of, with_answered, with_wanted}
 use Rattle.kp_cluster.specs.Learning.{learned}
 use Rattle.kp_cluster.specs.Metadata.{asked, heeded, may_ask}
 use Rattle.kp_cluster.specs.Runs.{Call, Runs, Step}
@@ -19,7 +19,7 @@ use Rattle.kp_hello.specs.declared.fault.HandshakeFault.TheVariants as fault
 use Rattle.kp_hello.specs.declared.hello.TheConstants.{PARTITION_LIMIT}
 use Rattle.kp_network.specs.Links.{AreStill, IsDialing, IsStill, OnlyAt, has, is_made, link_at}
 use Rattle.kp_network.specs.Network.{next_led}
-use Rattle.kp_network.specs.News.{Acts, ActsIf, Asks, Begins, Closes, Goes, GoesOn, Hears, IsInTurn, Knows, Makes, Obeys, Renews, Tells, all_wanted, has_after, node_of, told_after, told_leader}
+use Rattle.kp_network.specs.News.{Acts, ActsIf, Asks, Begins, Closes, Goes, GoesOn, Hears, IsInTurn, Knows, Makes, Obeys, Renews, Tells, all_wanted, has_after, node_of, told_after, told_leader, while_open}
 use Rattle.kp_network.specs.declared.link.Link.{Link}
 use Rattle.kp_network.specs.declared.link.Link.TheVariants as link
 use Rattle.kp_network.specs.declared.nodes.Nodes.{Nodes}
@@ -90,6 +90,47 @@ module _ (now : ℕ) where
   goes_asking_on a b before _ _ _ (GoesOn.left old away same) = goes_same a b same
   goes_asking_on a b before _ _ _ (GoesOn.waits old new there node same) = goes_same a b same
   goes_asking_on a b before _ _ _ (GoesOn.heard old answer there hears) = goes_hearing old.node answer a b hears
+
+-- ---- the question, which is left, or waits on, or is heard
+
+module _ {K S : Type 0} (now : ℕ) (a : Cluster) (count : ℕ) where
+  left_unless : (question : Question K S) (there : Bool) → is_open_at question.node a.slots ≡ there → (if there then Some question else None) ≡ None → GoesOn now a a count count (Some question) None
+  left_unless question true is none = absurd (true≢false (ap is_some none))
+  left_unless question false is none = GoesOn.left question is refl
+
+  left_or_none : (old : Option (Question K S)) → while_open a old ≡ None → GoesOn now a a count count old None
+  left_or_none None none = GoesOn.none refl
+  left_or_none (Some question) none = left_unless question (is_open_at question.node a.slots) refl none
+
+  open_where : (old question : Question K S) (there : Bool) → is_open_at old.node a.slots ≡ there → (if there then Some old else None) ≡ Some question
+      → (Some old ≡ Some question) × (is_open_at question.node a.slots ≡ true)
+  open_where old question true is some = (some, subst (λ (o : Option (Question K S)). option_map_or (λ q. is_open_at q.node a.slots) o true ≡ true) some is)
+  open_where old question false is some = absurd (true≢false (sym (ap is_some some)))
+
+  open_of : (old : Option (Question K S)) (question : Question K S) → while_open a old ≡ Some question → (old ≡ Some question) × (is_open_at question.node a.slots ≡ true)
+  open_of None question some = absurd (true≢false (sym (ap is_some some)))
+  open_of (Some old) question some = open_where old question (is_open_at old.node a.slots) refl some
+
+  pub is_left : (b : Cluster) (after : ℕ) (old new : Option (Question K S)) → while_open a old ≡ None → new ≡ None → b ≡ a → after ≡ count → GoesOn now a b count after old new
+  is_left b after old new left none same told =
+      subst (λ (n : Option (Question K S)). GoesOn now a b count after old n) (sym none)
+      (subst (λ (c : Cluster). GoesOn now a c count after old None) (sym same)
+      (subst (λ (n : ℕ). GoesOn now a a count n old None) (sym told) (left_or_none old left)))
+
+  pub waits_on : (b : Cluster) (after : ℕ) (old : Option (Question K S)) (question new : Question K S) → while_open a old ≡ Some question → new.node ≡ question.node → b ≡ a → after ≡ count
+      → GoesOn now a b count after old (Some new)
+  waits_on b after old question new waits node same told =
+      let there = open_of old question waits in
+      subst (λ (o : Option (Question K S)). GoesOn now a b count after o (Some new)) (sym there.0)
+      (subst (λ (n : ℕ). GoesOn now a b count n (Some question) (Some new)) (sym told) (GoesOn.waits question new there.1 node same))
+
+  pub is_heard : (b : Cluster) (after : ℕ) (old : Option (Question K S)) (question : Question K S) (new : Option (Question K S)) (answer : Result Chart HandshakeFault) → while_open a old ≡ Some question
+      → Hears question.node now answer a b → new ≡ None → after ≡ told_after answer count → GoesOn now a b count after old new
+  is_heard b after old question new answer waits hears none told =
+      let there = open_of old question waits in
+      subst (λ (n : Option (Question K S)). GoesOn now a b count after old n) (sym none)
+      (subst (λ (o : Option (Question K S)). GoesOn now a b count after o None) (sym there.0)
+      (subst (λ (n : ℕ). GoesOn now a b count n (Some question) None) (sym told) (GoesOn.heard question answer there.1 hears)))
 
 told_by : (answer : Result Chart HandshakeFault) (count : ℕ) → (told_after answer count ≡ count) ⊎ (told_after answer count ≡ 0)
 told_by (Ok chart) count = inr refl

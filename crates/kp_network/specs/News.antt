@@ -83,6 +83,11 @@ abbrev pub told_after : Result Chart HandshakeFault → ℕ → ℕ
 told_after (Ok chart) count = 0
 told_after (Err fault) count = count
 
+-- a question, while the connection to its node is open
+abbrev pub while_open : {K S : Type 0} → Cluster → Option (Question K S) → Option (Question K S)
+while_open c None = None
+while_open c (Some question) = if is_open_at question.node c.slots then Some question else None
+
 -- A question waits on, or its answer is heard, while the connection to its node is open; else it is left.
 pub data GoesOn {K S : Type 0} (now : ℕ) (a b : Cluster) (count : ℕ) : ℕ → (old new : Option (Question K S)) → Type 0 where
   none : b ≡ a → GoesOn now a b count count None None

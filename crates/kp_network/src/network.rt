@@ -1,13 +1,13 @@
 //! A producer's connections to the nodes of a cluster.
 
-ghost use Rattle.std.specs.Prelude.{◌≡◌, ◌≤◌, ◌+◌, ℕ, [], false};
+ghost use Rattle.std.specs.Prelude.{◌≡◌, ◌≤◌, ◌+◌, ℕ, [], None, false, is_some};
 ghost use Rattle.std.specs.Option.{option_map_or};
 ghost use Rattle.futures.specs.Poll.{OnPending};
 ghost use Rattle.futures.specs.Task.{Hears, Keeps};
 ghost use Rattle.kp_cluster.specs.Backoff.{Loses};
 ghost use Rattle.kp_network.specs.Links.{OnlyAt, has};
 ghost use Rattle.kp_network.specs.Asking.{waited_by_question};
-ghost use Rattle.kp_network.specs.News.{ActsIf, GoesOn, IsToldNext, Renews, Tells, made_after, ready_of};
+ghost use Rattle.kp_network.specs.News.{ActsIf, GoesOn, Hears as HearsAnswer, IsToldNext, Renews, Tells, made_after, ready_of, told_after, while_open};
 ghost use Rattle.kp_running.specs.Over.{IfEnded};
 
 use crate::nodes::Nodes;
@@ -18,7 +18,7 @@ use kp_connection::Stream;
 use kp_core::Core;
 use kp_dial::Dial;
 use kp_engine::Moves;
-use kp_hello::PARTITION_LIMIT;
+use kp_hello::{Chart, HandshakeFault, PARTITION_LIMIT};
 use kp_rules::Names;
 use kp_running::{Keeping, News, Passed};
 use std::alloc::Global;
@@ -132,26 +132,53 @@ impl<'r, R: Clock, K: Drop, S: Stream, D: Dial<Dialing = K, Stream = S>> Network
         ensures clock { self.new.clock ≡ self.old.clock }
         ensures kept { Keeps cx.old cx.new }
     {
-        let Some(mut question) = self.question.take() else {
+        self.leave_question();
+        let Some(question) = &mut self.question else {
             return Poll::Pending;
         };
-        if !self.nodes.cluster.is_open(question.node) {
-            return Poll::Pending;
+        let node = question.node;
+        match question.poll_answer(self.alloc, &self.names, &mut self.nodes.dial, cx) {
+            Poll::Pending => Poll::Pending,
+            Poll::Ready(answer) => {
+                self.hear(node, &answer, now);
+                cx.yield_now()
+            }
         }
-        match question.poll_chart(self.alloc, &self.names, &mut self.nodes.dial, cx) {
-            Ok(Poll::Pending) => {
-                self.question = Some(question);
-                Poll::Pending
-            }
-            Ok(Poll::Ready(chart)) => {
-                self.nodes.hear(question.node, &Ok(chart), now);
-                self.told = 0;
-                cx.yield_now()
-            }
-            Err(fault) => {
-                self.nodes.hear(question.node, &Err(fault), now);
-                cx.yield_now()
-            }
+    }
+
+    /// Whether there is a question, and the connection to its node is open.
+    fn is_asking(&self) -> bool
+        ensures { result ≡ is_some (while_open self.now.nodes.cluster self.now.question) }
+    {
+        match &self.question {
+            Some(question) => self.nodes.cluster.is_open(question.node),
+            None => false,
+        }
+    }
+
+    /// The question is dropped once the connection to its node is not open any more.
+    fn leave_question(&mut self)
+        ensures question { self.new.question ≡ while_open self.old.nodes.cluster self.old.question }
+        ensures only { self.new ≡ record self.old { question = self.new.question } }
+    {
+        if !self.is_asking() {
+            self.question = None;
+        }
+    }
+
+    /// Hears what the node of the question answered. Behind a chart nothing is told yet of who leads.
+    fn hear(&mut self, node: u32, answer: &Result<Chart, HandshakeFault>, now: u64)
+        ensures hears { HearsAnswer node now answer.now self.old.nodes.cluster self.new.nodes.cluster }
+        ensures links { self.new.nodes.links.items ≡ self.old.nodes.links.items }
+        ensures question { self.new.question ≡ None }
+        ensures told { self.new.told ≡ told_after answer.now self.old.told }
+        ensures made { self.new.made ≡ self.old.made }
+        ensures clock { self.new.clock ≡ self.old.clock }
+    {
+        self.nodes.hear(node, answer, now);
+        self.question = None;
+        if answer.is_ok() {
+            self.told = 0;
         }
     }
 }

@@ -30,8 +30,28 @@ pub(crate) enum Stage<K, S> {
 }
 
 impl<K: Drop, S: Stream> Question<K, S> {
+    /// What is to be heard of its node, once it has answered or failed: the chart, or why there is none.
+    pub(crate) fn poll_answer<D: Dial<Dialing = K, Stream = S>>(
+        &mut self,
+        alloc: Global,
+        names: &Names,
+        dial: &mut D,
+        cx: &mut Context<'_>,
+    ) -> Poll<Result<Chart, HandshakeFault>>
+        ensures learns { IfReady result (λ answer. IfOk answer (λ chart. Learns S.answers names.now.topic self.old.stage chart self.new.stage)) }
+        ensures registered { OnPending result ((s : ℕ) → waited_by_stage D.waits S.reader S.writer self.new.stage s → Hears cx.new s) }
+        ensures node { self.new.node ≡ self.old.node }
+        ensures kept { Keeps cx.old cx.new }
+    {
+        match self.poll_chart(alloc, names, dial, cx) {
+            Ok(Poll::Pending) => Poll::Pending,
+            Ok(Poll::Ready(chart)) => Poll::Ready(Ok(chart)),
+            Err(fault) => Poll::Ready(Err(fault)),
+        }
+    }
+
     /// The chart that the node answers, or why there is none.
-    pub(crate) fn poll_chart<D: Dial<Dialing = K, Stream = S>>(
+    fn poll_chart<D: Dial<Dialing = K, Stream = S>>(
         &mut self,
         alloc: Global,
         names: &Names,
