@@ -1,13 +1,13 @@
 //! A producer's connections to the nodes of a cluster.
 
 ghost use Rattle.std.specs.Prelude.{◌≡◌, ◌≤◌, ◌+◌, ℕ, [], None, false, is_some};
-ghost use Rattle.std.specs.Option.{option_map_or};
+ghost use Rattle.std.specs.Option.{option_map, option_map_or};
 ghost use Rattle.futures.specs.Poll.{OnPending};
 ghost use Rattle.futures.specs.Task.{Hears, Keeps};
 ghost use Rattle.kp_cluster.specs.Backoff.{Loses};
-ghost use Rattle.kp_network.specs.Links.{OnlyAt, has};
+ghost use Rattle.kp_network.specs.Links.{OnlyAt, has, waited_by_each};
 ghost use Rattle.kp_network.specs.Asking.{waited_by_question};
-ghost use Rattle.kp_network.specs.News.{ActsIf, GoesOn, Hears as HearsAnswer, IsToldNext, Renews, Tells, made_after, ready_of, told_after, while_open};
+ghost use Rattle.kp_network.specs.News.{ActsIf, GoesOn, Hears as HearsAnswer, IsToldNext, Makes, Renews, Tells, made_after, ready_of, told_after, while_open};
 ghost use Rattle.kp_running.specs.Over.{IfEnded};
 
 use crate::nodes::Nodes;
@@ -106,6 +106,23 @@ impl<'r, R: Clock, K: Drop, S: Stream, D: Dial<Dialing = K, Stream = S>> Network
             return Poll::Pending;
         }
         self.nodes.poll_action(cx, now)
+    }
+
+    /// Goes on with the connections that are being made: the first that is made is for the engine, and is counted.
+    fn poll_made(&mut self, cx: &mut Context<'_>, now: u64) -> Poll<(u32, S)>
+        ensures makes { Makes now self.old.nodes self.new.nodes (ready_of result) }
+        ensures registered { OnPending result ((s : ℕ) → waited_by_each D.waits self.new.nodes.links.items s → Hears cx.new s) }
+        ensures question { self.new.question ≡ self.old.question }
+        ensures told { self.new.told ≡ self.old.told }
+        ensures made { self.new.made ≡ made_after (option_map (λ it. News.Connected it.0 it.1) (ready_of result)) self.old.made }
+        ensures clock { self.new.clock ≡ self.old.clock }
+        ensures kept { Keeps cx.old cx.new }
+    {
+        let Poll::Ready(connected) = self.nodes.poll_made(cx, now) else {
+            return Poll::Pending;
+        };
+        self.made = self.made.saturating_add(1);
+        Poll::Ready(connected)
     }
 
     /// Where Metadata may be asked for, that is the question; an answer to the one before is not awaited any more.
@@ -212,8 +229,7 @@ impl<R: Clock, K: Drop, S: Stream, D: Dial<Dialing = K, Stream = S>> Keeping
         if let Poll::Ready(node) = self.poll_action(cx, core, now) {
             return Poll::Ready(News::Dropped(node));
         }
-        if let Poll::Ready((node, stream)) = self.nodes.poll_made(cx, now) {
-            self.made = self.made.saturating_add(1);
+        if let Poll::Ready((node, stream)) = self.poll_made(cx, now) {
             return Poll::Ready(News::Connected(node, stream));
         }
         self.renew_question(now);

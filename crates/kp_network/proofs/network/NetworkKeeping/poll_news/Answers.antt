@@ -48,9 +48,9 @@ returns-in-Ready-poll_made-clause-tells g c =
     let h = c.heed.new.self in
     let n = c.next_led.new.self.nodes in
     let b = c.poll_action.new.self.nodes in
-    let d = c.poll_made.new.self in
+    let d = c.poll_made.new.self.nodes in
     let same = ap (λ (m : Network _ _ _ _). m.nodes) c.next_led.ensures.only in
-    let shown = c.read-now.ensures.shown ∙ sym (ap (λ (p : Passed). p.shown) c.poll_action.ensures.clock ∙ ap (λ (m : Network _ _ _ _). m.clock.shown) c.next_led.ensures.only) in
+    let shown = c.read-now.ensures.shown ∙ sym (ap (λ (p : Passed). p.shown) (c.poll_made.ensures.clock ∙ c.poll_action.ensures.clock) ∙ ap (λ (m : Network _ _ _ _). m.clock.shown) c.next_led.ensures.only) in
     let heeded : Tells {S = S} now a None n = tells_heeded now (has_work_in c.args.core.now) _ a h n c.heed.ensures.cluster c.heed.ensures.links same in
     let acted : Tells {S = S} now n None b = acts_if_tells now (may_connect c.args.core.now n.cluster) n b None c.in_default-poll_action.ensures.acts in
     subst (λ (m : ℕ). Tells m a (Some (Connected c.in-Ready-poll_made.node c.in-Ready-poll_made.stream)) d) shown
@@ -65,16 +65,16 @@ returns-clause-tells g c =
     let h = c.heed.new.self in
     let n = c.next_led.new.self.nodes in
     let b = c.poll_action.new.self.nodes in
-    let d = c.poll_made.new.self in
+    let d = c.poll_made.new.self.nodes in
     let e = c.renew_question.new.self.nodes in
     let f = c.poll_question.new.self.nodes in
     let same = ap (λ (m : Network _ _ _ _). m.nodes) c.next_led.ensures.only in
-    let shown = c.read-now.ensures.shown ∙ sym (ap (λ (p : Passed). p.shown) (c.poll_question.ensures.clock ∙ c.renew_question.ensures.clock ∙ c.poll_action.ensures.clock)
+    let shown = c.read-now.ensures.shown ∙ sym (ap (λ (p : Passed). p.shown) (c.poll_question.ensures.clock ∙ c.renew_question.ensures.clock ∙ c.poll_made.ensures.clock ∙ c.poll_action.ensures.clock)
     ∙ ap (λ (m : Network _ _ _ _). m.clock.shown) c.next_led.ensures.only) in
     let heeded : Tells {S = S} now a None n = tells_heeded now (has_work_in c.args.core.now) _ a h n c.heed.ensures.cluster c.heed.ensures.links same in
     let acted : Tells {S = S} now n None b = acts_if_tells now (may_connect c.args.core.now n.cluster) n b None c.in_default-poll_action.ensures.acts in
     let made : Tells {S = S} now b None d = makes_tells now b d None c.in_default-poll_made.ensures.makes in
-    let renewed : Tells {S = S} now d None e = tells_nothing now d e (goes_renewing now d.cluster e.cluster c.poll_action.new.self.question c.renew_question.new.self.question c.renew_question.ensures.renews) (λ k. ap (link_at k) c.renew_question.ensures.links) in
+    let renewed : Tells {S = S} now d None e = tells_nothing now d e (goes_renewing now d.cluster e.cluster c.poll_made.new.self.question c.renew_question.new.self.question c.renew_question.ensures.renews) (λ k. ap (link_at k) c.renew_question.ensures.links) in
     let heard : Tells {S = S} now e None f = tells_nothing now e f (goes_asking_on now e.cluster f.cluster c.renew_question.new.self.told c.poll_question.new.self.told c.renew_question.new.self.question c.poll_question.new.self.question c.poll_question.ensures.goes_on) (λ k. ap (link_at k) c.poll_question.ensures.links) in
     subst (λ (polled : Poll (News S)). Tells (moment_of c.poll_question.new.self) a (ready_of polled) f) (sym c.poll_question.ensures.pending)
     (subst (λ (m : ℕ). Tells {S = S} m a None f) shown
@@ -89,11 +89,11 @@ pub returns-in-Ready-clause-told : goal.returns-in-Ready-clause-told
 returns-in-Ready-clause-told g c = c.poll_action.ensures.told ∙ c.in_default.ensures.told
 
 pub returns-in-Ready-poll_made-clause-told : goal.returns-in-Ready-poll_made-clause-told
-returns-in-Ready-poll_made-clause-told g c = c.poll_action.ensures.told ∙ c.in_default.ensures.told
+returns-in-Ready-poll_made-clause-told g c = c.poll_made.ensures.told ∙ c.poll_action.ensures.told ∙ c.in_default.ensures.told
 
 pub returns-clause-told : goal.returns-clause-told
 returns-clause-told g c =
-    let before = c.renew_question.ensures.told ∙ c.poll_action.ensures.told ∙ c.in_default.ensures.told in
+    let before = c.renew_question.ensures.told ∙ c.poll_made.ensures.told ∙ c.poll_action.ensures.told ∙ c.in_default.ensures.told in
     let now = c.read-now.result in
     let told = told_on now c.renew_question.new.self.nodes.cluster c.poll_question.new.self.nodes.cluster c.renew_question.new.self.told c.poll_question.new.self.told c.renew_question.new.self.question c.poll_question.new.self.question c.poll_question.ensures.goes_on in
     subst (λ (polled : Poll (News g.row.S.Denot)). IsToldNext (ready_of polled) c.args.self.now.told c.poll_question.new.self.told) (sym c.poll_question.ensures.pending)
