@@ -1,16 +1,21 @@
 -- A schedule's events, one behind another.
-use Rattle.std.proofs.Common.{◌≡◌, ℕ, ◌+◌, false, ◌&&◌, List, [], ◌∷◌, ◌++◌, length, map, Some, None, Result, Ok, Err, refl, sym, ap, ◌∙◌, append_assoc, append-nil, arith}
+use Rattle.std.proofs.Common.{◌≡◌, ℕ, ◌+◌, false, ◌&&◌, List, [], ◌∷◌, ◌++◌, length, map, Some, None, Result, Ok, Err, refl, sym, ap, subst, ◌∙◌, append_assoc, append-nil, arith}
 use Rattle.std.specs.Prelude.{Option, nat_lt, slice_get}
 use Rattle.std.specs.List.{AllByRecursion}
+use Rattle.std.specs.Result.{IsErrAnd}
 use Rattle.std.proofs.Math.Logic.{∥∥₁_elim}
 use Rattle.std.proofs.Props.{props}
 use Rattle.std.proofs.lemmas.Bool.{ltb-false}
 use Rattle.std.proofs.lemmas.List.{length-map, map-append}
 use Rattle.std.proofs.lemmas.Option.{slice_get_past}
+use Rattle.std.proofs.lemmas.Result.{err_from_is_err_and}
+use Rattle.kp_wire.proofs.ReadLemmas.{failed}
 use Rattle.kp_accum.specs.Config.{checked}
 use Rattle.kp_accum.specs.declared.config.Config.{Config}
 use Rattle.kp_log.specs.KeptBatches.{IsHistoryOf}
 use Rattle.kp_schedule.specs.Grammar.{MayBeSaid}
+use Rattle.kp_schedule.specs.declared.fault.ReplayFault.{ReplayFault}
+use Rattle.kp_schedule.specs.declared.fault.ReplayFault.TheVariants.{BadLine, NoSuch, Config as config-refused, TooLong, OutOfMemory}
 use Rattle.kp_schedule.specs.declared.schedule.Schedule.{Schedule}
 use Rattle.kp_schedule.specs.declared.schedule.Scheduled.{Scheduled}
 use Rattle.kp_world.specs.Accepting.{accepted_by, accepting, item_for, taken_by, taking}
@@ -25,7 +30,7 @@ use Rattle.kp_world.specs.declared.event.Event.{Event}
 use Rattle.kp_world.specs.declared.event.Event.TheVariants as event
 use Rattle.kp_world.specs.declared.event.Treatment.TheVariants.{Judged, Refused, Late}
 use Rattle.kp_world.proofs.ListLemmas.{got_at}
-use Rattle.kp_replay.specs.Replaying.{Brings, IsFirstAmiss, events_in, opening_of}
+use Rattle.kp_replay.specs.Replaying.{Brings, IsFirstAmiss, Replays, TakesPlace, events_in, opening_of}
 use Rattle.kp_replay.specs.Shown.{Each, IsReplayed, IsReplied, IsSent, LeadsOn, Seen, Shows, is_there}
 use Rattle.kp_replay.proofs.AcceptingLemmas.{each-length}
 
@@ -119,6 +124,12 @@ stopped-at : (n : ℕ) (e : Event) (rest : List Event) (v : World) → stepped e
 unfolding replayed_from
 stopped-at n e rest v is = ap (λ (o : Option World). elim o as (λ _. Result World ℕ) [ Some x ↦ replayed_from (n + 1) rest x | None ↦ Err n ]) is
 
+-- what a `?` gives back
+pub given-back : {A : Type 0} (P : Result A ReplayFault → Type 0) (got : Result A ReplayFault) (fault : ReplayFault) → IsErrAnd got (λ e. e ≡ fault) → P (Err fault) → P got
+given-back {A = A} P got fault is p =
+    let q = err_from_is_err_and got is in
+    subst P (sym (q.1 ∙ ap (λ (e : ReplayFault). failed {A = A} e) q.2)) p
+
 -- ---- a schedule's
 
 -- These are left of its events, and the world that is seen is the one to which those before lead.
@@ -176,17 +187,25 @@ module _ (s : Schedule) where
         shown = next.2;
       }
 
-  pub first-amiss : (x : Scheduled) (rest : List Scheduled) (a : Seen) → HasReplayed s (x ∷ rest) a → is_there x.event a ≡ false → IsFirstAmiss s x.line
+  pub first-amiss : (x : Scheduled) (rest : List Scheduled) (a : Seen) (line : ℕ) → HasReplayed s (x ∷ rest) a → line ≡ x.line → is_there x.event a ≡ false → IsFirstAmiss s line
   unfolding replayed
-  first-amiss x rest a h none = record {
+  first-amiss x rest a line h same none = record {
     number = length h.done;
     is_its = ap (λ es. replayed_from 0 es (opening (opening_of s))) (parts h.done (x ∷ rest) h.split)
         ∙ behind (map (λ y. y.event) h.done) (x.event ∷ map (λ y. y.event) rest) 0 (length h.done) (opening (opening_of s)) h.world (omega (arith, length-map h.done (λ (y : Scheduled). y.event))) h.leads
         ∙ stopped-at (length h.done) x.event (map (λ y. y.event) rest) h.world (nothing-there s.config h.world a h.shown x.event none);
     event = x;
     said = ap (λ xs. slice_get xs (length h.done)) h.split ∙ got_at h.done rest x (length h.done) refl;
-    line_is = refl;
+    line_is = same;
   }
+
+  -- the event that does not happen ends the replay
+  pub replay-ends : (x : Scheduled) (rest : List Scheduled) (a b : Seen) → HasReplayed s (x ∷ rest) a → (fault : ReplayFault) → TakesPlace x a b (Err fault) → Replays s (Err fault)
+  replay-ends x rest a b h (NoSuch line) said = (h.fine, first-amiss x rest a line h said.0 said.1)
+  replay-ends x rest a b h OutOfMemory said = h.fine
+  replay-ends x rest a b h (config-refused fault) said = absurd said
+  replay-ends x rest a b h TooLong said = absurd said
+  replay-ends x rest a b h (BadLine line) said = absurd said
 
   none-left : (rest : List Scheduled) → length rest ≡ 0 → rest ≡ []
   none-left [] none = refl

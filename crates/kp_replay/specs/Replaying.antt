@@ -1,5 +1,5 @@
 -- What a schedule is replayed as.
-use Rattle.std.specs.Prelude.{◌≡◌, ℕ, ◌<◌, List, map, Some, Result, Ok, Err, IfOk, slice_get}
+use Rattle.std.specs.Prelude.{◌≡◌, ℕ, ◌<◌, false, List, map, Some, Result, Ok, Err, IfOk, slice_get}
 use Rattle.kp_accum.specs.Config.{checked}
 use Rattle.kp_schedule.specs.declared.fault.ReplayFault.{ReplayFault}
 use Rattle.kp_schedule.specs.declared.fault.ReplayFault.TheVariants.{BadLine, NoSuch, Config, TooLong, OutOfMemory}
@@ -9,7 +9,7 @@ use Rattle.kp_world.specs.Facts.{Facts, facts}
 use Rattle.kp_world.specs.Replay.{replayed}
 use Rattle.kp_world.specs.World.{Opening, World, opening, scheduled}
 use Rattle.kp_world.specs.declared.event.Event.{Event}
-use Rattle.kp_replay.specs.Shown.{Seen, Shows}
+use Rattle.kp_replay.specs.Shown.{LeadsOn, Seen, Shows, is_there}
 
 -- ---- what a schedule brings about
 
@@ -46,6 +46,18 @@ Replays s (Err (NoSuch line)) = (checked s.config ≡ Ok tt) × IsFirstAmiss s l
 Replays s (Err OutOfMemory) = checked s.config ≡ Ok tt
 Replays s (Err TooLong) = ⊥
 Replays s (Err (BadLine line)) = ⊥
+
+-- ---- one event
+
+-- What becomes of the world by the event of a line: it leads on, or what it names isn't there. Want of memory alone may
+-- stand in place of that.
+abbrev pub TakesPlace : Scheduled → Seen → Seen → Result (Unit {0}) ReplayFault → Type 0
+TakesPlace x a b (Ok done) = LeadsOn x.event a b
+TakesPlace x a b (Err (NoSuch line)) = (line ≡ x.line) × (is_there x.event a ≡ false)
+TakesPlace x a b (Err OutOfMemory) = Unit {0}
+TakesPlace x a b (Err (Config fault)) = ⊥
+TakesPlace x a b (Err TooLong) = ⊥
+TakesPlace x a b (Err (BadLine line)) = ⊥
 
 -- ---- laws
 

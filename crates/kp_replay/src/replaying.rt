@@ -1,7 +1,7 @@
 //! A schedule, replayed.
 
 ghost use Rattle.std.specs.Prelude.{ℕ};
-ghost use Rattle.kp_replay.specs.Replaying.{HoldsOf, HoldsOfEach, Replays};
+ghost use Rattle.kp_replay.specs.Replaying.{HoldsOf, HoldsOfEach, Replays, TakesPlace};
 ghost use Rattle.kp_world.specs.Accounts.{AreAccountedFor, AreInOrder, IsNeverSent};
 ghost use Rattle.kp_world.specs.Facts.{facts};
 ghost use Rattle.kp_world.specs.FreshIds.{BeginsAnew, GoesOnAlone};
@@ -48,11 +48,19 @@ fn bring_about(alloc: Global, schedule: Schedule) -> Result<World, ReplayFault>
     }
     let mut world = World::open(alloc, config, partitions, senders)?;
     for scheduled in events.into_vec() {
-        let Scheduled { line, event } = scheduled;
-        if !world.is_there(&event) {
-            return Err(ReplayFault::NoSuch(line));
-        }
-        world.happen(event)?;
+        take_place(&mut world, scheduled)?;
     }
     Ok(world)
+}
+
+/// Lets the event of this line happen, where what it names is there.
+fn take_place(world: &mut World, scheduled: Scheduled) -> Result<(), ReplayFault>
+    ensures { TakesPlace scheduled world.old world.new result }
+{
+    let Scheduled { line, event } = scheduled;
+    if !world.is_there(&event) {
+        return Err(ReplayFault::NoSuch(line));
+    }
+    world.happen(event)?;
+    Ok(())
 }

@@ -98,10 +98,14 @@ impl World {
         requires few_senders { senders ≤ 64 }
         ensures { IfOk result (λ world. Shows config (opening (scheduled config partitions senders)) world) }
     {
+        let names = names_of_all(alloc)?;
+        let accepted = nothing_accepted(alloc, senders)?;
+        let taken = nothing_taken(alloc, senders)?;
+        let logs = empty_logs(alloc, partitions)?;
         let core = Core::new(
             alloc,
             config,
-            names_of_all(alloc)?,
+            names,
             partitions,
             senders,
             FIRST_ID,
@@ -111,11 +115,11 @@ impl World {
         Ok(World {
             alloc,
             core,
-            accepted: nothing_accepted(alloc, senders)?,
-            taken: nothing_taken(alloc, senders)?,
+            accepted,
+            taken,
             packets: Vec::new(alloc),
             replies: Vec::new(alloc),
-            logs: empty_logs(alloc, partitions)?,
+            logs,
             drawn: 1,
             moment: 0,
             is_shut: false,
