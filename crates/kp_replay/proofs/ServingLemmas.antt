@@ -1,10 +1,9 @@
 -- What the logs do with a packet's bytes is what the loopback broker does with the packet.
 use Rattle.std.proofs.Common.{◌≡◌, ℕ, ◌+◌, ◌<◌, List, take, drop, drop-cons, add-one, append_assoc, [], ◌∷◌, ◌++◌, length, get_or, set, map, pos, negsuc, Ok, refl, sym, ap, subst, ◌∙◌, arith}
-use Rattle.std.specs.Prelude.{All, nat_abs, slice_index_or}
+use Rattle.std.specs.Prelude.{All, slice_index_or}
 use Rattle.std.specs.List.{AllByRecursion}
 use Rattle.std.proofs.lemmas.List.{length-set, map-append, take_more}
 use Rattle.std.proofs.lemmas.List.Elements.{All-push, All-weaker}
-use Rattle.kp_batch.specs.Reading.{batch_at}
 use Rattle.kp_batch.specs.Spelling as batch
 use Rattle.kp_batch.specs.Spelling.{HasSpelling}
 use Rattle.kp_batch.proofs.BatchLemmas.{batch_again}
@@ -30,7 +29,7 @@ use Rattle.kp_world.specs.declared.event.Treatment.TheVariants.{Judged, Refused,
 use Rattle.kp_replay.specs.Line.{answer_part}
 use Rattle.kp_replay.specs.Shown.{Each}
 use Rattle.kp_replay.specs.declared.line.AnswerPart.{AnswerPart}
-use Rattle.kp_replay.specs.Serving.{Taken, entries_after, entry_line, entry_of, logs_after, taken, taken_at}
+use Rattle.kp_replay.specs.Serving.{Taken, entries_after, entry_line, entry_of, logs_after, taken, taken_at, with_taken}
 use Rattle.kp_replay.proofs.AcceptingLemmas.{each-length}
 use Rattle.kp_replay.proofs.OtherLemmas.{each-at, each-set}
 
@@ -109,23 +108,17 @@ are-taken how hs ls (x ∷ xs) all whole parts =
 
 -- ---- one after the other
 
-module _ (how : Treatment) (logs : List Log) (ds : List PartitionProduceData) (i : ℕ) (d : PartitionProduceData) (inside : i < length ds) (at : d ≡ get_or ds i d) (n : ℕ) (place : n ≡ nat_abs d.partition) (t : Taken) (made : taken how (get_or logs n empty) (batch_at d.records) ≡ t) where
+module _ (how : Treatment) (logs : List Log) (ds : List PartitionProduceData) (i : ℕ) (d : PartitionProduceData) (inside : i < length ds) (at : d ≡ get_or ds i d) where
   front : drop i ds ≡ d ∷ drop (i + 1) ds
   front = drop-cons ds i d inside ∙ (λ k. sym at k ∷ drop (sym (add-one i) k) ds)
 
-  pub logs-next : logs_after how (set logs n t.log) (drop (i + 1) ds) ≡ logs_after how logs (drop i ds)
-  logs-next =
-      let rest = drop (i + 1) ds in
-      sym (ap (logs_after how logs) front ∙ (λ k. logs_after how (set logs (sym place k) (taken how (get_or logs (sym place k) empty) (batch_at d.records)).log) rest)
-      ∙ ap (λ (x : Taken). logs_after how (set logs n x.log) rest) made)
+  pub logs-next : logs_after how (with_taken how logs d) (drop (i + 1) ds) ≡ logs_after how logs (drop i ds)
+  logs-next = sym (ap (logs_after how logs) front)
 
-  pub entries-next : (es : List PartitionProduceResponse) → (es ++ entry_of d t.answer ∷ []) ++ entries_after how (set logs n t.log) (drop (i + 1) ds) ≡ es ++ entries_after how logs (drop i ds)
+  pub entries-next : (es : List PartitionProduceResponse) → (es ++ entry_of d (taken_at how logs d).answer ∷ []) ++ entries_after how (with_taken how logs d) (drop (i + 1) ds) ≡ es ++ entries_after how logs (drop i ds)
   entries-next es =
-      let rest = drop (i + 1) ds in
-      append_assoc es (entry_of d t.answer ∷ []) (entries_after how (set logs n t.log) rest)
-      ∙ ap (λ others. es ++ others) (sym (ap (entries_after how logs) front
-      ∙ (λ k. entry_of d (taken how (get_or logs (sym place k) empty) (batch_at d.records)).answer ∷ entries_after how (set logs (sym place k) (taken how (get_or logs (sym place k) empty) (batch_at d.records)).log) rest)
-      ∙ ap (λ (x : Taken). entry_of d x.answer ∷ entries_after how (set logs n x.log) rest) made))
+      append_assoc es (entry_of d (taken_at how logs d).answer ∷ []) (entries_after how (with_taken how logs d) (drop (i + 1) ds))
+      ∙ ap (λ others. es ++ others) (sym (ap (entries_after how logs) front))
 
 -- a line for one more entry
 pub lines-next : (parts : List AnswerPart) (es : List PartitionProduceResponse) (i : ℕ) (part : AnswerPart) (e : PartitionProduceResponse) → i < length es → e ≡ get_or es i e → answer_part part ≡ entry_line e

@@ -6,7 +6,7 @@ ghost use Rattle.kp_frames.specs.Response.{FitsResponse, spelling};
 ghost use Rattle.kp_frames.specs.Stream.{frame};
 ghost use Rattle.kp_log.specs.SequenceRule.{offered};
 ghost use Rattle.kp_replay.specs.Line.{answer_part, line_of};
-ghost use Rattle.kp_replay.specs.Serving.{AreServed, IsIdServed, IsServed, Serves, batches_body, entries_after, entry_line, entry_of, id_body, logs_after, taken};
+ghost use Rattle.kp_replay.specs.Serving.{AreServed, IsIdServed, IsServed, Serves, batches_body, entries_after, entry_line, entry_of, id_body, logs_after, taken, taken_at, with_taken};
 ghost use Rattle.kp_world.specs.Line as line;
 
 use crate::line::{AnswerPart, Line};
@@ -110,14 +110,27 @@ fn take_each(
 {
     let mut entries = Vec::with_capacity(alloc, parts.len())?;
     for part in parts {
-        let place = part.partition.unsigned_abs() as usize;
-        if place >= logs.len() {
-            return Err(AllocError);
-        }
-        let (code, base) = take_part(&mut logs[place], part.records.as_slice(), treatment)?;
-        entries.push(entry_of(part, code, base))?;
+        entries.push(take_at(logs, part, treatment)?)?;
     }
     Ok(entries)
+}
+
+/// The batch comes to its partition's log: the entry that answers it. A log that isn't there has no memory.
+fn take_at(
+    logs: &mut [PartitionLog],
+    part: &PartitionProduceData,
+    treatment: Treatment,
+) -> Result<PartitionProduceResponse, AllocError>
+    ensures entry { IfOk result
+        (λ entry. entry ≡ entry_of part.now (taken_at treatment logs.old part.now).answer) }
+    ensures logs { OnOk result (logs.new ≡ with_taken treatment logs.old part.now) }
+{
+    let place = part.partition.unsigned_abs() as usize;
+    if place >= logs.len() {
+        return Err(AllocError);
+    }
+    let (code, base) = take_part(&mut logs[place], part.records.as_slice(), treatment)?;
+    Ok(entry_of(part, code, base))
 }
 
 /// A batch's entry in the answer.
