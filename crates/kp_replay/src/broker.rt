@@ -3,9 +3,11 @@
 ghost use Rattle.std.specs.Prelude.{◌≡◌, pos, map, IfOk, OnOk};
 ghost use Rattle.kp_batch.specs.Reading.{batch_at};
 ghost use Rattle.kp_frames.specs.Response.{FitsResponse, spelling};
-ghost use Rattle.kp_frames.specs.Stream.{frame};
+ghost use Rattle.kp_frames.specs.Stream as stream;
+ghost use Rattle.kp_frames.specs.declared.request.RequestBody.{RequestBody};
 ghost use Rattle.kp_log.specs.SequenceRule.{offered};
 ghost use Rattle.kp_replay.specs.Line.{answer_part, line_of};
+ghost use Rattle.kp_replay.specs.Packets.{IsAsked};
 ghost use Rattle.kp_replay.specs.Serving.{AreServed, IsIdServed, IsServed, Serves, batches_body, entries_after, entry_line, entry_of, id_body, logs_after, taken, taken_at, with_taken};
 ghost use Rattle.kp_world.specs.Line as line;
 
@@ -36,10 +38,26 @@ pub(crate) fn serve(
     ensures { IfOk result (λ x. Serves treatment reply logs.old drawn.old packet.now
         logs.new drawn.new x.0 (line_of x.1)) }
 {
-    let request = read_packet(alloc, packet.bytes.as_slice())?;
-    let (body, line) = serve_request(alloc, logs, drawn, &request, reply, treatment)?;
+    let frame = packet.bytes.as_slice();
+    let (body, line) = serve_frame(alloc, logs, drawn, frame, reply, treatment)?;
     let bytes = reply_frame(alloc, packet.correlation, body)?;
     Ok((bytes, line))
+}
+
+/// The request in this frame comes to the broker.
+fn serve_frame(
+    alloc: Global,
+    logs: &mut [PartitionLog],
+    drawn: &mut u64,
+    frame: &[u8],
+    reply: u64,
+    treatment: Treatment,
+) -> Result<(ResponseBody, Line), AllocError>
+    ensures { IfOk result (λ x. (request : RequestBody) × IsAsked frame.now request
+        × IsServed treatment reply logs.old drawn.old request logs.new drawn.new x.0 (line_of x.1)) }
+{
+    let request = read_packet(alloc, frame)?;
+    serve_request(alloc, logs, drawn, &request, reply, treatment)
 }
 
 /// The request comes to the broker.
@@ -66,7 +84,7 @@ fn serve_request(
 fn reply_frame(alloc: Global, correlation: u32, body: ResponseBody) -> Result<Blob, AllocError>
     ensures { IfOk result (λ bytes.
         FitsResponse (record { correlation = pos correlation; body = body })
-        × (bytes ≡ frame.spell (spelling (record { correlation = pos correlation; body = body })))) }
+        × (bytes ≡ stream.frame.spell (spelling (record { correlation = pos correlation; body = body })))) }
 {
     let Ok(correlation) = i32::try_from(correlation) else {
         return Err(AllocError);
