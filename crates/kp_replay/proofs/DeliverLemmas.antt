@@ -16,7 +16,7 @@ use Rattle.kp_log.specs.Log.{Log}
 use Rattle.kp_rules.specs.Flush.{is_flushed}
 use Rattle.kp_rules.specs.Framing.{FitBatches, FitsPacket, body_for, data_of}
 use Rattle.kp_rules.specs.Next.{Sending}
-use Rattle.kp_rules.specs.Records.{Demand, Produce, InitProducerId}
+use Rattle.kp_rules.specs.Records.{Core, Demand, Produce, InitProducerId}
 use Rattle.kp_rules.specs.Requesting.{Packet}
 use Rattle.kp_rules.specs.declared.outgoing.Outgoing.{Outgoing}
 use Rattle.kp_world.specs.Delivering.{Delivery}
@@ -36,6 +36,7 @@ use Rattle.kp_world.specs.declared.event.Treatment.TheVariants.{Judged, Refused,
 use Rattle.kp_world.proofs.LawfulLemmas.{PartsIn}
 use Rattle.kp_world.proofs.ListLemmas.{in_at}
 use Rattle.kp_world.proofs.RunLemmas.{lawful_reached}
+use Rattle.kp_replay.specs.Bounds.{IsInBounds}
 use Rattle.kp_replay.specs.Packets.{IsAsked}
 use Rattle.kp_replay.specs.Serving.{AreServed, IsIdServed, IsServed, Serves, batches_body, entries_after, entry_line, id_body, logs_after}
 use Rattle.kp_replay.specs.Shown.{Each, IsReplayed, IsReplied, IsSent, LeadsOn, Seen, Shows, is_there, with_noted}
@@ -184,6 +185,10 @@ module _ (k : ℕ) (how : Treatment) (a : Seen) (o : Outgoing) (there : is_there
 -- what is written over all of a list
 pub all-written : {A : Type 0} (n : ℕ) (xs ys : List A) → length xs ≡ n → take n (xs ++ ys) ≡ xs
 all-written n xs ys full = ap (λ m. take m (xs ++ ys)) (sym full) ∙ take-append_seam xs ys
+
+pub written-within : {s : Core} {accepted taken moment : ℕ} (n : ℕ) (xs ys old : List Log) → length xs ≡ n → length xs ≡ length old → IsInBounds s accepted taken (length old) moment → IsInBounds s accepted taken (length (take n (xs ++ ys))) moment
+written-within {s = s} {accepted = accepted} {taken = taken} {moment = moment} n xs ys old full same bounds =
+    subst (λ history. IsInBounds s accepted taken history moment) (sym (ap length (all-written n xs ys full) ∙ same)) bounds
 
 pub deliver-returns : {T E : Type 0} (r : Result T E) (k : ℕ) (how : Treatment) (a v b : Seen) (is : v ≡ a) (o : Outgoing) → is_there (event.Deliver k how) a ≡ true → o ≡ get_or v.packets k o → (was : Bool) → was ≡ is_flushed v.core
     → (logs : List Log) (drawn : ℕ) (bytes : List ℕ) (l : Line) → Serves how (length v.replies) v.logs v.drawn o logs drawn bytes l
