@@ -3,7 +3,7 @@
 ghost use Rattle.std.specs.Prelude.{◌≡◌, pos, map, IfOk, OnOk};
 ghost use Rattle.kp_batch.specs.Reading.{batch_at};
 ghost use Rattle.kp_frames.specs.Response.{FitsResponse, spelling};
-ghost use Rattle.kp_frames.specs.Stream as stream;
+ghost use Rattle.kp_frames.specs.Stream.{frame};
 ghost use Rattle.kp_frames.specs.declared.request.RequestBody.{RequestBody};
 ghost use Rattle.kp_log.specs.SequenceRule.{offered};
 ghost use Rattle.kp_replay.specs.Line.{answer_part, line_of};
@@ -84,7 +84,7 @@ fn serve_request(
 fn reply_frame(alloc: Global, correlation: u32, body: ResponseBody) -> Result<Blob, AllocError>
     ensures { IfOk result (λ bytes.
         FitsResponse (record { correlation = pos correlation; body = body })
-        × (bytes ≡ stream.frame.spell (spelling (record { correlation = pos correlation; body = body })))) }
+        × (bytes ≡ frame.spell (spelling (record { correlation = pos correlation; body = body })))) }
 {
     let Ok(correlation) = i32::try_from(correlation) else {
         return Err(AllocError);
@@ -133,7 +133,8 @@ fn take_each(
     Ok(entries)
 }
 
-/// The batch comes to its partition's log: the entry that answers it. A log that isn't there has no memory.
+/// The batch comes to its partition's log, and this entry answers it. There is no memory for one whose partition has no
+/// log.
 fn take_at(
     logs: &mut [PartitionLog],
     part: &PartitionProduceData,
