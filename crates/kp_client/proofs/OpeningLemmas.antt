@@ -1,14 +1,20 @@
 -- The handles of senders, one after the other, and the brokers of a service.
 use Rattle.std.proofs.Common.{◌≡◌, ◌++◌, ◌∷◌, [], List, map, ap, ◌∙◌, refl, sym, subst, arith, ℕ, zero, suc}
-use Rattle.std.specs.Prelude.{All, IfOk, Result, Ok, Err, slice_index_or}
+use Rattle.std.specs.Prelude.{All, IfOk, IfSome, Option, Some, Result, Ok, Err, slice_index_or}
 use Rattle.std.specs.declared.net.socket_addr.SocketAddr.{SocketAddr}
 use Rattle.std.proofs.lemmas.List.{length-map}
+use Rattle.kp_connection.specs.Handshake.{Ends, Talking}
+use Rattle.kp_connection.specs.Wire.{Told, Wired}
+use Rattle.kp_connection.specs.declared.handshake.stage.Stage.TheVariants.{Opening}
+use Rattle.kp_hello.specs.declared.fault.HandshakeFault.{HandshakeFault}
+use Rattle.kp_hello.specs.declared.hello.Hello.{Hello}
 use Rattle.kp_lanes.specs.Sender.{sender_number}
 use Rattle.kp_lanes.specs.declared.sender.Sender.{Sender}
+use Rattle.kp_rules.specs.declared.names.Names.{Names}
 use Rattle.kp_settings.specs.declared.fault.OpenFault.{OpenFault}
 use Rattle.kp_settings.specs.declared.settings.Settings.{Settings}
 use Rattle.kp_client.specs.Brokers.{IsAt}
-use Rattle.kp_client.specs.Opening.{Begins, IsOpen}
+use Rattle.kp_client.specs.Opening.{Begins, IsGreeting, IsOpen}
 use Rattle.kp_client.specs.Producer.{lane_of}
 use Rattle.kp_client.specs.declared.brokers.Brokers.{Brokers}
 use Rattle.kp_client.specs.declared.brokers.Brokers.TheVariants.{Cluster, One}
@@ -51,6 +57,26 @@ numbers_of_lanes ps ss is = mapped ps ∙ ap (λ (xs : List Sender). map sender_
     mapped : (qs : List Producer) → map (λ p. sender_number (lane_of p)) qs ≡ map sender_number (map lane_of qs)
     mapped [] = refl
     mapped (q ∷ qs) = ap (λ (ns : List ℕ). sender_number (lane_of q) ∷ ns) (mapped qs)
+
+-- ---- a greeting
+
+-- The hello of a handshake that was timed from its beginning on.
+pub greeted : {S E : Type 0} (answers : Told S) (names : Names) (wire : Wired S) (future : Option (Talking S)) (given : Result (Result (Hello × S) HandshakeFault) E)
+    (out : Result (Hello × S) HandshakeFault) (hello : Hello) (stream : S)
+    → future ≡ Some (record { names = names; stage = Opening; wire = wire }) → given ≡ Ok out → out ≡ Ok (hello, stream)
+    → IfOk given (λ o. IfSome future (λ old. Ends answers old o)) → IsGreeting names hello
+greeted {S} {E} answers names wire future given out hello stream begun in_time said h =
+    let timely : IfSome future (λ old. Ends answers old out) =
+    subst (λ (r : Result (Result (Hello × S) HandshakeFault) E). IfOk r (λ o. IfSome future (λ old. Ends answers old o))) in_time h in
+    let told : IfSome future (λ old. Ends answers old (Ok (hello, stream))) =
+    subst (λ (o : Result (Hello × S) HandshakeFault). IfSome future (λ old. Ends answers old o)) said timely in
+    let done = subst (λ (f : Option (Talking S)). IfSome f (λ old. Ends answers old (Ok (hello, stream)))) begun told in record {
+      metadata = done.comes.hears.0;
+      producer_id = done.content;
+      partitions = done.comes.hears.2;
+      id = done.id;
+      correlation = done.correlation;
+    }
 
 -- ---- brokers
 

@@ -45,6 +45,10 @@ only_is_of parts f only =
 pub back_one : (f : Finished) (back rest : List Finished) (g : Finished) → SameFinished (f ∷ []) back → back ≡ rest ++ g ∷ [] → back ≡ g ∷ []
 back_one f back rest g same is = last_only back rest g (sym (length-map back finished_number) ∙ ap length same.numbers) is
 
+-- what came back of one is not nothing
+pub some_back : (f : Finished) (back : List Finished) → SameFinished (f ∷ []) back → length back ≡ 0 → ⊥
+some_back f back same none = let one = sym (length-map back finished_number) ∙ ap length same.numbers in omega (arith, one, none)
+
 pub still_only : (old new : Ended) (f g : Finished) → ComesBack old (f ∷ []) new (g ∷ []) → IsOnly (parts_in old) f → IsOnly (parts_in new) g
 still_only old new f g back only =
     let id : finished_id g ≡ finished_id f = ap (λ l. slice_index_or l 0 (finished_id f)) back.same_finished.ids in

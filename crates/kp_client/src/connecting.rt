@@ -54,7 +54,17 @@ where
     ensures later { IfErr result IsLater }
 {
     let mut runtime = Builder::new_current_thread().build(rt)?;
-    let inner = connect(rt, &mut runtime, way)?;
+    greet_on(rt, &mut runtime, way, names)
+}
+
+/// The same, on this event loop.
+fn greet_on<R>(rt: &R, runtime: &mut Runtime, way: Way, names: Names) -> Result<Hello, OpenFault>
+where
+    R: Wait + Threads + Clock + RandomSource + AllocGlobal + Sync + Net,
+    ensures greeting { IfOk result (IsGreeting names) }
+    ensures later { IfErr result IsLater }
+{
+    let inner = connect(rt, runtime, way)?;
     let greeting = Handshake::new(rt.alloc(), Plain { inner }, names);
     let timed = runtime.handle().time().timeout(rt, way.patience, greeting)?;
     match runtime.block_on(rt, timed)? {

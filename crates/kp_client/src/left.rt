@@ -120,12 +120,7 @@ impl Ended {
         } = self;
         let Parts { core, intake, held } = parts;
         match intake.settle(alloc, finished) {
-            Ok(Settled { left, reports }) => Ok(Left {
-                items: left,
-                reports,
-                held,
-                core,
-            }),
+            Ok(settled) => Ok(Left::new(settled, held, core)),
             Err((fault, intake, finished)) => {
                 let parts = Parts { core, intake, held };
                 Err((fault, Ended::new(parts, ending, new_connections), finished))
@@ -167,4 +162,19 @@ pub struct Left {
     pub held: Held,
     /// The core.
     pub core: Core,
+}
+
+impl Left {
+    /// What was left in the rings, beside what was on its way and the core.
+    fn new(settled: Settled, held: Held, core: Core) -> Left
+        ensures { result ≡ record { items = settled.left; reports = settled.reports; held = held; core = core } }
+    {
+        let Settled { left, reports } = settled;
+        Left {
+            items: left,
+            reports,
+            held,
+            core,
+        }
+    }
 }

@@ -82,25 +82,52 @@ where
     ensures only { IfErr result (λ fault. OfSettings fault → checked_for_cluster settings ≡ Err fault) }
 {
     settings.check_for_cluster()?;
+    open_over_cluster(rt, bootstrap, settings)
+}
+
+/// The same, where the settings have no fault.
+fn open_over_cluster<R>(
+    rt: &R,
+    bootstrap: Vec<Address>,
+    settings: Settings,
+) -> Result<Opened, OpenFault>
+where
+    R: Wait + Threads + Clock + RandomSource + AllocGlobal + Sync + Net,
+    requires some { 1 ≤ length bootstrap.items }
+    requires few { length bootstrap.items ≤ SLOT_LIMIT }
+    requires settings { checked_settings settings ≡ Ok tt }
+    ensures opened { IfOk result (IsOpen (IsOf bootstrap.items settings) settings) }
+    ensures later { IfErr result IsLater }
+{
     let alloc = rt.alloc();
     let start = Instant::now(rt)?;
     let patience = settings
         .patience()
         .min(Duration::from_millis(SETUP_TIMEOUT_MS));
     let hello = greet_until(rt, Asked::Each(&bootstrap), patience, &settings, start)?;
+    let brokers = cluster_of(rt, alloc, bootstrap, &settings)?;
+    open_known(alloc, brokers, settings, hello, start)
+}
+
+/// The brokers of the cluster of which these addresses are known.
+fn cluster_of<R: RandomSource>(
+    rt: &R,
+    alloc: Global,
+    bootstrap: Vec<Address>,
+    settings: &Settings,
+) -> Result<Brokers, OpenFault>
+    requires some { 1 ≤ length bootstrap.items }
+    requires few { length bootstrap.items ≤ SLOT_LIMIT }
+    ensures of { IfOk result (IsOf bootstrap.items settings.now) }
+    ensures later { IfErr result IsLater }
+{
     let config = ClusterConfig {
         request_timeout_ms: settings.config.request_timeout_ms,
         ..ClusterConfig::DEFAULT
     };
     let names = settings.copy_names(alloc)?;
     let cluster = Cluster::new(alloc, config, bootstrap, seed(rt))?;
-    open_known(
-        alloc,
-        Brokers::Cluster(cluster, names),
-        settings,
-        hello,
-        start,
-    )
+    Ok(Brokers::Cluster(cluster, names))
 }
 
 /// Opens a producer with one sender, whatever the settings say of senders: its handle, what closes it, and its service.
@@ -144,6 +171,8 @@ fn open_known(
     ensures opened { IfOk result (IsOpen (λ its. its ≡ brokers) settings) }
     ensures later { IfErr result IsLater }
 {
+    let shared = Shared::new(alloc, settings.senders as usize, start)?;
+    shared.counts.connections.add(1);
     let (senders, intake, lanes) = open_lanes(
         alloc,
         settings.senders,
@@ -151,8 +180,6 @@ fn open_known(
         hello.partitions,
         settings.max_record(),
     )?;
-    let shared = Shared::new(alloc, settings.senders as usize, start)?;
-    shared.counts.connections.add(1);
     let producers = handles(alloc, senders, &shared)?;
     let closer = Closer::new(lanes, Arc::try_clone(&shared)?);
     let service = Service::new(alloc, brokers, settings, hello, intake, shared)?;

@@ -2,7 +2,7 @@ use Rattle.std.proofs.Common.{◌≡◌, ◌∙◌, ap, subst, sym}
 use Rattle.std.specs.Prelude.{All, IfSome, length, ℕ}
 use Rattle.kp_hello.specs.declared.hello.Hello.{Hello}
 use Rattle.kp_lanes.specs.Closer.{closer_gate}
-use Rattle.kp_lanes.specs.Intake.{intake_gate, lanes_of}
+use Rattle.kp_lanes.specs.Intake.{intake_gate, intake_limits, lanes_of}
 use Rattle.kp_lanes.specs.Sender.{IsFresh, IsSenderOf}
 use Rattle.kp_lanes.specs.declared.intake.Intake.{Intake}
 use Rattle.kp_lanes.specs.declared.limits.Limits.{Limits}
@@ -38,3 +38,7 @@ returns-clause-opened c =
       senders = ap (λ (t : Intake). length (lanes_of t)) made.intake ∙ lanes.lanes;
       gate = ap closer_gate c.new-closer.ensures ∙ lanes.gate ∙ ap intake_gate (sym made.intake);
     }
+
+pub new-requires-2-clause-limits : goal.new-requires-2-clause-limits
+new-requires-2-clause-limits c =
+    subst (λ (most : ℕ). intake_limits c.in_ok-senders.intake ≡ record { partitions = c.args.hello.partitions; max_record = most }) c.max_record.ensures c.in_ok-senders.ensures.limits

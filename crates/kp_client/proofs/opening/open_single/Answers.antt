@@ -1,4 +1,4 @@
-use Rattle.std.proofs.Common.{◌≡◌, ◌∙◌, ◌∷◌, [], ap, length, map, sym}
+use Rattle.std.proofs.Common.{◌≡◌, ◌∙◌, ◌∷◌, [], ap, arith, length, map, sym}
 use Rattle.std.specs.Prelude.{slice_index_or}
 use Rattle.std.proofs.lemmas.List.{length-map}
 use Rattle.kp_lanes.specs.Intake.{lanes_of}
@@ -29,3 +29,10 @@ returns-clause-opened g c =
       lane = only_lane lanes (sender_number (lane_of p)) (sender_id (lane_of p)) number opened.senders (only_of (λ (q : Producer). IsSenderOf lanes (lane_of q)) ps p one opened.lanes).1;
       gate = opened.gate;
     }
+
+pub unreachable-requires : goal.unreachable-requires
+unreachable-requires g c =
+    let ps = c.in_ok-producers.field-0.producers.items in
+    let one = sym (length-map ps (λ (q : Producer). sender_number (lane_of q))) ∙ ap (λ l. length l) c.in_ok-producers.ensures.opened.numbers in
+    let none = c.in-None.ensures.cases.0 in
+    omega (arith, one, none)

@@ -60,3 +60,6 @@ returns-clause-ended g c core intake h =
         };
       });
     }
+
+pub returns-clause-told : goal.returns-clause-told
+returns-clause-told g c = (c.new.ensures.1, c.new.ensures.2)

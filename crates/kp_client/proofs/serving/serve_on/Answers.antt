@@ -34,3 +34,11 @@ returns-in_ok-tended-in-Ok-clause-gave_up g c =
     (runs_out _ _ _ _ c.in-Ok.running.engine c.args.tended c.in_ok-tended-in-Ok.over c.in_ok-tended-in-Ok.tended c.in-Ok.ensures.ok c.in_ok-tended-in-Ok.ensures) in
     subst (λ (how : Ending). MayEnd limit how (new_connections_of c.ended.result)) (sym (c.ended.ensures.told.0 ∙ c.ending_for.ensures))
     (subst (λ (n : ℕ). MayEnd limit (ending_for over) n) (sym (c.ended.ensures.told.1 ∙ c.new_connections-made.ensures)) may)
+
+pub returns-in-Err-clause-gave_up : goal.returns-in-Err-clause-gave_up
+returns-in-Err-clause-gave_up g c =
+    let limit : Option ℕ = g.K.Keeping.limit c.args.tended.fleet.keeping in
+    subst (λ (how : Ending). MayEnd limit how (new_connections_of c.ended-in-Err.result)) (sym c.ended-in-Err.ensures.told.0) tt
+
+pub ended-requires-in-Err-clause-cause : goal.ended-requires-in-Err-clause-cause
+ended-requires-in-Err-clause-cause g c = tt

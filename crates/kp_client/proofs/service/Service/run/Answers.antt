@@ -4,3 +4,9 @@ use Rattle.kp_client.proofs.service.Service.run.Goals as goal
 
 pub returns-clause-lanes : goal.returns-clause-lanes
 returns-clause-lanes g c = still_lanes (core_of c.args.self) (intake_of c.args.self) _ c.serve-ended.ensures.ended
+
+pub returns-clause-ended : goal.returns-clause-ended
+returns-clause-ended g c = c.serve-ended.ensures.ended
+
+pub returns-clause-gave_up : goal.returns-clause-gave_up
+returns-clause-gave_up g c = c.serve-ended.ensures.gave_up
