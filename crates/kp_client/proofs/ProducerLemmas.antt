@@ -1,13 +1,15 @@
 -- The last of some tries to send a record.
-use Rattle.std.proofs.Common.{◌≡◌, ◌≢◌, ◌∙◌, arith, refl, subst, sym}
-use Rattle.std.specs.Prelude.{Result, Err}
+use Rattle.std.proofs.Common.{◌≡◌, ◌≢◌, ◌∙◌, ◌++◌, ◌∷◌, [], arith, refl, subst, sym}
+use Rattle.std.specs.Prelude.{ℕ, IfErr, IfOk, OnErr, OnOk, Result, Ok, Err}
 use Rattle.kp_batch.specs.declared.record.Record.{Record}
-use Rattle.kp_lanes.specs.Sender.{got, sender_view}
+use Rattle.kp_lanes.specs.Entries.{count_of}
+use Rattle.kp_lanes.specs.Gate.{told_shut}
+use Rattle.kp_lanes.specs.Sender.{accepted, entered, goes_to, got, sender_number, sender_view, turn, turn_after, Accepts, Refuses}
 use Rattle.kp_lanes.specs.declared.fault.SendFault.{SendFault}
 use Rattle.kp_lanes.specs.declared.fault.SendFault.TheVariants.{Closed, LaneFull}
 use Rattle.kp_lanes.specs.declared.target.Target.{Target}
 use Rattle.kp_lanes.specs.declared.target.Ticket.{Ticket}
-use Rattle.kp_client.specs.Producer.{lane_of, Answers, ClockGoesOn, HasRefused, LostNothing, SameProducer, Sends, SendsLater}
+use Rattle.kp_client.specs.Producer.{lane_of, shown_by, Answers, ClockGoesOn, HasRefused, LostNothing, SameProducer, Sends, SendsLater}
 use Rattle.kp_client.specs.declared.producer.Producer.{Producer}
 
 pub clock_stays : (producer : Producer) → ClockGoesOn producer producer
@@ -34,6 +36,38 @@ sends_later old last new target body tried answer sent same heard clock lost_not
 
 full_not_closed : LaneFull ≢ Closed
 full_not_closed is = cc
+
+-- What the sender itself answers, at the moment that the clock shows.
+pub answered_by : (old new : Producer) (target : Target) (body : Record) (at : ℕ) (answer : Result Ticket (SendFault × Record)) → at ≡ shown_by new
+    → IfOk answer (λ t. Accepts (lane_of old) t.partition body)
+    → IfOk answer (λ t. t.partition ≡ goes_to (lane_of old) target body)
+    → IfOk answer (λ t. t.number ≡ count_of t.partition (accepted (lane_of old)))
+    → IfOk answer (λ t. accepted (lane_of new) ≡ accepted (lane_of old)
+    ++ record { sender = sender_number (lane_of old); partition = t.partition; number = t.number; at = at; body = body } ∷ [])
+    → OnOk answer (turn (lane_of new) ≡ turn_after (lane_of old) target body)
+    → IfErr answer (λ e. e.1 ≡ body)
+    → OnErr answer ((entered (lane_of new) ≡ entered (lane_of old)) × (turn (lane_of new) ≡ turn (lane_of old)))
+    → IfErr answer (λ e. e.0 ≢ Closed → Refuses (lane_of old) (goes_to (lane_of old) target body) body e.0)
+    → OnOk answer (sender_view (lane_of new) ≡ sender_view (lane_of old))
+    → IfErr answer (λ e. e.0 ≢ Closed → sender_view (lane_of new) ≡ sender_view (lane_of old))
+    → IfErr answer (λ e. e.0 ≡ Closed → sender_view (lane_of new) ≡ told_shut (sender_view (lane_of old)))
+    → Answers old target body answer new
+answered_by old new target body at (Ok ticket) shown may partition number last turns same lost why unknown other closed = record {
+  partition = partition;
+  may = may;
+  number = number;
+  last = subst (λ (n : ℕ). accepted (lane_of new) ≡ accepted (lane_of old)
+      ++ record { sender = sender_number (lane_of old); partition = ticket.partition; number = ticket.number; at = n; body = body } ∷ []) shown last;
+  turns = turns;
+  unknown = unknown;
+}
+answered_by old new target body at (Err refused) shown may partition number last turns same lost why unknown other closed = record {
+  same = same;
+  lost_nothing = record { entries = lost.0; turns = lost.1 };
+  why = why;
+  unknown = other;
+  closed = closed;
+}
 
 -- Tries after one that met a full lane.
 pub tries_on : (old mid new : Producer) (target : Target) (body back : Record) (fault : SendFault) (first sent : Result Ticket (SendFault × Record))
