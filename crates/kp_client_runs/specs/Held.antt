@@ -24,10 +24,14 @@ abbrev pub AreNamed : Over → Settings → Brokers → Type 0
 AreNamed (One address) s = IsAt address s
 AreNamed (Cluster bootstrap) s = IsOf bootstrap.addresses.items s
 
--- Its service began so, and is over: the laws of any service speak of it.
-pub record WasHeld (Its : Brokers → Type 0) (settings : Settings) : Type 0 where
-  pub service : Service
-  pub begins : Begins Its settings service
+-- The service has run, its senders have finished, and what was left was taken back: the laws of any service speak of it.
+pub record WasServed (service : Service) : Type 0 where
   pub finished : List Finished
   pub left : Left
   pub over : IsOver service finished left
+
+-- Its service began so, and is over.
+pub record WasHeld (Its : Brokers → Type 0) (settings : Settings) : Type 0 where
+  pub service : Service
+  pub begins : Begins Its settings service
+  pub served : WasServed service

@@ -2,14 +2,16 @@
 
 ghost use Rattle.std.specs.Prelude.{◌≡◌, ◌∷◌, [], All, IfOk};
 ghost use Rattle.kp_lanes.specs.Intake.{lanes_of};
+ghost use Rattle.kp_lanes.specs.Sender.{IsSenderOf, sender_id, sender_number};
 ghost use Rattle.kp_lanes.specs.Settling.{IsOf};
 ghost use Rattle.kp_client.specs.Ends.{HasEnded};
 ghost use Rattle.kp_client.specs.Left.{parts_in, IsOnly, IsSettled};
+ghost use Rattle.kp_client.specs.Producer.{lane_of};
 ghost use Rattle.kp_client.specs.Service.{core_of, intake_of};
 ghost use Rattle.kp_client.specs.declared.left.Left.{Left as AllLeft};
 ghost use Rattle.kp_client.specs.Brokers.{IsAt};
 ghost use Rattle.kp_client.specs.Opening.{IsOpen};
-ghost use Rattle.kp_client_runs.specs.Held.{AreNamed, FinishEach, WasHeld};
+ghost use Rattle.kp_client_runs.specs.Held.{AreNamed, FinishEach, WasHeld, WasServed};
 
 use crate::playing::play_sender;
 use crate::script::{Bootstrap, Over, Script};
@@ -101,6 +103,33 @@ where
     }
 }
 
+/// Plays the senders of a producer that was opened beside its service, and takes back what is left.
+fn hold_opened<R>(
+    rt: &R,
+    stage: &Stage,
+    producers: Vec<Producer>,
+    service: Service,
+    late: u64,
+    steps: &str,
+) -> Result<()>
+where
+    R: Wait + Threads + Clock + RandomSource + AllocGlobal + Sync + Print,
+    R: Net<Listener = TcpListener, Stream = TcpStream>,
+    requires lanes { All (λ p. IsSenderOf (lanes_of (intake_of service)) (lane_of p)) producers.items }
+    ensures { IfOk result (λ _. WasServed service) }
+{
+    let (finished, ended) = thread::join(
+        rt,
+        move || play_all(rt, producers, stage, steps),
+        move || serve(rt, service, late),
+    );
+    let ended = ended.context("the service")?;
+    let (ending, made) = (ended.ending(), ended.new_connections());
+    let records = settle(rt.alloc(), ended, finished?)?;
+    stage.print(rt, ending, made, records)?;
+    Ok(())
+}
+
 /// Opens a producer, plays its senders, and takes back what is left.
 pub(crate) fn hold<R>(rt: &R, script: Script<'_>) -> Result<()>
 where
@@ -119,34 +148,26 @@ where
         closer,
         service,
     } = open_over(rt, over, settings).context("not opened")?;
-    let stage = &Stage::new(rt, closer, producers.first().context("no sender")?)?;
-    let (finished, ended) = thread::join(
-        rt,
-        move || play_all(rt, producers, stage, steps),
-        move || serve(rt, service, late),
-    );
-    let ended = ended.context("the service")?;
-    let (ending, made) = (ended.ending(), ended.new_connections());
-    let records = settle(rt.alloc(), ended, finished?)?;
-    stage.print(rt, ending, made, records)?;
-    Ok(())
+    let stage = Stage::new(rt, closer, producers.first().context("no sender")?)?;
+    hold_opened(rt, &stage, producers, service, late, steps)
 }
 
-/// The same of a producer with one sender, whatever the settings say of senders, over the broker at this address.
-pub(crate) fn hold_single<R>(
+/// The same of one sender, the only one of its producer.
+fn hold_alone<R>(
     rt: &R,
-    address: SocketAddr,
-    settings: Settings,
+    stage: &Stage,
+    producer: Producer,
+    service: Service,
     late: u64,
     steps: &str,
 ) -> Result<()>
 where
     R: Wait + Threads + Clock + RandomSource + AllocGlobal + Sync + Print,
     R: Net<Listener = TcpListener, Stream = TcpStream>,
-    ensures { IfOk result (λ _. WasHeld (IsAt address settings) (record settings { senders = 1 })) }
+    requires number { sender_number (lane_of producer) ≡ 0 }
+    requires lane { lanes_of (intake_of service) ≡ sender_id (lane_of producer) ∷ [] }
+    ensures { IfOk result (λ _. WasServed service) }
 {
-    let (producer, closer, service) = open_single(rt, address, settings).context("not opened")?;
-    let stage = &Stage::new(rt, closer, &producer)?;
     let (finished, ended) = thread::join(
         rt,
         move || {
@@ -161,4 +182,23 @@ where
     let records = settle_only(rt.alloc(), ended, finished)?;
     stage.print(rt, ending, made, records)?;
     Ok(())
+}
+
+/// Opens a producer with one sender, whatever the settings say of senders, over the broker at this address, plays it, and takes back
+/// what is left.
+pub(crate) fn hold_single<R>(
+    rt: &R,
+    address: SocketAddr,
+    settings: Settings,
+    late: u64,
+    steps: &str,
+) -> Result<()>
+where
+    R: Wait + Threads + Clock + RandomSource + AllocGlobal + Sync + Print,
+    R: Net<Listener = TcpListener, Stream = TcpStream>,
+    ensures { IfOk result (λ _. WasHeld (IsAt address settings) (record settings { senders = 1 })) }
+{
+    let (producer, closer, service) = open_single(rt, address, settings).context("not opened")?;
+    let stage = Stage::new(rt, closer, &producer)?;
+    hold_alone(rt, &stage, producer, service, late, steps)
 }

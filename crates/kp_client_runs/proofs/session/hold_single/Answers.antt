@@ -1,22 +1,13 @@
-use Rattle.std.proofs.Common.{◌∷◌, [], rules}
-use Rattle.std.specs.Prelude.{IfOk}
+use Rattle.std.proofs.Common.{rules}
 use Rattle.kp_client.specs.Brokers.{IsAt}
-use Rattle.kp_client.specs.Ends.{HasEnded}
-use Rattle.kp_client.specs.Service.{core_of, intake_of}
-use Rattle.kp_client.specs.declared.service.Service.{Service}
 use Rattle.kp_client.specs.Opening.{IsOpenSingle}
+use Rattle.kp_client.specs.declared.service.Service.{Service}
+use Rattle.kp_client_runs.specs.Held.{WasHeld}
+use Rattle.kp_client_runs.proofs.OwnLemmas.{if_ok}
 use Rattle.kp_client_runs.proofs.session.hold_single.Goals as goal
 
 pub returns : goal.returns
 returns g c =
     let service : Service = c.in_ok-producer.service in
     let opened : IsOpenSingle (IsAt c.args.address c.args.settings) c.args.settings c.in_ok-producer.producer c.in_ok-producer.closer service = search rules in
-    let ran : IfOk c.join-finished.result.1 (HasEnded (core_of service) (intake_of service)) = search rules in
-    let ended : HasEnded (core_of service) (intake_of service) c.in_ok-ended.ended = search rules in
-    record {
-      service = service;
-      begins = opened.begins;
-      finished = c.join-finished.result.0 ∷ [];
-      left = c.in_ok-records.ensures.0;
-      over = record { ended = c.in_ok-ended.ended; has_ended = ended; settled = c.in_ok-records.ensures.1 };
-    }
+    if_ok {Y = WasHeld (IsAt c.args.address c.args.settings) (record c.args.settings { senders = 1 })} c.hold_alone.result (λ served. record { service = service; begins = opened.begins; served = served }) c.hold_alone.ensures
