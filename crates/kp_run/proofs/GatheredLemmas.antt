@@ -20,7 +20,7 @@ use Rattle.kp_lanes.specs.declared.sender.Finished.{Finished}
 use Rattle.kp_rules.specs.declared.outcome.Report.{Report}
 use Rattle.kp_client.specs.Left.{AccountsFor, items_left, reports_left}
 use Rattle.kp_client.specs.declared.left.Left.{Left}
-use Rattle.kp_run.specs.Gathered.{account_in, account_of, heard_by, Account}
+use Rattle.kp_run.specs.Gathered.{account_in, account_of, heard_by, Account, IncludeHeard}
 use Rattle.kp_run.specs.Jobs.{accepted_by, number_of, IsJobOf, Keeps}
 use Rattle.kp_run.specs.Portions.{whole, Gathered, Portion}
 use Rattle.kp_run.specs.declared.sender_thread.Job.{Job}
@@ -166,6 +166,12 @@ all_gathered js fs left n count heard all reports same keeps none_lost numbers a
             are.told f ∙ sym (same_sums w left fs) ∙ ap (sum_by w) (sym is) ∙ sym (sum_by-IsPermutation w all reports moved);
       };
     }
+
+-- what was heard is among all, in whatever order they are
+pub heard_among : (js : List Job) (heard unheard all reports : List Report) → heard ≡ flat_map heard_by js → all ≡ heard ++ unheard → IsPermutation all reports
+    → IncludeHeard js reports
+heard_among js heard unheard all reports is_heard is_all moved =
+    (unheard, subst (λ (rs : List Report). IsPermutation rs reports) (is_all ∙ ap (λ (hs : List Report). hs ++ unheard) is_heard) moved)
 
 pub all_are : (js : List Job) (fs : List Finished) (left : Left) (n : ℕ) (heard all reports : List Report)
     → map account_of fs ≡ map account_in js → All Keeps js → All IsWhole js

@@ -6,7 +6,7 @@ use Rattle.kp_lanes.specs.Intake.{lanes_of, numbers_below}
 use Rattle.kp_client.specs.Left.{parts_in}
 use Rattle.kp_rules.specs.declared.outcome.Report.{Report}
 use Rattle.kp_run.specs.Gathered.{unheard_of}
-use Rattle.kp_run.proofs.GatheredLemmas.{all_are, all_gathered, all_of_jobs}
+use Rattle.kp_run.proofs.GatheredLemmas.{all_are, all_gathered, all_of_jobs, heard_among}
 use Rattle.kp_run.proofs.gathering.gather.Goals as goal
 
 pub settle-requires : goal.settle-requires
@@ -40,3 +40,11 @@ returns-clause-theirs c =
       all = all_are jobs heard.finished.items left c.args.senders heard.reports.items c.add_all_unheard.new.reports.items c.order.new.reports.items
           c.in_ok-heard.ensures.finished c.requires.keeps c.in_ok-heard.ensures.whole c.requires.numbers c.in_ok-heard.ensures.reports all c.order.ensures.same;
     }
+
+pub returns-clause-in_order : goal.returns-clause-in_order
+returns-clause-in_order c = c.order.ensures.in_order
+
+pub returns-clause-heard : goal.returns-clause-heard
+returns-clause-heard c =
+    heard_among c.args.jobs.items c.in_ok-heard.heard.reports.items _ c.add_all_unheard.new.reports.items c.order.new.reports.items
+    c.in_ok-heard.ensures.reports c.in_ok-add_all_unheard.ensures.added c.order.ensures.same
