@@ -153,6 +153,28 @@ fn add_all_unheard(
     Ok(())
 }
 
+/// Adds those of what is left that so many senders did not hear: the core, without those that waited there.
+fn add_left(reports: &mut Vec<Report>, left: Left, senders: u32) -> Result<Core, AllocError>
+    ensures added { OnOk result (reports.new.items
+        ≡ reports.old.items ++ flat_map (unheard_of left.reports.items left.held.reports.items left.core) (numbers_below senders)) }
+    ensures core { IfOk result (λ core. core ≡ record left.core { reports = core.reports }) }
+{
+    let Left {
+        reports: rings,
+        held,
+        mut core,
+        ..
+    } = left;
+    add_all_unheard(
+        reports,
+        rings.as_slice(),
+        held.reports.as_slice(),
+        &mut core,
+        senders,
+    )?;
+    Ok(core)
+}
+
 /// Puts them into the order of their senders, partitions and numbers.
 fn order(reports: &mut Vec<Report>)
     ensures same { IsPermutation reports.old.items reports.new.items }
@@ -196,19 +218,7 @@ pub(crate) fn gather(
     let Ok(left) = ended.settle(alloc, finished) else {
         return Err(RunFault::OutOfMemory);
     };
-    let Left {
-        reports: rings,
-        held,
-        mut core,
-        ..
-    } = left;
-    add_all_unheard(
-        &mut reports,
-        rings.as_slice(),
-        held.reports.as_slice(),
-        &mut core,
-        senders,
-    )?;
+    let core = add_left(&mut reports, left, senders)?;
     order(&mut reports);
     Ok(Produced {
         accepted,

@@ -1,11 +1,5 @@
-use Rattle.std.proofs.Common.{◌++◌, ◌∙◌, List, ap₂}
-use Rattle.std.specs.List.{flat_map}
-use Rattle.std.specs.declared.alloc.Global.{Global}
-use Rattle.std.specs.declared.vec.Vec.{Vec}
-use Rattle.kp_lanes.specs.Intake.{lanes_of, numbers_below}
+use Rattle.kp_lanes.specs.Intake.{lanes_of}
 use Rattle.kp_client.specs.Left.{parts_in}
-use Rattle.kp_rules.specs.declared.outcome.Report.{Report}
-use Rattle.kp_run.specs.Gathered.{unheard_of}
 use Rattle.kp_run.proofs.GatheredLemmas.{all_are, all_gathered, all_of_jobs, heard_among}
 use Rattle.kp_run.proofs.gathering.gather.Goals as goal
 
@@ -18,10 +12,8 @@ returns-clause-portions c =
     let jobs = c.args.jobs.items in
     let heard = c.in_ok-heard.heard in
     let left = c.in-Ok.left in
-    let all = c.in_ok-add_all_unheard.ensures.added
-    ∙ ap₂ (λ (rings : List (Vec Report Global)) (held : List Report). heard.reports.items ++ flat_map (unheard_of rings held left.core) (numbers_below c.args.senders))
-    c.as_slice.ensures.value c.as_slice-2.ensures.value in
-    all_gathered jobs heard.finished.items left c.args.senders heard.accepted heard.reports.items c.add_all_unheard.new.reports.items c.order.new.reports.items
+    let all = c.in_ok-core.ensures.added in
+    all_gathered jobs heard.finished.items left c.args.senders heard.accepted heard.reports.items c.add_left.new.reports.items c.order.new.reports.items
     c.in_ok-heard.ensures.finished c.requires.keeps c.in_ok-heard.ensures.whole c.requires.numbers c.in-Ok.ensures.settled
     c.in_ok-heard.ensures.accepted c.in_ok-heard.ensures.reports all c.order.ensures.same
 
@@ -30,14 +22,12 @@ returns-clause-theirs c =
     let jobs = c.args.jobs.items in
     let heard = c.in_ok-heard.heard in
     let left = c.in-Ok.left in
-    let all = c.in_ok-add_all_unheard.ensures.added
-    ∙ ap₂ (λ (rings : List (Vec Report Global)) (held : List Report). heard.reports.items ++ flat_map (unheard_of rings held left.core) (numbers_below c.args.senders))
-    c.as_slice.ensures.value c.as_slice-2.ensures.value in record {
+    let all = c.in_ok-core.ensures.added in record {
       finished = heard.finished.items;
       accounts = c.in_ok-heard.ensures.finished;
       left = left;
       settled = c.in-Ok.ensures.rings;
-      all = all_are jobs heard.finished.items left c.args.senders heard.reports.items c.add_all_unheard.new.reports.items c.order.new.reports.items
+      all = all_are jobs heard.finished.items left c.args.senders heard.reports.items c.add_left.new.reports.items c.order.new.reports.items
           c.in_ok-heard.ensures.finished c.requires.keeps c.in_ok-heard.ensures.whole c.requires.numbers c.in_ok-heard.ensures.reports all c.order.ensures.same;
     }
 
@@ -46,5 +36,5 @@ returns-clause-in_order c = c.order.ensures.in_order
 
 pub returns-clause-heard : goal.returns-clause-heard
 returns-clause-heard c =
-    heard_among c.args.jobs.items c.in_ok-heard.heard.reports.items _ c.add_all_unheard.new.reports.items c.order.new.reports.items
-    c.in_ok-heard.ensures.reports c.in_ok-add_all_unheard.ensures.added c.order.ensures.same
+    heard_among c.args.jobs.items c.in_ok-heard.heard.reports.items _ c.add_left.new.reports.items c.order.new.reports.items
+    c.in_ok-heard.ensures.reports c.in_ok-core.ensures.added c.order.ensures.same
