@@ -1,6 +1,6 @@
 //! The future that publishes.
 
-ghost use Rattle.std.specs.Prelude.{◌≡◌, [], IfOk, List, OnOk, true, ℕ};
+ghost use Rattle.std.specs.Prelude.{◌≡◌, [], IfOk, List, OnOk, false, true, ℕ};
 ghost use Rattle.futures.specs.Poll.{OnPending};
 ghost use Rattle.futures.specs.Task.{IsArmed, Keeps};
 ghost use Rattle.kp_publish.specs.Input.{rest_of};
@@ -119,12 +119,20 @@ impl<'r, R: Net + Clock, F: Write, O: Write, E: Write> Publishing<'r, R, F, O, E
             if self.send_next(now, texts)? == Next::Waits {
                 return Ok(Next::Waits);
             }
-            if self.input.is_empty() || !self.sender.is_ready() {
+            if self.has_sent_piece() {
                 return Ok(Next::Gone);
             }
             self.input.give_line(&mut self.sender)?;
         }
         Ok(Next::Waits)
+    }
+
+    /// Whether nothing of the piece is to be sent any more: the sender was given all of it, or takes no more.
+    fn has_sent_piece(&self) -> bool
+        ensures sent { result ≡ true → is_ready self.now.sender ≡ true → rest_of self.now.input ≡ [] }
+        ensures takes_more { result ≡ false → is_ready self.now.sender ≡ true }
+    {
+        self.input.is_empty() || !self.sender.is_ready()
     }
 
     /// Sends what has come, and takes in the next piece unless that is early and enough is queued: whether there may be more.

@@ -34,15 +34,15 @@ returns-then-eq-clause-draws g c =
 pub returns-then-eq-clause-files : goal.returns-then-eq-clause-files
 returns-then-eq-clause-files g c = c.in_ok-send_next.ensures.files ∙ c.loop.invariant.1
 
-pub returns-then-is_empty-clause-draws : goal.returns-then-is_empty-clause-draws
-returns-then-is_empty-clause-draws g c =
+pub returns-then-has_sent_piece-clause-draws : goal.returns-then-has_sent_piece-clause-draws
+returns-then-has_sent_piece-clause-draws g c =
     draws_on [] [] c.args.self.now.input c.loop.self.input c.send_next.new.self.input c.args.self.now.sender c.loop.self.sender c.send_next.new.self.sender
     c.args.texts.now c.loop.texts c.send_next.new.texts c.loop.invariant.0
     (by_calls c.loop.self.input c.send_next.new.self.input c.loop.self.sender c.send_next.new.self.sender c.loop.texts c.send_next.new.texts
     c.in_ok-send_next.ensures.input c.in_ok-send_next.ensures.goes)
 
-pub returns-then-is_empty-clause-files : goal.returns-then-is_empty-clause-files
-returns-then-is_empty-clause-files g c = c.in_ok-send_next.ensures.files ∙ c.loop.invariant.1
+pub returns-then-has_sent_piece-clause-files : goal.returns-then-has_sent_piece-clause-files
+returns-then-has_sent_piece-clause-files g c = c.in_ok-send_next.ensures.files ∙ c.loop.invariant.1
 
 pub returns-in_err-give_line-clause-files : goal.returns-in_err-give_line-clause-files
 returns-in_err-give_line-clause-files g c = c.in_ok-send_next.ensures.files ∙ c.loop.invariant.1
