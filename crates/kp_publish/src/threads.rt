@@ -14,16 +14,16 @@ use crate::watch::{Telling, Watch};
 use kp_cluster::Address;
 use kp_core::Names;
 use kp_dial::Pair;
-use kp_drive::{Drive, EmbedConfig, HostNames, Sockets};
+use kp_drive::{Drive, EmbedConfig, HostNames, Named, SocketDrive, Sockets};
 use kp_send::{Form, Sender, Tellings};
 use std::alloc::AllocGlobal;
-use std::io::{Read, Write};
+use std::io::{self, Read, Write};
 use std::net::{Net, TcpListener, TcpStream};
 use std::random::RandomSource;
 use std::sync::Wait;
 use std::thread::{self, Threads};
 use std::time::Clock;
-use tokio::runtime::Builder;
+use tokio::runtime::{Builder, Handle};
 
 /// How many bytes of `buffer.memory` there are for each line that waits for its report, at least: what a short line takes is more
 /// than its bytes.
@@ -159,8 +159,6 @@ where
     ensures { IfOk result (λ tellings. IsPublishedAnew F.contents plan.form plan.delimiter files tellings) }
 {
     let alloc = rt.alloc();
-    let mut seed = [0; 8];
-    rt.fill_bytes(&mut seed)?;
     let mut runtime = Builder::new_current_thread().build(rt)?;
     let Plan {
         config,
@@ -175,16 +173,14 @@ where
     let batch_size = config.producer.batch_size;
     let keeps = files.undelivered.is_some() || files.unknown.is_some();
     let watch = Watch::new(alloc, rt, runtime.handle(), telling)?;
-    let sockets = Sockets::new(rt, runtime.handle().clone()?, hosts, setup_timeout_ms);
-    let drive = Drive::new(
-        alloc,
+    let drive = open_drive(
         rt,
         runtime.handle(),
-        sockets,
+        hosts,
+        setup_timeout_ms,
         config,
         names,
         bootstrap,
-        u64::from_be_bytes(seed),
     )?;
     let publishing = Publishing {
         rt,
@@ -202,4 +198,37 @@ where
         err,
     };
     runtime.block_on(rt, publishing)?
+}
+
+/// A producer over the sockets of this handle's event loop. Its connections may take so long to be made, in milliseconds.
+fn open_drive<'r, R>(
+    rt: &'r R,
+    handle: &Handle,
+    hosts: HostNames,
+    setup_timeout_ms: u64,
+    config: EmbedConfig,
+    names: Names,
+    bootstrap: Vec<Address>,
+) -> io::Result<SocketDrive<'r, R, HostNames, Named>>
+where
+    R: Clock + Net + RandomSource + AllocGlobal,
+    requires right { checked config.producer ≡ Ok tt }
+    requires topic { length names.topic ≤ NAME_LIMIT }
+    requires client { length names.client ≤ NAME_LIMIT }
+    requires some { 1 ≤ length bootstrap.items }
+    requires few { length bootstrap.items ≤ SLOT_LIMIT }
+{
+    let mut seed = [0; 8];
+    rt.fill_bytes(&mut seed)?;
+    let sockets = Sockets::new(rt, handle.clone()?, hosts, setup_timeout_ms);
+    Drive::new(
+        rt.alloc(),
+        rt,
+        handle,
+        sockets,
+        config,
+        names,
+        bootstrap,
+        u64::from_be_bytes(seed),
+    )
 }
