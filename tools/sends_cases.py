@@ -1,4 +1,4 @@
-"""Cases of the sender core as its player plays them (crates/kp_sends): what goes out, comes back and is appended as bytes, with checksums
+"""Cases of the sender core as its player plays them (crates/kp_producer_runs): what goes out, comes back and is appended as bytes, with checksums
 that are computed here, and what calls answer as Rust's `Debug` has it. The core is of the topic "t", as the client "kp".
 
 - `core NAME=NUMBER ..`: the core is made, of so many `partitions` and `senders` (1), with audits or without (`audits=0`), with this
@@ -17,7 +17,7 @@ that are computed here, and what calls answer as Rust's `Debug` has it. The core
 - `list CALL`: one of the calls above joins a list; `make-all`: the calls of the list are made.
 - `audit PARTITION`: the runs that were handed over, `SENDER:FIRST+COUNT` each.
 
-All other steps go to the player as they are (crates/kp_sends/src/main.rt), and so do all of a core that is made of numbers.
+All other steps go to the player as they are (crates/kp_producer_runs/src/cores.rt), and so do all of a core that is made of numbers.
 """
 from __future__ import annotations
 

@@ -129,8 +129,9 @@ class CaseFile:
         return [*wrong, f"{self.name}: {len(self.cases)} cases, {len(self.wrong)} wrong"]
 
 
-def play(player: str, files: list[CaseFile]) -> list[str]:
-    """Has the files played by a program, or by a command that takes their names. What it says beside what is wrong with which case."""
+def play(player: str, subject: str, files: list[CaseFile]) -> list[str]:
+    """Has the files, whose cases are of this subject, played by a program, or by a command that takes the same words. What it says beside
+    what is wrong with which case."""
     with tempfile.TemporaryDirectory(prefix="cases-") as room:
         for file in files:
             Path(room, file.name).write_text("\n".join(file.text), "utf-8")
@@ -140,7 +141,7 @@ def play(player: str, files: list[CaseFile]) -> list[str]:
             command = [shutil.copyfile(player, f"{room}/by/player")]
             os.chmod(command[0], 0o755)
         names = [it.name for it in files]
-        ran = subprocess.run([*command, *names], cwd=room, capture_output=True, text=True, timeout=SECONDS)
+        ran = subprocess.run([*command, f"{subject}:", *names], cwd=room, capture_output=True, text=True, timeout=SECONDS)
     named, counted, others = {it.name: it for it in files}, {}, ran.stderr.splitlines()
     for line in ran.stdout.splitlines():
         if count := COUNT.fullmatch(line):
@@ -155,9 +156,9 @@ def play(player: str, files: list[CaseFile]) -> list[str]:
     return others
 
 
-def tell(player: str, files: list[CaseFile]) -> bool:
+def tell(player: str, subject: str, files: list[CaseFile]) -> bool:
     """Has the files played, and says what came of them: whether all is right."""
-    others = play(player, files)
+    others = play(player, subject, files)
     for line in [line for it in files for line in it.told()] + others:
         print(line)
     return not others and all(it.cases and not it.wrong for it in files)
@@ -166,44 +167,44 @@ def tell(player: str, files: list[CaseFile]) -> bool:
 # ---- a script over the cases of tools/NAME
 
 
-def is_told(player: str, folder: str, made, path: Path, old: str, new: str, case: str, said: str) -> bool:
+def is_told(player: str, subject: str, folder: str, made, path: Path, old: str, new: str, case: str, said: str) -> bool:
     """Whether, where this is changed in a copy of a file, that case alone is told to be wrong, at the line of the change."""
     before, found, behind = path.read_text("utf-8").partition(old)
     copy = Path(folder, path.name)
     copy.write_text(before + new + behind, "utf-8")
     file = made(copy)
-    others = play(player, [file])
+    others = play(player, subject, [file])
     *wrong, _ = file.told()
     at = f"{path.name}:{before.count(chr(10)) + 1}: {case}: "
     return bool(found) and not others and len(wrong) == 1 and wrong[0].startswith(at) and said in wrong[0]
 
 
-def self_test(name: str, player: str, made, tries: list[tuple]) -> int:
+def self_test(name: str, player: str, subject: str, made, tries: list[tuple]) -> int:
     """Tries whether faults are told: of each what is tried, the file, what is changed in it to what, in which case, and what is said."""
     told = []
     with tempfile.TemporaryDirectory(prefix=f"{name}-self-test-") as folder:
         for what, file, *words in tries:
-            told.append(is_told(player, folder, made, TOOLS / name / f"{file}.cases", *words))
+            told.append(is_told(player, subject, folder, made, TOOLS / name / f"{file}.cases", *words))
             print(f"{what}: {'told' if told[-1] else 'not told'}", flush=True)
         empty = Path(folder, "empty.cases")
         empty.write_text("# No case.\n", "utf-8")
-        told.append(not tell(player, [made(empty)]))
+        told.append(not tell(player, subject, [made(empty)]))
     print(f"{name}: {sum(told)} of {len(told)} faults told")
     return 0 if all(told) else 1
 
 
-def main(name: str, made, tries: list[tuple], more=lambda _: []) -> int:
-    """`NAME_runs PLAYER [FILE..]` and `NAME_runs --self-test PLAYER`, where `made` makes a file of cases of its path, and `more` writes
-    further files to a folder, which are played where none is named."""
+def main(name: str, subject: str, made, tries: list[tuple], more=lambda _: []) -> int:
+    """`NAME_runs PLAYER [FILE..]` and `NAME_runs --self-test PLAYER` over cases of a subject, where `made` makes a file of cases of its path,
+    and `more` writes further files to a folder, which are played where none is named."""
     is_self_test = sys.argv[1:2] == ["--self-test"]
     player, *paths = sys.argv[1 + is_self_test:] or [""]
     if not player or is_self_test and paths:
         sys.exit(f"usage: tools/{name}_runs PLAYER [FILE..], or tools/{name}_runs --self-test PLAYER")
     if is_self_test:
-        return self_test(name, player, made, tries)
+        return self_test(name, player, subject, made, tries)
     with tempfile.TemporaryDirectory(prefix=f"{name}-runs-") as folder:
         files = [made(Path(it)) for it in paths or [*sorted((TOOLS / name).glob("*.cases")), *more(Path(folder))]]
-        is_right = tell(player, files)
+        is_right = tell(player, subject, files)
     cases, wrong = sum(len(it.cases) for it in files), sum(len(it.wrong) for it in files)
     print(f"{name}: {cases - wrong} of {cases} cases passed")
     return 0 if is_right else 1

@@ -10,6 +10,9 @@ const ROOM: usize = 4096;
 
 /// What plays the steps of cases.
 pub trait Player {
+    /// Turns to the cases of a subject; false where it plays none of that name.
+    fn turn_to(&mut self, subject: &str) -> bool;
+
     /// Begins a case: nothing is left of the one before.
     fn begin(&mut self);
 

@@ -81,20 +81,50 @@ fn tell_count<R: Print>(rt: &R, file: &str, count: Count) -> io::Result<()> {
     println!(rt; "{file}: {cases} cases, {failed} wrong, {short} short of memory")
 }
 
+/// Plays the cases of a file, and says what came of them: whether there are any, each right, and none was short of memory.
+fn play_file<P: Player, R: Files + Print + AllocGlobal>(
+    rt: &R,
+    player: &mut P,
+    file: &str,
+) -> io::Result<bool> {
+    let text = fs::read_to_string(rt, file)?;
+    let count = tell_file(rt, player, file, text.as_str())?;
+    tell_count(rt, file, count)?;
+    Ok(count.cases > 0 && count.failed == 0 && count.short == 0)
+}
+
+/// Turns the player to a subject: whether it plays cases of it.
+fn turn<P: Player, R: Print>(rt: &R, player: &mut P, subject: &str) -> io::Result<bool> {
+    let is_played = player.turn_to(subject);
+    if !is_played {
+        println!(rt; "{subject}: no subject of cases")?;
+    }
+    Ok(is_played)
+}
+
+/// Does what a word says: it turns to the subject before a `:` at its end, or plays the file that it names.
+fn heed<P: Player, R: Files + Print + AllocGlobal>(
+    rt: &R,
+    player: &mut P,
+    word: &str,
+) -> io::Result<bool> {
+    match word.strip_suffix(':') {
+        Some(subject) => turn(rt, player, subject),
+        None => play_file(rt, player, word),
+    }
+}
+
 /// Plays the cases of the files that the program's words name, and says how many there are in each, and what is wrong with
-/// which. The status is 1 where a case has failed or was short of memory, a file has none, or no file is named.
+/// which. A word with a `:` at its end is no file: it names the subject of the cases behind it. The status is 1 where a case has
+/// failed or was short of memory, a file has none, a subject is not played, or there is no word.
 pub fn play_files<P: Player, R: Env + Files + Print + AllocGlobal>(
     rt: &R,
     player: &mut P,
 ) -> io::Result<ExitCode> {
     let words: Vec<String> = env::args(rt)?.collect(rt.alloc())?;
     let mut is_right = words.len() > 1;
-    for file in words.iter().skip(1) {
-        let file = file.as_str();
-        let text = fs::read_to_string(rt, file)?;
-        let count = tell_file(rt, player, file, text.as_str())?;
-        tell_count(rt, file, count)?;
-        is_right = is_right && count.cases > 0 && count.failed == 0 && count.short == 0;
+    for word in words.iter().skip(1) {
+        is_right = heed(rt, player, word.as_str())? && is_right;
     }
     Ok(if is_right {
         ExitCode::SUCCESS

@@ -55,6 +55,10 @@ fn play_bytes(alloc: Global, step: &str, words: &mut Words<'_>, came: &mut Strin
 }
 
 impl Player for Codecs {
+    fn turn_to(&mut self, subject: &str) -> bool {
+        subject == "codec"
+    }
+
     fn begin(&mut self) {
         self.held = Held::new(self.alloc);
         self.splitting = Splitting::new(self.alloc);

@@ -1,11 +1,21 @@
-//! The steps of cases.
+//! Plays what the engine does, poll by poll, over streams in memory that move a few bytes at a time, wait, lie, fail and end.
 
-use crate::calls::calls_of;
-use crate::scene::Scene;
-use crate::setting::Setting;
-use crate::texts::{put_calls, put_held, put_stop};
-use kp_cases::{Player, StepFault, Words, put, put_debug};
+mod account;
+mod calls;
+mod clock;
+mod opening;
+mod scene;
+mod setting;
+mod shared;
+mod tally;
+mod texts;
+
+use calls::calls_of;
+use kp_cases::{StepFault, Words, put, put_debug};
+use scene::Scene;
+use setting::Setting;
 use std::random::RandomSource;
+use texts::{put_calls, put_held, put_stop};
 
 /// The engine of a case, once there is one, and what it was opened with.
 #[derive(Drop)]
@@ -164,14 +174,16 @@ impl<'a, R: RandomSource + AllocGlobal> Engines<'a, R> {
     }
 }
 
-impl<R: RandomSource + AllocGlobal> Player for Engines<'_, R> {
-    fn begin(&mut self) {
+impl<R: RandomSource + AllocGlobal> Engines<'_, R> {
+    /// Begins a case: nothing is left of the one before.
+    pub(crate) fn begin(&mut self) {
         self.setting = Setting::new();
         self.set_scene(None);
         self.core.clear();
     }
 
-    fn play(&mut self, step: &str, words: &mut Words<'_>, came: &mut String) -> Played {
+    /// Plays a step.
+    pub(crate) fn play(&mut self, step: &str, words: &mut Words<'_>, came: &mut String) -> Played {
         match step {
             "engine" => self.open(words),
             "account" => self.account(came),
